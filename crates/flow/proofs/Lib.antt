@@ -1,0 +1,4 @@
+pub mod Numbers
+pub mod Judging
+pub mod Unique
+pub mod Examples

@@ -1,0 +1,57 @@
+-- A flow's record, and what it makes of a sequence number (document 01, "Opening, closing, listening"). A fresh flow takes any
+-- number, with gap 0. Any other takes a number that lies less than 32,768 ahead of the one it expects, and reports how far
+-- ahead as the gap; it calls the rest late. Once it has taken a number, it expects the next one.
+use Prim.Native.Nat.{ℕ}
+use mathlib.Core.Path.{_≡_}
+use mathlib.Core.Bool.{Bool, true, false, cond, not}
+use lib.Dec.{ltb}
+use Rattle.flow.specs.declared.Flow.{Flow}
+use Rattle.flow.specs.declared.Judged.{Judged}
+use Rattle.flow.specs.Numbers.{ahead, next}
+
+-- the longest frame, and so the most bytes that a flow holds
+abbrev pub longest : ℕ
+longest = 2048
+
+-- half a turn of the numbers: whoever lies this far ahead, or farther, is late
+abbrev pub half : ℕ
+half = 32768
+
+-- a row has flows 0 to 3
+abbrev pub flows : ℕ
+flows = 4
+
+abbrev pub topFlow : ℕ
+topFlow = 3
+
+-- no number expected and nothing held: the record of zeros
+abbrev pub fresh : Flow
+fresh = record { heard = false; expected = 0; held = 0 }
+
+-- the record after it took a number; how many bytes it holds is for the join rule to say
+abbrev pub expecting : Flow → ℕ → Flow
+expecting f number = record { heard = true; expected = next number; held = f .held }
+
+abbrev pub accepted : Flow → ℕ → ℕ → Judged
+accepted f number gap = record { flow = expecting f number; gap = gap; late = false }
+
+-- a late number leaves the record as it was
+abbrev pub tooLate : Flow → Judged
+tooLate f = record { flow = f; gap = 0; late = true }
+
+abbrev pub judge : Flow → ℕ → Judged
+judge f number =
+    cond (not (f .heard)) (accepted f number 0)
+    (cond (ltb (ahead number (f .expected)) half) (accepted f number (ahead number (f .expected)))
+    (tooLate f))
+
+-- a packet without a number (D-MPT with S clear): nothing to judge, gap 0, the record as it was
+abbrev pub unnumbered : Flow → Judged
+unnumbered f = record { flow = f; gap = 0; late = false }
+
+-- What the two calls of this crate permit, whole.
+abbrev pub PermitsFresh : Flow → Type 0
+PermitsFresh answer = answer ≡ fresh
+
+abbrev pub PermitsJudge : Flow → ℕ → Judged → Type 0
+PermitsJudge f number answer = answer ≡ judge f number

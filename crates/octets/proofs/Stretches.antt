@@ -1,0 +1,135 @@
+-- The laws of cutting and pasting lists, proved once. Every proof above cites these and opens neither `take`, `drop` nor `++`.
+use mathlib.Core.Path.{_≡_, refl, sym, ap, _∙_}
+use Prim.Native.Nat.{ℕ, zero, suc, _+_, _-_, _≤_, _<_}
+use native.Mathlib.Nat.{add-zero, add-assoc}
+use native.Mathlib.Numerals.{add-one}
+use native.Mathlib.Omega.{arith}
+use mathlib.Core.List.{List, [], _∷_, _++_, append-assoc, append-nil}
+use lib.ListN.{length, take, drop, set, getD, length-append, length-drop, take-append-drop}
+use lib.Seq.{length-take-le, take-at, take-all, drop-at, drop-drop, set-split, append-snoc, take-add, take-append-seam, take-append-le, drop-append-le, drop-append-seam, getD-drop, getD-take}
+use Rattle.octets.specs.Bytes.{byteAt}
+use Rattle.octets.specs.Stretch.{part, rest, put, joined, lengths, cutBy}
+
+-- Stretches read out.
+pub length-part : (l : List ℕ) (from n : ℕ) → from + n ≤ length l → length (part l from n) ≡ n
+unfolding part
+length-part l from n h =
+    let k : n ≤ length (drop from l) = simp length-drop (omega arith) in
+    length-take-le n (drop from l) k
+
+pub part-none : (l : List ℕ) (from : ℕ) → part l from 0 ≡ []
+unfolding part
+part-none l from = refl
+
+pub byte-part : (l : List ℕ) (from n i : ℕ) → i < n → byteAt (part l from n) i ≡ byteAt l (from + i)
+unfolding part
+byte-part l from n i h = getD-take n (drop from l) i 0 h ∙ getD-drop from l i 0
+
+pub length-rest : (l : List ℕ) (from : ℕ) → length (rest l from) ≡ length l - from
+unfolding rest
+length-rest l from = length-drop from l
+
+pub byte-rest : (l : List ℕ) (from i : ℕ) → byteAt (rest l from) i ≡ byteAt l (from + i)
+unfolding rest
+byte-rest l from i = getD-drop from l i 0
+
+-- a stretch of the rest is a stretch of the whole, further on
+pub part-rest : (l : List ℕ) (from at n : ℕ) → part (rest l from) at n ≡ part l (from + at) n
+unfolding part rest
+part-rest l from at n = ap (take n) (drop-drop at from l)
+
+-- what the checker knows of a slice taken from a place to the end, `&l[from..]`
+pub sliced-rest : (l : List ℕ) (from : ℕ) → take (length l - from) (drop from l) ≡ rest l from
+unfolding rest
+sliced-rest l from = take-all (length l - from) (drop from l) (omega (arith, length-drop from l))
+
+-- .. and of one taken between two places, `&l[from..from + n]`
+pub sliced-part : (l : List ℕ) (from to n : ℕ) → to - from ≡ n → take (to - from) (drop from l) ≡ part l from n
+unfolding part
+sliced-part l from to n e = ap (λ (k : ℕ). take k (drop from l)) e
+
+-- Stretches replaced.
+head-length : (d : List ℕ) (at : ℕ) (x : List ℕ) → at ≤ length d → length (take at d ++ x) ≡ at + length x
+head-length d at x h = length-append (take at d) x ∙ ap (λ (k : ℕ). k + length x) (length-take-le at d h)
+
+pub length-put : (d : List ℕ) (at : ℕ) (x : List ℕ) → at + length x ≤ length d → length (put d at x) ≡ length d
+unfolding put
+length-put d at x h =
+    let k : at ≤ length d = omega arith in
+    omega (arith, length-append (take at d ++ x) (drop (at + length x) d), head-length d at x k, length-drop (at + length x) d)
+
+pub put-nil : (d : List ℕ) (at : ℕ) → put d at [] ≡ d
+unfolding put
+put-nil d at = rw (add-zero at, append-nil (take at d)) (take-append-drop at d)
+
+-- two puts, one behind the other, are one
+pub put-put : (d : List ℕ) (at : ℕ) (x y : List ℕ) → at + length x ≤ length d → put (put d at x) (at + length x) y ≡ put d at (x ++ y)
+unfolding put
+put-put d at x y h =
+    let k : at ≤ length d = omega arith in
+    let n = at + length x in
+    let e = head-length d at x k in
+    let t : take n (take at d ++ x ++ drop n d) ≡ take at d ++ x = take-at (take at d ++ x) (drop n d) n e in
+    let r : drop (n + length y) (take at d ++ x ++ drop n d) ≡ drop (n + length y) d =
+    sym (drop-drop (length y) n (take at d ++ x ++ drop n d)) ∙ ap (drop (length y)) (drop-at (take at d ++ x) (drop n d) n e) ∙ drop-drop (length y) n d in
+    rw (t, r, length-append x y, append-assoc (take at d) x y, add-assoc at (length x) (length y)) refl
+
+-- putting back what stands there
+pub put-same : (d : List ℕ) (at n : ℕ) → at + n ≤ length d → put d at (part d at n) ≡ d
+unfolding put part
+put-same d at n h =
+    let f : length (take n (drop at d)) ≡ n = length-part d at n h in
+    rw (f, ← take-add at n d) (take-append-drop (at + n) d)
+
+-- reading back what was put
+pub part-put : (d : List ℕ) (at : ℕ) (x : List ℕ) → at + length x ≤ length d → part (put d at x) at (length x) ≡ x
+unfolding put part
+part-put d at x h =
+    let k : at ≤ length d = omega arith in
+    rw (append-assoc (take at d) x (drop (at + length x) d), drop-at (take at d) (x ++ drop (at + length x) d) at (length-take-le at d k))
+    (take-append-seam x (drop (at + length x) d))
+
+-- a put behind what stands there already
+pub put-behind : (d : List ℕ) (at n : ℕ) (y : List ℕ) → at + n ≤ length d → put d (at + n) y ≡ put d at (part d at n ++ y)
+put-behind d at n y h =
+    let f = length-part d at n h in
+    let k : at + length (part d at n) ≤ length d = omega arith in
+    let e = put-put d at (part d at n) y k in
+    rw (put-same d at n h, f) at e
+
+-- one element stored is a put
+pub set-put : (d : List ℕ) (i v : ℕ) → i < length d → set d i v ≡ put d i (v ∷ [])
+unfolding put
+set-put d i v h = rw (set-split d i v h, add-one i) (sym (append-snoc (take i d) v (drop (suc i) d)))
+
+-- two elements stored one behind the other are a put
+pub set-set-put : (d : List ℕ) (i v w : ℕ) → i + 1 < length d → set (set d i v) (i + 1) w ≡ put d i (v ∷ w ∷ [])
+set-set-put d i v w h =
+    let a : set d i v ≡ put d i (v ∷ []) = set-put d i v (omega arith) in
+    let n : i + 1 ≤ length d = omega arith in
+    let m : i + 1 < length (put d i (v ∷ [])) = omega (arith, length-put d i (v ∷ []) n) in
+    ap (λ (l : List ℕ). set l (i + 1) w) a ∙ set-put (put d i (v ∷ [])) (i + 1) w m ∙ put-put d i (v ∷ []) (w ∷ []) n
+
+-- Stretches back to back.
+pub joined-append : (a b : List (List ℕ)) → joined (a ++ b) ≡ joined a ++ joined b
+unfolding joined
+joined-append [] b = refl
+joined-append (s ∷ a) b = rw (joined-append a b) (sym (append-assoc s (joined a) (joined b)))
+
+pub lengths-append : (a b : List (List ℕ)) → lengths (a ++ b) ≡ lengths a ++ lengths b
+unfolding lengths
+lengths-append [] b = refl
+lengths-append (s ∷ a) b = ap (λ (l : List ℕ). length s ∷ l) (lengths-append a b)
+
+pub length-lengths : (a : List (List ℕ)) → length (lengths a) ≡ length a
+unfolding lengths
+length-lengths [] = refl
+length-lengths (s ∷ a) = ap suc (length-lengths a)
+
+-- whoever has the lengths finds the stretches again, whatever stands behind them
+pub cut-joined : (a : List (List ℕ)) (behind : List ℕ) → cutBy (lengths a) (joined a ++ behind) ≡ a
+unfolding joined lengths cutBy
+cut-joined [] behind = refl
+cut-joined (s ∷ a) behind =
+    rw (append-assoc s (joined a) behind, take-append-seam s (joined a ++ behind), drop-append-seam s (joined a ++ behind))
+    (ap (λ (l : List (List ℕ)). s ∷ l) (cut-joined a behind))

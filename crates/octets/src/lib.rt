@@ -1,0 +1,64 @@
+// Bytes in slices: big-endian numbers read and written, and one stretch copied into another slice. Nothing here knows of
+// packets. Each function asks that the place lies in the slice: only proved code calls them.
+ghost use mathlib.Core.Path.{_≡_};
+ghost use Prim.Native.Nat.{_+_, _≤_, _<_};
+ghost use lib.ListN.{length};
+ghost use Rattle.octets.specs.Bytes.{be16At, be32At, two, four};
+ghost use Rattle.octets.specs.Stretch.{part, put};
+
+// A byte as a wider number. The contract says its bound, which a sum needs.
+fn wide(byte: u8) -> u16
+    ensures { λ r. ⌜ (r ≡ byte) × (r < 256) ⌝ }
+{
+    byte as u16
+}
+
+// The number in the two bytes from place `at` on.
+pub fn read_u16(bytes: &[u8], at: usize) -> u16
+    requires { ⌜ at + 1 < length (now bytes) ⌝ }
+    ensures { λ r. ⌜ r ≡ be16At (now (bytes .entry)) at ⌝ }
+{
+    let high = wide(bytes[at]);
+    let low = wide(bytes[at + 1]);
+    high * 256 + low
+}
+
+// The number in the four bytes from place `at` on.
+pub fn read_u32(bytes: &[u8], at: usize) -> u32
+    requires { ⌜ at + 3 < length (now bytes) ⌝ }
+    ensures { λ r. ⌜ r ≡ be32At (now (bytes .entry)) at ⌝ }
+{
+    let high = read_u16(bytes, at) as u32;
+    let low = read_u16(bytes, at + 2) as u32;
+    high * 65536 + low
+}
+
+// Writes a number as two bytes from place `at` on.
+pub fn write_u16(bytes: &mut [u8], at: usize, number: u16)
+    requires { ⌜ at + 1 < length (now bytes) ⌝ }
+    ensures { λ _. ⌜ now (bytes .exit) ≡ put (now (bytes .entry)) at (two number) ⌝ }
+{
+    bytes[at] = (number / 256 % 256) as u8;
+    bytes[at + 1] = (number % 256) as u8;
+}
+
+// Writes a number as four bytes from place `at` on.
+pub fn write_u32(bytes: &mut [u8], at: usize, number: u32)
+    requires { ⌜ at + 3 < length (now bytes) ⌝ }
+    ensures { λ _. ⌜ now (bytes .exit) ≡ put (now (bytes .entry)) at (four number) ⌝ }
+{
+    write_u16(bytes, at, (number / 65536) as u16);
+    write_u16(bytes, at + 2, (number % 65536) as u16);
+}
+
+// Copies `count` bytes of `source`, from place `from` on, into `target` at place `at`.
+pub fn copy(target: &mut [u8], at: usize, source: &[u8], from: usize, count: usize)
+    requires { ⌜ (at + count ≤ length (now target)) × (from + count ≤ length (now source)) ⌝ }
+    ensures { λ _. ⌜ now (target .exit) ≡ put (now (target .entry)) at (part (now (source .entry)) from count) ⌝ }
+{
+    let mut i = 0;
+    while i < count {
+        target[at + i] = source[from + i];
+        i += 1;
+    }
+}

@@ -1,0 +1,36 @@
+-- Refusals 6 to 11 of a PSP packet (document 01, "Refusal numbers"). Only the first segment of a packet may lack B, and only the last
+-- may lack E.
+use Prim.Native.Nat.{ℕ, _+_, _*_}
+use mathlib.Core.Bool.{Bool, not, _&&_, _||_}
+use mathlib.Core.List.{List, [], _∷_}
+use lib.Dec.{eqb, ltb}
+use lib.ListN.{length}
+use Rattle.refusal.specs.Refusal.{Refusal, _when_}
+use Rattle.octets.specs.Count.{any, sumTo}
+use Rattle.flow.specs.Flow.{topFlow}
+use Rattle.packet.specs.Header.{flowId, sSet, segmentCount, notPlain, headerLength}
+use Rattle.packet.specs.Segments.{entryAt, beginsIn, endsIn, lengthIn, lengthAt}
+
+-- The length that header, entries and bodies add up to. An entry that is cut off reads as zeros, and then this is more than there
+-- is: a cut segment table needs no case of its own to be refused by 10.
+unfoldable pub wanted : ℕ → List ℕ → ℕ
+wanted width sub = headerLength + width * segmentCount sub + sumTo (lengthAt width sub) (segmentCount sub)
+
+-- what is wrong with entry k of n: length 0, or no B though it is not the first, or no E though it is not the last
+abbrev pub badEntry : ℕ → ℕ → ℕ → Bool
+badEntry n k entry =
+    eqb (lengthIn entry) 0 || (not (eqb k 0) && not (beginsIn entry)) || (not (eqb (k + 1) n) && not (endsIn entry))
+
+abbrev pub segmentRefusals : ℕ → List ℕ → List Refusal
+segmentRefusals width sub =
+    9 when eqb (segmentCount sub) 0
+    ∷ 10 when not (eqb (wanted width sub) (length sub))
+    ∷ 11 when any (λ k. badEntry (segmentCount sub) k (entryAt width sub k)) (segmentCount sub)
+    ∷ []
+
+abbrev pub pspRefusals : ℕ → List ℕ → List Refusal
+pspRefusals width sub =
+    6 when notPlain sub
+    ∷ 7 when ltb topFlow (flowId sub)
+    ∷ 8 when not (sSet sub)
+    ∷ segmentRefusals width sub

@@ -1,0 +1,44 @@
+// Every refusal number of document 01 that the code gives so far, by name, in the order of its table; no other file of code
+// writes one as a numeral. 0 says that nothing was refused. (In specs/ it is the other way round: there the refusal lists
+// have the paper's numerals, so that they can be held against its table.)
+
+pub const NONE: u32 = 0;
+
+// A packet, whatever its session.
+pub const PACKET_TOO_SHORT: u32 = 2;
+
+pub const PACKET_TOO_LONG: u32 = 3;
+
+pub const CONTROL_MESSAGE: u32 = 4;
+
+// What follows the session ID.
+pub const HEADER_NOT_PLAIN: u32 = 6;
+
+pub const FLOW_OUTSIDE: u32 = 7;
+
+pub const NO_NUMBER: u32 = 8;
+
+pub const NOTHING_CARRIED: u32 = 9;
+
+pub const LENGTHS_DISAGREE: u32 = 10;
+
+pub const SEGMENT_SPOILT: u32 = 11;
+
+// The table.
+pub const TABLE_BROKEN: u32 = 13;
+
+// A segment that was asked for by its number.
+pub const SEGMENT_OUTSIDE: u32 = 14;
+
+// An open.
+pub const OPEN_WITHOUT_ID: u32 = 21;
+
+pub const ALREADY_OPEN: u32 = 22;
+
+pub const ALL_ROWS_OPEN: u32 = 23;
+
+// The packet check's kind.
+pub const KIND_UNKNOWN: u32 = 24;
+
+// A close.
+pub const CLOSE_OF_NONE: u32 = 25;

@@ -1,0 +1,69 @@
+-- Opening and closing (document 01, "Opening, closing, listening" and "Refusal numbers"). A session opens as PSP or D-MPT in the lowest
+-- free row, with every flow fresh; closing empties its row and reports the bytes held there as dropped. A refusal answers its number,
+-- with all counts 0 and the table as it was. Neither call is given the holding slice, so neither touches it.
+use Prim.Native.Nat.{ℕ, zero, suc}
+use mathlib.Core.Path.{_≡_}
+use mathlib.Core.Bool.{Bool, _||_}
+use mathlib.Core.List.{List, [], _∷_}
+use lib.Dec.{eqb, ltb, leb}
+use lib.ListN.{replicate}
+use Rattle.refusal.specs.Refusal.{Refusal, _when_, first}
+use Rattle.flow.specs.Flow.{fresh, flows}
+use Rattle.table.specs.declared.Kind.{Kind}
+use Rattle.table.specs.declared.Kind.the-variants as kind
+use Rattle.table.specs.declared.Mode.{Mode}
+use Rattle.table.specs.declared.Mode.the-variants as mode
+use Rattle.table.specs.declared.Row.{Row}
+use Rattle.table.specs.declared.Table.{Table}
+use Rattle.table.specs.declared.Opening.{Opening}
+use Rattle.table.specs.declared.Closing.{Closing}
+use Rattle.table.specs.Rows.{rows, rowAt, find, lowestFree, closedRow, heldIn, withRow}
+use Rattle.table.specs.Broken.{broken}
+
+abbrev pub kindOf : Mode → Kind
+kindOf mode.Psp = kind.Psp
+kindOf mode.Dmpt = kind.Dmpt
+
+abbrev pub isOpen : Table → ℕ → Bool
+isOpen t id = ltb (find t id) rows
+
+-- Opening.
+abbrev pub openRefusals : Table → ℕ → List Refusal
+openRefusals t id =
+    13 when broken t
+    ∷ 21 when eqb id 0
+    ∷ 22 when isOpen t id
+    ∷ 23 when leb rows (lowestFree t)
+    ∷ []
+
+abbrev pub freshRow : ℕ → Mode → Row
+freshRow id asked = record { id = id; kind = kindOf asked; flows = replicate flows fresh }
+
+-- by the number of the first refusal that applies
+abbrev pub openedBy : ℕ → Table → ℕ → Mode → Opening
+openedBy zero t id asked = record { code = 0; table = withRow t (lowestFree t) (freshRow id asked) }
+openedBy (suc c) t id asked = record { code = suc c; table = t }
+
+unfoldable pub opened : Table → ℕ → Mode → Opening
+opened t id asked = openedBy (first (openRefusals t id)) t id asked
+
+-- Closing.
+abbrev pub closeRefusals : Table → ℕ → List Refusal
+closeRefusals t id =
+    13 when broken t
+    ∷ 25 when (eqb id 0 || leb rows (find t id))
+    ∷ []
+
+abbrev pub closedBy : ℕ → Table → ℕ → Closing
+closedBy zero t id = record { code = 0; dropped = heldIn (rowAt t (find t id)); table = withRow t (find t id) closedRow }
+closedBy (suc c) t id = record { code = suc c; dropped = 0; table = t }
+
+unfoldable pub closed : Table → ℕ → Closing
+closed t id = closedBy (first (closeRefusals t id)) t id
+
+-- What the two calls permit, whole: the answer, and in it the table.
+abbrev pub PermitsOpen : Table → ℕ → Mode → Opening → Type 0
+PermitsOpen t id asked answer = answer ≡ opened t id asked
+
+abbrev pub PermitsClose : Table → ℕ → Closing → Type 0
+PermitsClose t id answer = answer ≡ closed t id

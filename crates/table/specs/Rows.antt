@@ -1,0 +1,70 @@
+-- The table of sessions (document 01, "The card in numbers"): six rows, one to a session, each with four flows that have a
+-- record of their own. Rows and flows are read by number.
+use Prim.Native.Nat.{ℕ}
+use mathlib.Core.Path.{_≡_}
+use mathlib.Core.Bool.{Bool, true, false, not, _&&_}
+use mathlib.Core.List.{List, []}
+use lib.Dec.{eqb}
+use lib.ListN.{getD, set, replicate}
+use Rattle.octets.specs.Count.{least, sumTo}
+use Rattle.flow.specs.declared.Flow.{Flow}
+use Rattle.flow.specs.Flow.{fresh, flows}
+use Rattle.table.specs.declared.Kind.{Kind}
+use Rattle.table.specs.declared.Kind.the-variants as kind
+use Rattle.table.specs.declared.Row.{Row}
+use Rattle.table.specs.declared.Table.{Table}
+
+abbrev pub rows : ℕ
+rows = 6
+
+abbrev pub isClosed : Kind → Bool
+isClosed kind.Closed = true
+isClosed kind.Psp = false
+isClosed kind.Dmpt = false
+
+abbrev pub isDmpt : Kind → Bool
+isDmpt kind.Closed = false
+isDmpt kind.Psp = false
+isDmpt kind.Dmpt = true
+
+-- Row i of a table, flow k of a row. (Past the end of a list stands a row or a flow of zeros; no table of six by four gets there.)
+abbrev pub rowAt : Table → ℕ → Row
+rowAt t i = getD (t .rows) i (record { id = 0; kind = kind.Closed; flows = [] })
+
+abbrev pub flowAt : Row → ℕ → Flow
+flowAt row k = getD (row .flows) k fresh
+
+-- the closed row is all zero, and the empty table is six of them
+abbrev pub closedRow : Row
+closedRow = record { id = 0; kind = kind.Closed; flows = replicate flows fresh }
+
+abbrev pub empty : Table
+empty = record { rows = replicate rows closedRow }
+
+abbrev pub PermitsEmpty : Table → Type 0
+PermitsEmpty answer = answer ≡ empty
+
+-- whether the session is open in row i; the row where it is open, and the lowest free row: 6 where there is none
+abbrev pub openIn : Table → ℕ → ℕ → Bool
+openIn t id i = not (isClosed (rowAt t i .kind)) && eqb (rowAt t i .id) id
+
+abbrev pub find : Table → ℕ → ℕ
+find t id = least (openIn t id) rows
+
+abbrev pub freeIn : Table → ℕ → Bool
+freeIn t i = isClosed (rowAt t i .kind)
+
+abbrev pub lowestFree : Table → ℕ
+lowestFree t = least (freeIn t) rows
+
+-- the bytes that a row holds, all its flows together
+abbrev pub heldIn : Row → ℕ
+heldIn row = sumTo (λ k. flowAt row k .held) flows
+
+-- the table with one row, or one flow of a row, replaced and all else as it was
+abbrev pub withRow : Table → ℕ → Row → Table
+withRow t i row = record { rows = set (t .rows) i row }
+
+abbrev pub withFlow : Table → ℕ → ℕ → Flow → Table
+withFlow t i k f =
+    withRow t i (record { id = rowAt t i .id; kind = rowAt t i .kind; flows = set (rowAt t i .flows) k f })
