@@ -1,1 +1,66 @@
-// placeholder
+// The layout of data packets: the header, the segments of PSP, the MPEG packets of D-MPT; the packet check without a table; and
+// segment k of a packet. Nothing here knows of tables or holding places.
+//
+// The functions of `header`, `psp` and `dmpt` read what stands behind the session ID, `sub`, and ask that it is long enough: only
+// proved code calls them. The three functions of this file ask nothing.
+pub mod dmpt;
+pub mod header;
+pub mod psp;
+
+ghost use mathlib.Core.Path.{_≡_};
+ghost use Prim.Native.Nat.{_+_, _<_, _≤_};
+ghost use lib.ListN.{length};
+ghost use Rattle.octets.specs.Count.{sumTo};
+ghost use Rattle.packet.specs.Header.{overIp, idLength, headerLength, segmentCount, sub};
+ghost use Rattle.packet.specs.Check.{PermitsCheck, PermitsSegmentCause, PermitsSegment};
+
+// The kinds of session as the host program numbers them.
+pub const KIND_PSP: u32 = 1;
+
+pub const KIND_DMPT: u32 = 2;
+
+// The packet check: the first refusal that a packet of this kind meets whatever the table, or 0.
+pub fn check(kind: u32, packet: &[u8]) -> u32
+    ensures { λ r. ⌜ PermitsCheck kind (now (packet .entry)) r ⌝ }
+{
+    if (kind != KIND_PSP) & (kind != KIND_DMPT) {
+        return refusal::KIND_UNKNOWN;
+    }
+    let early = header::refuse_early(packet, header::OVER_IP);
+    if early != refusal::NONE {
+        return early;
+    }
+    let sub = header::sub_of(packet, header::OVER_IP);
+    if kind == KIND_PSP {
+        return psp::refuse(sub, psp::ENTRY_WIDTH);
+    }
+    dmpt::refuse(sub)
+}
+
+// Why segment k of a packet is refused, or 0.
+pub fn segment_cause(packet: &[u8], k: usize) -> u32
+    ensures { λ r. ⌜ PermitsSegmentCause (now (packet .entry)) k r ⌝ }
+{
+    let refused = check(KIND_PSP, packet);
+    if refused != refusal::NONE {
+        return refused;
+    }
+    let sub = header::sub_of(packet, header::OVER_IP);
+    if header::segment_count(sub) <= k {
+        return refusal::SEGMENT_OUTSIDE;
+    }
+    refusal::NONE
+}
+
+// Segment k of a packet, as a stretch of that packet itself; an empty one where it is refused.
+pub fn segment(packet: &[u8], k: usize) -> &[u8]
+    ensures { λ r. ⌜ PermitsSegment (packet .entry) k r ⌝ }
+{
+    if segment_cause(packet, k) != refusal::NONE {
+        return &packet[0..0];
+    }
+    let sub = header::sub_of(packet, header::OVER_IP);
+    let start = header::OVER_IP + header::ID_LENGTH + psp::body_place(sub, psp::ENTRY_WIDTH, k);
+    let end = start + psp::length_of(psp::entry(sub, psp::ENTRY_WIDTH, k));
+    &packet[start..end]
+}

@@ -1,0 +1,82 @@
+// The MPEG packets of a D-MPT packet (DEPI I05, section 8.3.1): 188 bytes each, behind the sub-layer header, to the end of the packet.
+ghost use mathlib.Core.Path.{_≡_};
+ghost use Prim.Native.Nat.{_+_, _*_, _<_, _≤_};
+ghost use mathlib.Core.Bool.{not};
+ghost use lib.Dec.{eqb};
+ghost use lib.ListN.{length};
+ghost use Rattle.refusal.specs.Refusal.{first};
+ghost use Rattle.octets.specs.Bytes.{byteAt};
+ghost use Rattle.octets.specs.Count.{any};
+ghost use Rattle.packet.specs.Header.{headerLength};
+ghost use Rattle.packet.specs.Dmpt.{mpegLength, syncByte, mpegCount, mpegAt, pid, mpegRefusals, dmptRefusals};
+use crate::header;
+
+pub const MPEG_LENGTH: usize = 188;
+
+// Every MPEG packet starts with it.
+const SYNC: u8 = 0x47;
+
+// The PID of an MPEG packet that carries nothing.
+pub const NULL_PID: u16 = 0x1FFF;
+
+// How many MPEG packets there are.
+pub fn mpeg_count(sub: &[u8]) -> usize
+    requires { ⌜ headerLength ≤ length (now sub) ⌝ }
+    ensures { λ r. ⌜ r ≡ mpegCount (now (sub .entry)) ⌝ }
+{
+    (sub.len() - header::HEADER_LENGTH) / MPEG_LENGTH
+}
+
+// The PID of MPEG packet k.
+pub fn pid_of(sub: &[u8], k: usize) -> u16
+    requires { ⌜ headerLength + mpegLength * k + mpegLength ≤ length (now sub) ⌝ }
+    ensures { λ r. ⌜ r ≡ pid (mpegAt (now (sub .entry)) k) ⌝ }
+{
+    octets::read_u16(sub, header::HEADER_LENGTH + MPEG_LENGTH * k + 1) % 8192
+}
+
+// Whether one of the first n MPEG packets starts with another byte.
+fn any_unsynced(sub: &[u8], n: usize) -> bool
+    requires { ⌜ headerLength + mpegLength * n ≤ length (now sub) ⌝ }
+    ensures { λ r. ⌜ r ≡ any (λ k. not (eqb (byteAt (mpegAt (now (sub .entry)) k) 0) syncByte)) n ⌝ }
+{
+    let mut unsynced = false;
+    let mut k: usize = 0;
+    while k < n {
+        unsynced = unsynced | (sub[header::HEADER_LENGTH + MPEG_LENGTH * k] != SYNC);
+        k += 1;
+    }
+    unsynced
+}
+
+// Refusals 9 to 11, of the MPEG packets; or 0.
+fn refuse_mpegs(sub: &[u8]) -> u32
+    requires { ⌜ headerLength ≤ length (now sub) ⌝ }
+    ensures { λ r. ⌜ r ≡ first (mpegRefusals (now (sub .entry))) ⌝ }
+{
+    let carried = sub.len() - header::HEADER_LENGTH;
+    if carried == 0 {
+        return refusal::NOTHING_CARRIED;
+    }
+    if carried % MPEG_LENGTH != 0 {
+        return refusal::LENGTHS_DISAGREE;
+    }
+    if any_unsynced(sub, mpeg_count(sub)) {
+        return refusal::SEGMENT_SPOILT;
+    }
+    refusal::NONE
+}
+
+// Refusals 6, 7 and 9 to 11 of a D-MPT packet, or 0.
+pub fn refuse(sub: &[u8]) -> u32
+    requires { ⌜ headerLength ≤ length (now sub) ⌝ }
+    ensures { λ r. ⌜ r ≡ first (dmptRefusals (now (sub .entry))) ⌝ }
+{
+    if header::not_plain(sub) {
+        return refusal::HEADER_NOT_PLAIN;
+    }
+    if header::flow_id(sub) != 0 {
+        return refusal::FLOW_OUTSIDE;
+    }
+    refuse_mpegs(sub)
+}

@@ -1,0 +1,111 @@
+// The fixed part of a packet: the session ID, then the sub-layer header (DEPI I05, section 8.3).
+ghost use mathlib.Core.Path.{_≡_};
+ghost use Prim.Native.Nat.{_+_, _<_, _≤_};
+ghost use lib.ListN.{length};
+ghost use Rattle.refusal.specs.Refusal.{first};
+ghost use Rattle.packet.specs.Header.{mostLead, idLength, sessionId, sub, headerLength, vSet, sSet, hBits, flowId, segmentCount, number, notPlain, beforeSession};
+
+// So many bytes stand before the session ID over IP.
+pub const OVER_IP: usize = 0;
+
+pub const ID_LENGTH: usize = 4;
+
+pub const HEADER_LENGTH: usize = 4;
+
+// A packet over IP has 8 to 4,100 bytes.
+const SHORTEST: usize = 8;
+
+const LONGEST: usize = 4100;
+
+// A byte as a number to count with. The contract says its bound, which a sum needs.
+pub fn wide(byte: u8) -> usize
+    ensures { λ r. ⌜ (r ≡ byte) × (r < 256) ⌝ }
+{
+    byte as usize
+}
+
+// The session ID; 0 marks a control message.
+pub fn session_id(packet: &[u8], lead: usize) -> u32
+    requires { ⌜ lead + idLength ≤ length (now packet) ⌝ }
+    ensures { λ r. ⌜ r ≡ sessionId lead (now (packet .entry)) ⌝ }
+{
+    octets::read_u32(packet, lead)
+}
+
+// What follows the session ID.
+pub fn sub_of(packet: &[u8], lead: usize) -> &[u8]
+    requires { ⌜ lead + idLength ≤ length (now packet) ⌝ }
+    ensures { λ r. ⌜ now r ≡ sub lead (now (packet .entry)) ⌝ }
+{
+    let from = lead + ID_LENGTH;
+    &packet[from..]
+}
+
+pub fn v_set(sub: &[u8]) -> bool
+    requires { ⌜ headerLength ≤ length (now sub) ⌝ }
+    ensures { λ r. ⌜ r ≡ vSet (now (sub .entry)) ⌝ }
+{
+    sub[0] / 128 % 2 == 1
+}
+
+// Whether the sequence number is valid.
+pub fn s_set(sub: &[u8]) -> bool
+    requires { ⌜ headerLength ≤ length (now sub) ⌝ }
+    ensures { λ r. ⌜ r ≡ sSet (now (sub .entry)) ⌝ }
+{
+    sub[0] / 64 % 2 == 1
+}
+
+pub fn h_bits(sub: &[u8]) -> u8
+    requires { ⌜ headerLength ≤ length (now sub) ⌝ }
+    ensures { λ r. ⌜ r ≡ hBits (now (sub .entry)) ⌝ }
+{
+    sub[0] / 16 % 4
+}
+
+pub fn flow_id(sub: &[u8]) -> usize
+    requires { ⌜ headerLength ≤ length (now sub) ⌝ }
+    ensures { λ r. ⌜ (r ≡ flowId (now (sub .entry))) × (r < 8) ⌝ }
+{
+    wide(sub[0] % 8)
+}
+
+pub fn segment_count(sub: &[u8]) -> usize
+    requires { ⌜ headerLength ≤ length (now sub) ⌝ }
+    ensures { λ r. ⌜ (r ≡ segmentCount (now (sub .entry))) × (r < 128) ⌝ }
+{
+    wide(sub[1] % 128)
+}
+
+// The sequence number.
+pub fn number_in(sub: &[u8]) -> u16
+    requires { ⌜ headerLength ≤ length (now sub) ⌝ }
+    ensures { λ r. ⌜ r ≡ number (now (sub .entry)) ⌝ }
+{
+    octets::read_u16(sub, 2)
+}
+
+// V set, or H not 00: no data packet.
+pub fn not_plain(sub: &[u8]) -> bool
+    requires { ⌜ headerLength ≤ length (now sub) ⌝ }
+    ensures { λ r. ⌜ r ≡ notPlain (now (sub .entry)) ⌝ }
+{
+    v_set(sub) | (h_bits(sub) != 0)
+}
+
+// Refusals 2 to 4, which need no session; or 0, and then the packet has a whole header.
+pub fn refuse_early(packet: &[u8], lead: usize) -> u32
+    requires { ⌜ lead ≤ mostLead ⌝ }
+    ensures { λ r. ⌜ r ≡ first (beforeSession lead (now (packet .entry))) ⌝ }
+{
+    if packet.len() < lead + SHORTEST {
+        return refusal::PACKET_TOO_SHORT;
+    }
+    if lead + LONGEST < packet.len() {
+        return refusal::PACKET_TOO_LONG;
+    }
+    if session_id(packet, lead) == 0 {
+        return refusal::CONTROL_MESSAGE;
+    }
+    refusal::NONE
+}

@@ -1,0 +1,122 @@
+// The segments of a PSP packet (DEPI I05, section 8.3.2): one entry for each behind the sub-layer header, then their bodies. An entry's
+// width is a parameter: its marks and its length stand in the first two bytes.
+ghost use mathlib.Core.Path.{_≡_};
+ghost use Prim.Native.Nat.{_+_, _*_, _<_, _≤_};
+ghost use lib.ListN.{length};
+ghost use Rattle.refusal.specs.Refusal.{first};
+ghost use Rattle.packet.specs.Header.{headerLength, segmentCount};
+ghost use Rattle.octets.specs.Count.{any, sumTo};
+ghost use Rattle.packet.specs.Segments.{entryAt, beginsIn, endsIn, lengthIn, lengthAt, bodyAt};
+ghost use Rattle.packet.specs.Psp.{badEntry, segmentRefusals, pspRefusals};
+use crate::header;
+use flow::Flow;
+
+// The width of an entry in this edition of the header.
+pub const ENTRY_WIDTH: usize = 2;
+
+// Entry k, as the number in its first two bytes.
+pub fn entry(sub: &[u8], width: usize, k: usize) -> u16
+    requires { ⌜ headerLength + width * k + 1 < length (now sub) ⌝ }
+    ensures { λ r. ⌜ r ≡ entryAt width (now (sub .entry)) k ⌝ }
+{
+    octets::read_u16(sub, header::HEADER_LENGTH + width * k)
+}
+
+pub fn begins(entry: u16) -> bool
+    ensures { λ r. ⌜ r ≡ beginsIn entry ⌝ }
+{
+    entry / 32768 % 2 == 1
+}
+
+pub fn ends(entry: u16) -> bool
+    ensures { λ r. ⌜ r ≡ endsIn entry ⌝ }
+{
+    entry / 16384 % 2 == 1
+}
+
+pub fn length_of(entry: u16) -> usize
+    ensures { λ r. ⌜ (r ≡ lengthIn entry) × (r < 16384) ⌝ }
+{
+    (entry % 16384) as usize
+}
+
+// What is wrong with entry k of `count`: no length, no B though it is not the first, or no E though it is not the last.
+pub fn bad_entry(count: usize, k: usize, entry: u16) -> bool
+    requires { ⌜ k < count ⌝ }
+    ensures { λ r. ⌜ r ≡ badEntry count k entry ⌝ }
+{
+    (length_of(entry) == 0) | ((k != 0) & !begins(entry)) | ((k + 1 != count) & !ends(entry))
+}
+
+// What the first entries of a segment table say: how long their segments are together, and whether an entry is spoilt.
+pub struct Surveyed {
+    pub total: usize,
+    pub spoilt: bool,
+}
+
+// Surveys the first n of `count` entries.
+pub fn survey(sub: &[u8], width: usize, count: usize, n: usize) -> Surveyed
+    requires { ⌜ (2 ≤ width) × (n ≤ count) × (count < 128) × (headerLength + width * n ≤ length (now sub)) ⌝ }
+    ensures { λ r. ⌜ (r .total ≡ sumTo (lengthAt width (now (sub .entry))) n) × (r .spoilt ≡ any (λ k. badEntry count k (entryAt width (now (sub .entry)) k)) n) × (r .total ≤ 16383 * n) ⌝ }
+{
+    let mut total: usize = 0;
+    let mut spoilt = false;
+    let mut k: usize = 0;
+    while k < n {
+        let e = entry(sub, width, k);
+        total += length_of(e);
+        spoilt = spoilt | bad_entry(count, k, e);
+        k += 1;
+    }
+    Surveyed { total, spoilt }
+}
+
+// Where the body of segment k starts.
+pub fn body_place(sub: &[u8], width: usize, k: usize) -> usize
+    requires { ⌜ (2 ≤ width) × (k ≤ segmentCount (now sub)) × (headerLength ≤ length (now sub)) × (headerLength + width * segmentCount (now sub) ≤ length (now sub)) ⌝ }
+    ensures { λ r. ⌜ r ≡ bodyAt width (now (sub .entry)) k ⌝ }
+{
+    let count = header::segment_count(sub);
+    let before = survey(sub, width, count, k);
+    header::HEADER_LENGTH + width * count + before.total
+}
+
+// Refusals 9 to 11, of the segments; or 0.
+fn refuse_segments(sub: &[u8], width: usize) -> u32
+    requires { ⌜ (2 ≤ width) × (width ≤ 4) × (headerLength ≤ length (now sub)) ⌝ }
+    ensures { λ r. ⌜ r ≡ first (segmentRefusals width (now (sub .entry))) ⌝ }
+{
+    let count = header::segment_count(sub);
+    if count == 0 {
+        return refusal::NOTHING_CARRIED;
+    }
+    let bodies = header::HEADER_LENGTH + width * count;
+    if sub.len() < bodies {
+        return refusal::LENGTHS_DISAGREE;
+    }
+    let table = survey(sub, width, count, count);
+    if bodies + table.total != sub.len() {
+        return refusal::LENGTHS_DISAGREE;
+    }
+    if table.spoilt {
+        return refusal::SEGMENT_SPOILT;
+    }
+    refusal::NONE
+}
+
+// Refusals 6 to 11 of a PSP packet, or 0.
+pub fn refuse(sub: &[u8], width: usize) -> u32
+    requires { ⌜ (2 ≤ width) × (width ≤ 4) × (headerLength ≤ length (now sub)) ⌝ }
+    ensures { λ r. ⌜ r ≡ first (pspRefusals width (now (sub .entry))) ⌝ }
+{
+    if header::not_plain(sub) {
+        return refusal::HEADER_NOT_PLAIN;
+    }
+    if Flow::TOP < header::flow_id(sub) {
+        return refusal::FLOW_OUTSIDE;
+    }
+    if !header::s_set(sub) {
+        return refusal::NO_NUMBER;
+    }
+    refuse_segments(sub, width)
+}

@@ -1,0 +1,100 @@
+-- `table::open` asks the definition's questions in its order: each return is the definition's case for the tests that led there.
+use borrow.Author.Tests.{eq-eqb, ne-eqb, lt-ltb, le-ltb, le-leb, lt-leb}
+use Rattle.table.specs.Calls.{opened}
+use borrow.Author.Needs.{needs}
+use Rattle.table.proofs.open.Statement.{statement}
+use Rattle.table.proofs.open.Tie as tie
+use Rattle.table.proofs.open.Reads as reads
+use Rattle.table.proofs.open.Lts as lts
+use Rattle.table.proofs.find_row.Reads as find-row-reads
+use Rattle.table.proofs.fresh_row.Reads as fresh-row-reads
+use Rattle.table.proofs.is_broken.Reads as is-broken-reads
+use Rattle.table.proofs.lowest_free.Reads as lowest-free-reads
+
+-- src/lib.rt:240:8
+is-broken-requires : tie.Need-is-broken-requires
+is-broken-requires c κs = search needs
+
+-- src/lib.rt:241:9
+returns : tie.Need-returns
+unfolding opened
+returns c = simp (← c .before .is-broken .ensures, c .if1 .taken)
+
+-- src/lib.rt:247:9
+returns-2 : tie.Need-returns-2
+unfolding opened
+returns-2 c = simp (← c .before .before .is-broken .ensures, c .before .if1 .left, eq-eqb _ _ (c .if2 .taken))
+
+-- src/lib.rt:252:8
+find-row-requires : tie.Need-find-row-requires
+find-row-requires c κs = search needs
+
+-- src/lib.rt:253:9
+returns-3 : tie.Need-returns-3
+unfolding opened
+returns-3 c = simp (
+      ← c .before .before .before .before .is-broken .ensures,
+      c .before .before .before .if1 .left,
+      ne-eqb _ _ (c .before .before .if2 .left),
+      ← c .before .find-row .ensures,
+      lt-ltb _ _ (c .if3 .taken),
+    )
+
+-- src/lib.rt:258:9
+lowest-free-requires : tie.Need-lowest-free-requires
+lowest-free-requires c κs = search needs
+
+-- src/lib.rt:260:9
+returns-4 : tie.Need-returns-4
+unfolding opened
+returns-4 c = simp (
+      ← c .before .before .before .before .before .before .is-broken .ensures,
+      c .before .before .before .before .before .if1 .left,
+      ne-eqb _ _ (c .before .before .before .before .if2 .left),
+      ← c .before .before .before .find-row .ensures,
+      le-ltb _ _ (c .before .before .if3 .left),
+      ← c .before .lowest-free .ensures,
+      le-leb _ _ (c .if4 .taken),
+    )
+
+-- src/lib.rt:266:9
+fresh-row-requires : tie.Need-fresh-row-requires
+fresh-row-requires c κs = search needs
+
+-- src/lib.rt:267:5
+mul-row : tie.Need-mul-row
+mul-row c = search needs
+
+-- src/lib.rt:267:5
+element-set-from-row : tie.Need-element-set-from-row
+element-set-from-row c = search needs
+
+-- src/lib.rt:237:1
+returns-5 : tie.Need-returns-5
+unfolding opened
+returns-5 c = simp (
+      ← c .before .before .before .before .before .before .before .is-broken .ensures,
+      c .before .before .before .before .before .before .if1 .left,
+      ne-eqb _ _ (c .before .before .before .before .before .if2 .left),
+      ← c .before .before .before .before .find-row .ensures,
+      le-ltb _ _ (c .before .before .before .if3 .left),
+      ← c .before .before .lowest-free .ensures,
+      lt-leb _ _ (c .before .if4 .left),
+      c .fresh-row .ensures,
+    )
+
+pub open-spec : {M : Type 1} → statement M
+open-spec =
+    tie.close
+    (tie.spec
+    is-broken-requires
+    returns
+    returns-2
+    find-row-requires
+    returns-3
+    lowest-free-requires
+    returns-4
+    fresh-row-requires
+    mul-row
+    element-set-from-row
+    returns-5)
