@@ -49,7 +49,8 @@ judge f number =
 abbrev pub unnumbered : Flow → Judged
 unnumbered f = record { flow = f; gap = 0; late = false }
 
--- What the two calls of this crate permit, whole.
+-- What the two calls on a record permit, whole. (Whether a flow is fresh is read off `heard` alone: a record that has heard nothing and
+-- yet holds or expects something stands in a broken table, which the calls above refuse.)
 abbrev pub PermitsFresh : Flow → Type 0
 PermitsFresh answer = answer ≡ fresh
 

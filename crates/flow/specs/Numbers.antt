@@ -1,11 +1,12 @@
 -- Sequence numbers modulo 65,536 (document 01, "Opening, closing, listening"): the next one, and how far one lies ahead of
--- another. Both are shut: the arithmetic is done once, in proofs/Numbers.antt, and cited from there.
+-- another. All are shut: the arithmetic is done once, in proofs/Numbers.antt, and cited from there.
 use Prim.Native.Nat.{ℕ, _+_, _-_, _%_}
 
 abbrev pub modulus : ℕ
 modulus = 65536
 
--- d = number - expected, modulo 65,536. These numbers have no negative ones, so the modulus is added first.
+-- d = number - expected, modulo 65,536, for an expected number below the modulus. Numbers here have no negative ones, so the modulus
+-- is added first.
 unfoldable pub ahead : ℕ → ℕ → ℕ
 ahead number expected = (number + modulus - expected) % modulus
 

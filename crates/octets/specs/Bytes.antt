@@ -3,7 +3,7 @@ use Prim.Native.Nat.{ℕ, _+_, _*_, _/_, _%_, _<_}
 use mathlib.Core.List.{List, [], _∷_, _++_}
 use lib.ListN.{getD}
 
--- Byte number i. Past the end of the list stands a 0; every rule that reads a byte looks at lengths by itself.
+-- Byte number i. Past the end of the list stands a 0; no rule is decided by it, since a rule on lengths stands before each that reads.
 abbrev pub byteAt : List ℕ → ℕ → ℕ
 byteAt bytes i = getD bytes i 0
 
@@ -18,7 +18,7 @@ be16At bytes i = byteAt bytes i * 256 + byteAt bytes (i + 1)
 abbrev pub be32At : List ℕ → ℕ → ℕ
 be32At bytes i = be16At bytes i * 65536 + be16At bytes (i + 2)
 
--- a number written as two bytes, and as four
+-- a number written as two bytes, and as four: its low ones, where it has more
 abbrev pub two : ℕ → List ℕ
 two n = n / 256 % 256 ∷ n % 256 ∷ []
 

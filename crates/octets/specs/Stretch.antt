@@ -13,7 +13,8 @@ part list from n = take n (drop from list)
 unfoldable pub rest : List ℕ → ℕ → List ℕ
 rest list from = drop from list
 
--- `list` with `new` in the place of as many elements from place `at` on, and all others as they were
+-- `list` with `new` in the place of as many elements from place `at` on, and all others as they were. (It is said only where the list
+-- has so many: then it is as long as before, `length-put`.)
 unfoldable pub put : List ℕ → ℕ → List ℕ → List ℕ
 put list at new = take at list ++ new ++ drop (at + length new) list
 
@@ -26,7 +27,7 @@ unfoldable pub lengths : List (List ℕ) → List ℕ
 lengths [] = []
 lengths (s ∷ more) = length s ∷ lengths more
 
--- the other way: bytes taken apart again into stretches of the given lengths
+-- the other way: bytes taken apart again into stretches of the given lengths; what is left over belongs to none
 unfoldable pub cutBy : List ℕ → List ℕ → List (List ℕ)
 cutBy [] bytes = []
 cutBy (n ∷ more) bytes = take n bytes ∷ cutBy more (drop n bytes)

@@ -2,7 +2,7 @@
 -- another kind than 1 and 2, else the first of 2, 3, 4, 6 to 11 that applies, else 0. Segment k is a stretch of the caller's own
 -- packet, an empty one where the request is refused; its cause is the PSP check's number, then 14 where the packet has no segment k,
 -- else 0.
-use Prim.Native.Nat.{ℕ, _+_}
+use Prim.Native.Nat.{ℕ, zero, suc, _+_}
 use mathlib.Core.Path.{_≡_}
 use mathlib.Core.Bool.{Bool, cond, not, _&&_}
 use mathlib.Core.List.{List, [], _∷_, _++_}
@@ -43,23 +43,26 @@ unfoldable pub segmentCause : ℕ → List ℕ → ℕ → ℕ
 segmentCause lead packet k = first (causeRefusals lead packet k)
 
 -- Where segment k lies in the packet: its first place, counted from the packet's first byte, and its length. A refused request is given
--- an empty stretch, at the packet's start.
-pub record Stretch : Type 0 where
+-- an empty stretch, and that at the packet's start, so that there is one answer.
+pub record Extent : Type 0 where
   pub start : ℕ
   pub size : ℕ
 
-unfoldable pub segmentStretch : ℕ → List ℕ → ℕ → Stretch
-segmentStretch lead packet k =
-    cond (eqb (segmentCause lead packet k) 0)
-    (record {
+-- by the number of the first refusal that applies
+abbrev pub extentBy : ℕ → ℕ → List ℕ → ℕ → Extent
+extentBy zero lead packet k =
+    record {
       start = lead + idLength + bodyAt entryWidth (sub lead packet) k;
       size = lengthAt entryWidth (sub lead packet) k;
-    })
-    (record { start = 0; size = 0 })
+    }
+extentBy (suc c) lead packet k = record { start = 0; size = 0 }
+
+unfoldable pub segmentExtent : ℕ → List ℕ → ℕ → Extent
+segmentExtent lead packet k = extentBy (segmentCause lead packet k) lead packet k
 
 -- the bytes given for segment k
 unfoldable pub segmentGiven : ℕ → List ℕ → ℕ → List ℕ
-segmentGiven lead packet k = part packet ((segmentStretch lead packet k) .start) ((segmentStretch lead packet k) .size)
+segmentGiven lead packet k = part packet ((segmentExtent lead packet k) .start) ((segmentExtent lead packet k) .size)
 
 -- What the calls permit, whole. A slice that is given back is a reference: `ptr` says where it points, as a block of memory and a place
 -- in that block, and `now` the bytes there. So it is not enough to give back equal bytes from elsewhere in the packet, or a copy.
@@ -71,5 +74,5 @@ PermitsSegmentCause packet k answer = answer ≡ segmentCause overIp packet k
 
 pub record PermitsSegment (packet : RefT (List ℕ)) (k : ℕ) (answer : RefT (List ℕ)) : Type 0 where
   pub in-the-packet : answer .ptr .0 ≡ packet .ptr .0
-  pub at-its-place : answer .ptr .1 ≡ packet .ptr .1 + (segmentStretch overIp (packet .now) k) .start
+  pub at-its-place : answer .ptr .1 ≡ packet .ptr .1 + (segmentExtent overIp (packet .now) k) .start
   pub its-bytes : answer .now ≡ segmentGiven overIp (packet .now) k

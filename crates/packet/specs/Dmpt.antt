@@ -1,4 +1,4 @@
--- D-MPT packets (document 01, "Packet layout"; DEPI I05, section 8.3.1): behind the sub-layer header come whole MPEG packets of 188
+-- D-MPT packets (document 01, "Packet layout"; DEPI I05, section 8.2): behind the sub-layer header come whole MPEG packets of 188
 -- bytes, each starting 0x47; byte 1 of `sub` is read by nobody. And refusals 6 to 11 of such a packet (8 is PSP's alone).
 use Prim.Native.Nat.{ℕ, _+_, _-_, _*_, _/_, _%_}
 use mathlib.Core.Bool.{Bool, not}
@@ -17,7 +17,7 @@ mpegLength = 188
 abbrev pub syncByte : ℕ
 syncByte = 0x47
 
--- the bytes behind the header, as so many MPEG packets
+-- how many bytes stand behind the header, and how many whole MPEG packets
 abbrev pub carried : List ℕ → ℕ
 carried sub = length sub - headerLength
 

@@ -1,4 +1,4 @@
--- The fixed part of a data packet (document 01, "Packet layout"; DEPI I05, section 8.3). First comes the session ID, of four
+-- The fixed part of a data packet (document 01, "Packet layout"; DEPI I05, sections 8.1.3, 8.2 and 8.3). First comes the session ID, of four
 -- bytes; 0 marks a control message. What follows it is called `sub`: the sub-layer header and all behind that. Places are counted
 -- from the start of `sub`, so the paper's byte 4 is byte 0 here, its byte 5 is byte 1 and its bytes 6-7 are bytes 2-3. How many bytes
 -- stand before the session ID is a parameter of everything that looks at a whole packet, `lead`: none over IP.
@@ -17,7 +17,7 @@ use Rattle.octets.specs.Stretch.{rest}
 abbrev pub overIp : ℕ
 overIp = 0
 
--- no transport has more before the session ID (RFC 3931, section 4.1.2.1)
+-- no transport of L2TPv3 has more before the session ID (RFC 3931, section 4.1.2.1)
 abbrev pub mostLead : ℕ
 mostLead = 4
 

@@ -1,20 +1,20 @@
 -- Refusals 6 to 11 of a PSP packet (document 01, "Refusal numbers"). Only the first segment of a packet may lack B, and only the last
 -- may lack E.
-use Prim.Native.Nat.{ℕ, _+_, _*_}
+use Prim.Native.Nat.{ℕ, _+_}
 use mathlib.Core.Bool.{Bool, not, _&&_, _||_}
 use mathlib.Core.List.{List, [], _∷_}
 use lib.Dec.{eqb, ltb}
 use lib.ListN.{length}
 use Rattle.refusal.specs.Refusal.{Refusal, _when_}
-use Rattle.octets.specs.Count.{any, sumTo}
+use Rattle.octets.specs.Count.{any}
 use Rattle.flow.specs.Flow.{topFlow}
-use Rattle.packet.specs.Header.{flowId, sSet, segmentCount, notPlain, headerLength}
-use Rattle.packet.specs.Segments.{entryAt, beginsIn, endsIn, lengthIn, lengthAt}
+use Rattle.packet.specs.Header.{flowId, sSet, segmentCount, notPlain}
+use Rattle.packet.specs.Segments.{entryAt, beginsIn, endsIn, lengthIn, bodyAt}
 
--- The length that header, entries and bodies add up to. An entry that is cut off reads as zeros, and then this is more than there
--- is: a cut segment table needs no case of its own to be refused by 10.
+-- The length that header, entries and bodies add up to: where one more body would start. Of a cut segment table the header and the
+-- entries alone are longer than the packet, whatever the cut ones read as, so 10 needs no case of its own for it.
 unfoldable pub wanted : ℕ → List ℕ → ℕ
-wanted width sub = headerLength + width * segmentCount sub + sumTo (lengthAt width sub) (segmentCount sub)
+wanted width sub = bodyAt width sub (segmentCount sub)
 
 -- what is wrong with entry k of n: length 0, or no B though it is not the first, or no E though it is not the last
 abbrev pub badEntry : ℕ → ℕ → ℕ → Bool

@@ -1,6 +1,6 @@
--- The segments of a PSP packet (document 01, "Packet layout"; DEPI I05, section 8.3.2). Behind the sub-layer header comes one entry
+-- The segments of a PSP packet (document 01, "Packet layout"; DEPI I05, section 8.3). Behind the sub-layer header comes one entry
 -- for each segment, with B in its top bit, E in the next and the length in the low 14; then the segment bodies in the same order, to
--- the end of the packet. Read, such a packet is a list of segments, and nothing above this file knows of entries. How many bytes
+-- the end of the packet. Read, such a packet is a list of segments, and nothing above this crate knows of entries. How many bytes
 -- an entry has is a parameter, `width`: 2 in this edition of the header. Its marks and its length stand in the first two.
 use Prim.Native.Nat.{ℕ, _+_, _*_, _/_, _%_}
 use mathlib.Core.Bool.{Bool}
@@ -14,18 +14,25 @@ use Rattle.packet.specs.Header.{headerLength, segmentCount}
 abbrev pub entryWidth : ℕ
 entryWidth = 2
 
+-- what B and E are worth in an entry; the length is what stands below E
+abbrev pub bBit : ℕ
+bBit = 32768
+
+abbrev pub eBit : ℕ
+eBit = 16384
+
 -- entry number k, and what an entry says
 abbrev pub entryAt : ℕ → List ℕ → ℕ → ℕ
 entryAt width sub k = be16At sub (headerLength + width * k)
 
 abbrev pub beginsIn : ℕ → Bool
-beginsIn entry = eqb (entry / 32768 % 2) 1
+beginsIn entry = eqb (entry / bBit % 2) 1
 
 abbrev pub endsIn : ℕ → Bool
-endsIn entry = eqb (entry / 16384 % 2) 1
+endsIn entry = eqb (entry / eBit % 2) 1
 
 abbrev pub lengthIn : ℕ → ℕ
-lengthIn entry = entry % 16384
+lengthIn entry = entry % eBit
 
 abbrev pub lengthAt : ℕ → List ℕ → ℕ → ℕ
 lengthAt width sub k = lengthIn (entryAt width sub k)

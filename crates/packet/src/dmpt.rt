@@ -1,4 +1,4 @@
-// The MPEG packets of a D-MPT packet (DEPI I05, section 8.3.1): 188 bytes each, behind the sub-layer header, to the end of the packet.
+// The MPEG packets of a D-MPT packet (DEPI I05, section 8.2): 188 bytes each, behind the sub-layer header, to the end of the packet.
 ghost use mathlib.Core.Path.{_≡_};
 ghost use Prim.Native.Nat.{_+_, _*_, _<_, _≤_};
 ghost use mathlib.Core.Bool.{not};

@@ -1,4 +1,4 @@
-// The fixed part of a packet: the session ID, then the sub-layer header (DEPI I05, section 8.3).
+// The fixed part of a packet: the session ID, then the sub-layer header (DEPI I05, sections 8.1.3, 8.2 and 8.3).
 ghost use mathlib.Core.Path.{_≡_};
 ghost use Prim.Native.Nat.{_+_, _<_, _≤_};
 ghost use lib.ListN.{length};

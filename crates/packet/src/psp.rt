@@ -1,4 +1,4 @@
-// The segments of a PSP packet (DEPI I05, section 8.3.2): one entry for each behind the sub-layer header, then their bodies. An entry's
+// The segments of a PSP packet (DEPI I05, section 8.3): one entry for each behind the sub-layer header, then their bodies. An entry's
 // width is a parameter: its marks and its length stand in the first two bytes.
 ghost use mathlib.Core.Path.{_≡_};
 ghost use Prim.Native.Nat.{_+_, _*_, _<_, _≤_};
@@ -6,13 +6,18 @@ ghost use lib.ListN.{length};
 ghost use Rattle.refusal.specs.Refusal.{first};
 ghost use Rattle.packet.specs.Header.{headerLength, segmentCount};
 ghost use Rattle.octets.specs.Count.{any, sumTo};
-ghost use Rattle.packet.specs.Segments.{entryAt, beginsIn, endsIn, lengthIn, lengthAt, bodyAt};
+ghost use Rattle.packet.specs.Segments.{eBit, entryAt, beginsIn, endsIn, lengthIn, lengthAt, bodyAt};
 ghost use Rattle.packet.specs.Psp.{badEntry, segmentRefusals, pspRefusals};
 use crate::header;
 use flow::Flow;
 
 // The width of an entry in this edition of the header.
 pub const ENTRY_WIDTH: usize = 2;
+
+// What B and E are worth in an entry. The length is what stands below E.
+const B_BIT: u16 = 32768;
+
+const E_BIT: u16 = 16384;
 
 // Entry k, as the number in its first two bytes.
 pub fn entry(sub: &[u8], width: usize, k: usize) -> u16
@@ -25,19 +30,19 @@ pub fn entry(sub: &[u8], width: usize, k: usize) -> u16
 pub fn begins(entry: u16) -> bool
     ensures { λ r. ⌜ r ≡ beginsIn entry ⌝ }
 {
-    entry / 32768 % 2 == 1
+    entry / B_BIT % 2 == 1
 }
 
 pub fn ends(entry: u16) -> bool
     ensures { λ r. ⌜ r ≡ endsIn entry ⌝ }
 {
-    entry / 16384 % 2 == 1
+    entry / E_BIT % 2 == 1
 }
 
 pub fn length_of(entry: u16) -> usize
-    ensures { λ r. ⌜ (r ≡ lengthIn entry) × (r < 16384) ⌝ }
+    ensures { λ r. ⌜ (r ≡ lengthIn entry) × (r < eBit) ⌝ }
 {
-    (entry % 16384) as usize
+    (entry % E_BIT) as usize
 }
 
 // What is wrong with entry k of `count`: no length, no B though it is not the first, or no E though it is not the last.
@@ -57,7 +62,7 @@ pub struct Surveyed {
 // Surveys the first n of `count` entries.
 pub fn survey(sub: &[u8], width: usize, count: usize, n: usize) -> Surveyed
     requires { ⌜ (2 ≤ width) × (n ≤ count) × (count < 128) × (headerLength + width * n ≤ length (now sub)) ⌝ }
-    ensures { λ r. ⌜ (r .total ≡ sumTo (lengthAt width (now (sub .entry))) n) × (r .spoilt ≡ any (λ k. badEntry count k (entryAt width (now (sub .entry)) k)) n) × (r .total ≤ 16383 * n) ⌝ }
+    ensures { λ r. ⌜ (r .total ≡ sumTo (lengthAt width (now (sub .entry))) n) × (r .spoilt ≡ any (λ k. badEntry count k (entryAt width (now (sub .entry)) k)) n) × (r .total ≤ eBit * n) ⌝ }
 {
     let mut total: usize = 0;
     let mut spoilt = false;
@@ -73,7 +78,7 @@ pub fn survey(sub: &[u8], width: usize, count: usize, n: usize) -> Surveyed
 
 // Where the body of segment k starts.
 pub fn body_place(sub: &[u8], width: usize, k: usize) -> usize
-    requires { ⌜ (2 ≤ width) × (k ≤ segmentCount (now sub)) × (headerLength ≤ length (now sub)) × (headerLength + width * segmentCount (now sub) ≤ length (now sub)) ⌝ }
+    requires { ⌜ (2 ≤ width) × (width ≤ 4) × (k ≤ segmentCount (now sub)) × (headerLength + width * segmentCount (now sub) ≤ length (now sub)) ⌝ }
     ensures { λ r. ⌜ r ≡ bodyAt width (now (sub .entry)) k ⌝ }
 {
     let count = header::segment_count(sub);

@@ -1,26 +1,51 @@
--- An order in two stretches, one behind the other: the second decides exactly where the first refuses nothing. A function that
--- judges the first stretch and then the second is right by these laws.
-use Prim.Native.Nat.{ℕ, zero, suc}
-use mathlib.Core.Path.{_≡_, refl}
-use mathlib.Core.Bool.{Bool, true, false, cond}
+-- What an order of refusals says: it gives 0 exactly where no condition holds; and of an order in two stretches, one behind the other,
+-- the second decides exactly where the first refuses nothing. A function that judges stretch after stretch is right by these laws.
+use Prim.Native.Nat.{ℕ}
+use mathlib.Core.Path.{_≡_, refl, sym, _∙_}
+use mathlib.Core.Bool.{Bool, true, false, cond, not, _&&_, true≢false}
 use mathlib.Core.List.{List, [], _∷_, _++_}
-use native.Mathlib.Omega.{arith}
+use lib.Dec.{eqb}
+use borrow.Author.Tests.{eq-eqb}
 use Rattle.refusal.specs.Refusal.{Refusal, _when_, first}
 
--- no line gives 0, which would say that nothing was refused
-abbrev pub Numbered : List Refusal → Type 0
-Numbered [] = Unit {0}
-Numbered (r ∷ rest) = (r .number ≡ 0 → ⊥) × Numbered rest
+-- No line gives 0, which would say that nothing was refused. Of a list that is written out this is `refl`.
+abbrev pub numbered : List Refusal → Bool
+numbered [] = true
+numbered (r ∷ rest) = not (eqb (r .number) 0) && numbered rest
 
-passed-by : (b : Bool) (r : Refusal) (xs ys : List Refusal) → r .applies ≡ b → (r .number ≡ 0 → ⊥) →
-    (first xs ≡ 0 → first (xs ++ ys) ≡ first ys) → cond b (r .number) (first xs) ≡ 0 → cond b (r .number) (first (xs ++ ys)) ≡ first ys
-passed-by true r xs ys e nonzero below z = absurd (nonzero z)
-passed-by false r xs ys e nonzero below z = below z
+and-left : (a b : Bool) → (a && b) ≡ true → a ≡ true
+and-left true b h = refl
+and-left false b h = h
+
+and-right : (a b : Bool) → (a && b) ≡ true → b ≡ true
+and-right true b h = h
+and-right false b h = absurd (true≢false (sym h))
+
+not-zero : (n : ℕ) → not (eqb n 0) ≡ true → n ≡ 0 → ⊥
+not-zero n h z = let e : not (eqb n 0) ≡ false = simp (eq-eqb n 0 z) in true≢false (sym h ∙ e)
+
+-- no condition holds
+abbrev pub NoneApplies : List Refusal → Type 0
+NoneApplies [] = Unit {0}
+NoneApplies (r ∷ rest) = (r .applies ≡ false) × NoneApplies rest
+
+module _ (r : Refusal) (xs : List Refusal) (nonzero : r .number ≡ 0 → ⊥) where
+  head-passed : (b : Bool) → cond b (r .number) (first xs) ≡ 0 → (b ≡ false) × (first xs ≡ 0)
+  head-passed true z = absurd (nonzero z)
+  head-passed false z = (refl, z)
+
+pub none-applies : (xs : List Refusal) → numbered xs ≡ true → first xs ≡ 0 → NoneApplies xs
+none-applies [] n z = tt
+none-applies (r ∷ xs) n z =
+    let h = head-passed r xs (not-zero (r .number) (and-left (not (eqb (r .number) 0)) (numbered xs) n)) (r .applies) z in
+    (h .0, none-applies xs (and-right (not (eqb (r .number) 0)) (numbered xs) n) (h .1))
 
 -- where the first stretch refuses nothing, the second decides
-pub first-passed : (xs ys : List Refusal) → Numbered xs → first xs ≡ 0 → first (xs ++ ys) ≡ first ys
+pub first-passed : (xs ys : List Refusal) → numbered xs ≡ true → first xs ≡ 0 → first (xs ++ ys) ≡ first ys
 first-passed [] ys n z = refl
-first-passed (r ∷ xs) ys n z = passed-by (r .applies) r xs ys refl (n .0) (first-passed xs ys (n .1)) z
+first-passed (r ∷ xs) ys n z =
+    let h = head-passed r xs (not-zero (r .number) (and-left (not (eqb (r .number) 0)) (numbered xs) n)) (r .applies) z in
+    simp (h .0) (first-passed xs ys (and-right (not (eqb (r .number) 0)) (numbered xs) n) (h .1))
 
 stopped-by : (b : Bool) (m : ℕ) (xs ys : List Refusal) → ((first xs ≡ 0 → ⊥) → first (xs ++ ys) ≡ first xs) →
     (cond b m (first xs) ≡ 0 → ⊥) → cond b m (first (xs ++ ys)) ≡ cond b m (first xs)

@@ -3,7 +3,7 @@
 -- with all counts 0 and the table as it was. Neither call is given the holding slice, so neither touches it.
 use Prim.Native.Nat.{ℕ, zero, suc}
 use mathlib.Core.Path.{_≡_}
-use mathlib.Core.Bool.{Bool, _||_}
+use mathlib.Core.Bool.{Bool, not, _||_}
 use mathlib.Core.List.{List, [], _∷_}
 use lib.Dec.{eqb, ltb, leb}
 use lib.ListN.{replicate}
@@ -51,7 +51,7 @@ opened t id asked = openedBy (first (openRefusals t id)) t id asked
 abbrev pub closeRefusals : Table → ℕ → List Refusal
 closeRefusals t id =
     13 when broken t
-    ∷ 25 when (eqb id 0 || leb rows (find t id))
+    ∷ 25 when (not (isOpen t id) || eqb id 0)
     ∷ []
 
 abbrev pub closedBy : ℕ → Table → ℕ → Closing

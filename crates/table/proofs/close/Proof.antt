@@ -1,5 +1,6 @@
 -- `table::close` asks the definition's questions in its order: each return is the definition's case for the tests that led there.
-use borrow.Author.Tests.{eq-eqb, ne-eqb, le-leb, lt-leb}
+use mathlib.Core.Bool.{or-true}
+use borrow.Author.Tests.{eq-eqb, ne-eqb, lt-ltb, le-ltb}
 use Rattle.table.specs.Calls.{closed}
 use borrow.Author.Needs.{needs}
 use Rattle.table.proofs.close.Statement.{statement}
@@ -23,7 +24,7 @@ returns c = simp (← c .before .is-broken .ensures, c .if1 .taken)
 -- src/lib.rt:286:9
 returns-2 : tie.Need-returns-2
 unfolding closed
-returns-2 c = simp (← c .before .before .is-broken .ensures, c .before .if1 .left, eq-eqb _ _ (c .if2 .taken))
+returns-2 c = simp (← c .before .before .is-broken .ensures, c .before .if1 .left, eq-eqb _ _ (c .if2 .taken), or-true)
 
 -- src/lib.rt:292:9
 find-row-requires : tie.Need-find-row-requires
@@ -37,7 +38,7 @@ returns-3 c = simp (
       c .before .before .before .if1 .left,
       ne-eqb _ _ (c .before .before .if2 .left),
       ← c .before .find-row .ensures,
-      le-leb _ _ (c .if3 .taken),
+      le-ltb _ _ (c .if3 .taken),
     )
 
 -- src/lib.rt:300:15
@@ -72,7 +73,7 @@ returns-4 c = simp (
       c .before .before .before .before .before .before .if1 .left,
       ne-eqb _ _ (c .before .before .before .before .before .if2 .left),
       ← c .before .before .before .before .find-row .ensures,
-      lt-leb _ _ (c .before .before .before .if3 .left),
+      lt-ltb _ _ (c .before .before .before .if3 .left),
       c .before .closed-row .ensures,
       c .held-in .ensures,
     )

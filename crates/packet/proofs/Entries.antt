@@ -1,0 +1,59 @@
+-- The segment table: where an entry lies, and the invariant of the loop that surveys it. An entry's width is a number of its own, so
+-- that nothing here changes when another edition of the header brings wider entries.
+use Prim.Native.Nat.{ℕ, zero, suc, _+_, _*_, _<_, _≤_}
+use mathlib.Core.Path.{_≡_, refl, sym, ap, _∙_}
+use mathlib.Core.Bool.{Bool, true, false, _||_}
+use mathlib.Core.List.{List}
+use native.Mathlib.Omega.{arith}
+use native.Mathlib.Nat.{mul-suc, mul-le-mul-left}
+use lib.ListN.{length}
+use Rattle.octets.specs.Count.{any, sumTo}
+use Rattle.octets.proofs.Counts.{any-none, any-more, sum-none, sum-more}
+use Rattle.packet.specs.Header.{headerLength}
+use Rattle.packet.specs.Segments.{eBit, entryAt, lengthIn, lengthAt}
+use Rattle.packet.specs.Psp.{badEntry}
+
+-- entry k ends before entry n begins
+pub entry-before : (width k n : ℕ) → k < n → width * k + width ≤ width * n
+entry-before width k n h =
+    let e : width * suc k ≤ width * n = mul-le-mul-left width h in
+    omega (arith, mul-suc width k)
+
+-- so the first two bytes of entry k lie in a packet that has room for n entries
+pub entry-within : (width k n room : ℕ) → 2 ≤ width → k < n → headerLength + width * n ≤ room → headerLength + width * k + 1 < room
+entry-within width k n room w h r = omega (arith, entry-before width k n h)
+
+-- what the survey of a table has found after k of n entries
+pub record Surveying (width : ℕ) (sub : List ℕ) (count n total : ℕ) (spoilt : Bool) (k : ℕ) : Type 0 where
+  pub within : k ≤ n
+  pub sum : total ≡ sumTo (lengthAt width sub) k
+  pub faults : spoilt ≡ any (λ i. badEntry count i (entryAt width sub i)) k
+  pub small : total ≤ eBit * k
+
+pub survey-begin : (width : ℕ) (sub : List ℕ) (count n : ℕ) → Surveying width sub count n 0 false 0
+survey-begin width sub count n =
+    record {
+      within = omega arith;
+      sum = sym (sum-none (lengthAt width sub));
+      faults = sym (any-none (λ i. badEntry count i (entryAt width sub i)));
+      small = omega arith;
+    }
+
+pub survey-turn : {width : ℕ} {sub : List ℕ} {count n total : ℕ} {spoilt : Bool} {k : ℕ} {entry size : ℕ} {bad : Bool} →
+    Surveying width sub count n total spoilt k → k < n → entry ≡ entryAt width sub k → size ≡ lengthIn entry → size < eBit →
+    bad ≡ badEntry count k entry → Surveying width sub count n (total + size) (spoilt || bad) (k + 1)
+survey-turn {width} {sub} {count} {n} {total} {spoilt} {k} {entry} {size} {bad} s l e z less b =
+    let size-is : size ≡ lengthAt width sub k = z ∙ ap lengthIn e in
+    let bad-is : bad ≡ badEntry count k (entryAt width sub k) = b ∙ ap (badEntry count k) e in
+    record {
+      within = omega arith;
+      sum = rw (sum-more (lengthAt width sub) k, s .sum, size-is) refl;
+      faults = rw (any-more (λ i. badEntry count i (entryAt width sub i)) k, s .faults, bad-is) refl;
+      small = omega (arith, s .small);
+    }
+
+pub survey-end : {width : ℕ} {sub : List ℕ} {count n total : ℕ} {spoilt : Bool} {k : ℕ} →
+    Surveying width sub count n total spoilt k → n ≤ k → Surveying width sub count n total spoilt n
+survey-end {width} {sub} {count} {n} {total} {spoilt} {k} s l =
+    let done : k ≡ n = omega (arith, s .within) in
+    rw done at s

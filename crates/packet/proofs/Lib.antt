@@ -1,0 +1,4 @@
+pub mod Entries
+pub mod Mpegs
+pub mod Passing
+pub mod Orders

@@ -1,0 +1,55 @@
+-- The ways out of the packet check: for each return of the code the line of the order that it answers, with what the code has found as
+-- arguments. A function's own proof then only cites these.
+use Prim.Native.Nat.{ℕ, _+_, _*_, _%_, _<_, _≤_}
+use mathlib.Core.Path.{_≡_, refl, sym, ap, _∙_}
+use mathlib.Core.Bool.{Bool, true, false, cond, not, _&&_}
+use mathlib.Core.List.{List, [], _∷_, _++_}
+use native.Mathlib.Omega.{arith}
+use lib.Dec.{eqb, ltb, leb}
+use lib.ListN.{length}
+use borrow.Author.Tests.{eq-eqb, ne-eqb, le-leb, lt-leb, eqb-true}
+use Rattle.refusal.specs.Refusal.{Refusal, _when_, first}
+use Rattle.refusal.proofs.Laws.{first-passed, first-stopped}
+use Rattle.octets.specs.Count.{any, sumTo}
+use Rattle.packet.specs.Header.{sub, headerLength, segmentCount, beforeSession}
+use Rattle.packet.specs.Segments.{entryWidth, entryAt, lengthAt, bodyAt}
+use Rattle.packet.specs.Psp.{wanted, badEntry, segmentRefusals, pspRefusals}
+use Rattle.packet.specs.Dmpt.{dmptRefusals}
+use Rattle.packet.specs.Check.{kindPsp, kindDmpt, kindUnknown, checkRefusals, check, causeRefusals, segmentCause}
+
+-- Refusals 9 to 11, PSP. `count`, `total` and `spoilt` are what the code has counted.
+module _ (width : ℕ) (sub : List ℕ) (count : ℕ) (counted : count ≡ segmentCount sub) where
+  pub segments-none : count ≡ 0 → 9 ≡ first (segmentRefusals width sub)
+  segments-none z = simp (eq-eqb (segmentCount sub) 0 (sym counted ∙ z))
+
+  module _ (some : count ≡ 0 → ⊥) where
+    misfit : (wanted width sub ≡ length sub → ⊥) → 10 ≡ first (segmentRefusals width sub)
+    misfit w = simp (ne-eqb (segmentCount sub) 0 (λ z. some (counted ∙ z)), ne-eqb (wanted width sub) (length sub) w)
+
+    -- the table itself is cut
+    pub segments-cut : length sub < headerLength + width * count → 10 ≡ first (segmentRefusals width sub)
+    unfolding wanted bodyAt
+    segments-cut h =
+        let e : width * count ≡ width * segmentCount sub = ap (λ (n : ℕ). width * n) counted in
+        misfit (λ w. omega arith)
+
+    module _ (total : ℕ) (summed : total ≡ sumTo (lengthAt width sub) count) where
+      wanted-is : headerLength + width * count + total ≡ wanted width sub
+      unfolding wanted bodyAt
+      wanted-is = rw (summed, counted) refl
+
+      pub segments-misfit : (headerLength + width * count + total ≡ length sub → ⊥) → 10 ≡ first (segmentRefusals width sub)
+      segments-misfit w = misfit (λ e. w (wanted-is ∙ e))
+
+      module _ (fit : headerLength + width * count + total ≡ length sub) (spoilt : Bool)
+          (judged : spoilt ≡ any (λ k. badEntry count k (entryAt width sub k)) count) where
+        by-faults : cond spoilt 11 0 ≡ first (segmentRefusals width sub)
+        by-faults =
+            let f : spoilt ≡ any (λ k. badEntry (segmentCount sub) k (entryAt width sub k)) (segmentCount sub) = judged ∙ ap (λ (n : ℕ). any (λ k. badEntry n k (entryAt width sub k)) n) counted in
+            simp (ne-eqb (segmentCount sub) 0 (λ z. some (counted ∙ z)), eq-eqb (wanted width sub) (length sub) (sym wanted-is ∙ fit), f)
+
+        pub segments-spoilt : spoilt ≡ true → 11 ≡ first (segmentRefusals width sub)
+        segments-spoilt e = sym (ap (λ (b : Bool). cond b 11 0) e) ∙ by-faults
+
+        pub segments-passed : spoilt ≡ false → 0 ≡ first (segmentRefusals width sub)
+        segments-passed e = sym (ap (λ (b : Bool). cond b 11 0) e) ∙ by-faults

@@ -1,0 +1,103 @@
+-- What a packet that is not refused is known to have, one record for each stretch of the orders. The data call and the theorems above
+-- take their bounds from here: a packet that passes is as long as its parts, so every segment lies in it.
+use Prim.Native.Nat.{ℕ, _+_, _-_, _*_, _%_, _<_, _≤_}
+use mathlib.Core.Path.{_≡_, refl, sym, ap, _∙_}
+use mathlib.Core.Bool.{Bool, true, false, not}
+use mathlib.Core.List.{List}
+use native.Mathlib.Omega.{arith}
+use native.Mathlib.Nat.{mul-le-mul}
+use lib.Dec.{eqb, ltb}
+use lib.ListN.{length}
+use borrow.Author.Tests.{ltb-true, ltb-false, eqb-true, eqb-false, not-false}
+use Rattle.refusal.specs.Refusal.{first}
+use Rattle.refusal.proofs.Laws.{none-applies}
+use Rattle.octets.specs.Bytes.{byteAt}
+use Rattle.octets.specs.Count.{any, sumTo}
+use Rattle.octets.proofs.Counts.{none-at, or-false-left, sum-within}
+use Rattle.octets.proofs.Stretches.{length-rest}
+use Rattle.flow.specs.Flow.{topFlow}
+use Rattle.packet.specs.Header.{idLength, sessionId, sub, headerLength, sSet, flowId, segmentCount, notPlain, shortestPacket, longestPacket, beforeSession}
+use Rattle.packet.specs.Segments.{entryAt, beginsIn, endsIn, lengthIn, lengthAt, bodyAt}
+use Rattle.packet.specs.Psp.{wanted, badEntry, pspRefusals}
+use Rattle.packet.specs.Dmpt.{mpegLength, syncByte, carried, mpegCount, mpegAt, dmptRefusals}
+
+-- Refusals 2, 3 and 4 passed.
+pub record EarlyPassed (lead : ℕ) (packet : List ℕ) : Type 0 where
+  pub not-short : lead + shortestPacket ≤ length packet
+  pub not-long : length packet ≤ lead + longestPacket
+  pub no-control : sessionId lead packet ≡ 0 → ⊥
+
+pub early-passed : (lead : ℕ) (packet : List ℕ) → first (beforeSession lead packet) ≡ 0 → EarlyPassed lead packet
+early-passed lead packet z =
+    let n = none-applies (beforeSession lead packet) refl z in
+    record { not-short = ltb-false _ _ (n .0); not-long = ltb-false _ _ (n .1 .0); no-control = eqb-false _ _ (n .1 .1 .0) }
+
+-- what follows the session ID then has a whole header
+pub sub-length : (lead : ℕ) (packet : List ℕ) → lead + shortestPacket ≤ length packet → length (sub lead packet) + (lead + idLength) ≡ length packet
+sub-length lead packet h = omega (arith, length-rest packet (lead + idLength))
+
+pub sub-whole : (lead : ℕ) (packet : List ℕ) → lead + shortestPacket ≤ length packet → headerLength ≤ length (sub lead packet)
+sub-whole lead packet h = omega (arith, sub-length lead packet h)
+
+-- Refusals 6 to 11 passed, PSP.
+pub record PspPassed (width : ℕ) (sub : List ℕ) : Type 0 where
+  pub plain : notPlain sub ≡ false
+  pub in-row : flowId sub ≤ topFlow
+  pub counted : sSet sub ≡ true
+  pub some : segmentCount sub ≡ 0 → ⊥
+  pub fills : wanted width sub ≡ length sub
+  pub sound : any (λ k. badEntry (segmentCount sub) k (entryAt width sub k)) (segmentCount sub) ≡ false
+
+pub psp-passed : (width : ℕ) (sub : List ℕ) → first (pspRefusals width sub) ≡ 0 → PspPassed width sub
+psp-passed width sub z =
+    let n = none-applies (pspRefusals width sub) refl z in
+    record {
+      plain = n .0;
+      in-row = ltb-false _ _ (n .1 .0);
+      counted = not-false _ (n .1 .1 .0);
+      some = eqb-false _ _ (n .1 .1 .1 .0);
+      fills = eqb-true _ _ (not-false _ (n .1 .1 .1 .1 .0));
+      sound = n .1 .1 .1 .1 .1 .0;
+    }
+
+module _ (width : ℕ) (sub : List ℕ) (p : PspPassed width sub) where
+  -- the entries lie in the packet
+  pub entries-inside : headerLength + width * segmentCount sub ≤ length sub
+  unfolding wanted bodyAt
+  entries-inside = omega (arith, p .fills)
+
+  module _ (k : ℕ) (there : k < segmentCount sub) where
+    -- and so does each body
+    pub body-inside : bodyAt width sub k + lengthAt width sub k ≤ length sub
+    unfolding wanted bodyAt
+    body-inside = omega (arith, p .fills, sum-within (lengthAt width sub) k (segmentCount sub) there)
+
+    pub entry-good : badEntry (segmentCount sub) k (entryAt width sub k) ≡ false
+    entry-good = none-at (λ k. badEntry (segmentCount sub) k (entryAt width sub k)) (segmentCount sub) k (p .sound) there
+
+    -- no segment is empty
+    pub body-some : lengthAt width sub k ≡ 0 → ⊥
+    body-some = eqb-false _ _ (or-false-left _ _ (or-false-left _ _ entry-good))
+
+-- Refusals 6 to 11 passed, D-MPT.
+pub record DmptPassed (sub : List ℕ) : Type 0 where
+  pub plain : notPlain sub ≡ false
+  pub only-flow : flowId sub ≡ 0
+  pub some : carried sub ≡ 0 → ⊥
+  pub whole : carried sub % mpegLength ≡ 0
+  pub synced : any (λ k. not (eqb (byteAt (mpegAt sub k) 0) syncByte)) (mpegCount sub) ≡ false
+
+pub dmpt-passed : (sub : List ℕ) → first (dmptRefusals sub) ≡ 0 → DmptPassed sub
+dmpt-passed sub z =
+    let n = none-applies (dmptRefusals sub) refl z in
+    record {
+      plain = n .0;
+      only-flow = eqb-true _ _ (not-false _ (n .1 .0));
+      some = eqb-false _ _ (n .1 .1 .0);
+      whole = eqb-true _ _ (not-false _ (n .1 .1 .1 .0));
+      synced = n .1 .1 .1 .1 .0;
+    }
+
+-- A table of 127 entries at most, each of 4 bytes at most, is small.
+pub table-small : (width count : ℕ) → width ≤ 4 → count < 128 → width * count ≤ 512
+table-small width count w c = let h : width * count ≤ 4 * 128 = mul-le-mul w (let l : count ≤ 128 = omega arith in l) in h

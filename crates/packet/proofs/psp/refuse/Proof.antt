@@ -1,0 +1,54 @@
+use borrow.Author.Needs.{needs}
+use Rattle.packet.proofs.psp.refuse.Statement.{statement}
+use Rattle.packet.proofs.psp.refuse.Tie as tie
+use Rattle.packet.proofs.psp.refuse.Reads as reads
+use Rattle.packet.proofs.psp.refuse.Lts as lts
+use Rattle.packet.proofs.header.flow_id.Reads as flow-id-reads
+use Rattle.packet.proofs.header.not_plain.Reads as not-plain-reads
+use Rattle.packet.proofs.header.s_set.Reads as s-set-reads
+use Rattle.packet.proofs.psp.refuse_segments.Reads as refuse-segments-reads
+
+-- src/psp.rt:117:8
+not-plain-requires : tie.Need-not-plain-requires
+not-plain-requires c κs = search needs
+
+-- src/psp.rt:118:9
+returns : tie.Need-returns
+returns c = ?
+
+-- src/psp.rt:120:20
+flow-id-requires : tie.Need-flow-id-requires
+flow-id-requires c κs = search needs
+
+-- src/psp.rt:121:9
+returns-2 : tie.Need-returns-2
+returns-2 c = ?
+
+-- src/psp.rt:123:9
+s-set-requires : tie.Need-s-set-requires
+s-set-requires c κs = search needs
+
+-- src/psp.rt:124:9
+returns-3 : tie.Need-returns-3
+returns-3 c = ?
+
+-- src/psp.rt:126:5
+refuse-segments-requires : tie.Need-refuse-segments-requires
+refuse-segments-requires c κs = search needs
+
+-- src/psp.rt:113:1
+returns-4 : tie.Need-returns-4
+returns-4 c = ?
+
+pub refuse-spec : {M : Type 1} → statement M
+refuse-spec =
+    tie.close
+    (tie.spec
+    not-plain-requires
+    returns
+    flow-id-requires
+    returns-2
+    s-set-requires
+    returns-3
+    refuse-segments-requires
+    returns-4)

@@ -1,0 +1,353 @@
+-- Opening, closing and putting a flow back keep a table unbroken: each of them replaces at most one row, the new row is sound by
+-- itself, and no other row has its ID open, so rule 13 finds nothing that it had not found before.
+use Prim.Native.Nat.{ℕ, zero, suc, _<_, _≤_}
+use mathlib.Core.Path.{_≡_, refl, sym, ap, _∙_}
+use mathlib.Core.Bool.{Bool, true, false, not, _&&_, _||_, and-comm, true≢false}
+use mathlib.Core.Logic.{⊎-elim}
+use mathlib.Core.List.{List, [], _∷_}
+use native.Mathlib.Omega.{arith}
+use borrow.Author.Tests.{eqb-true, eqb-false, eq-eqb, ne-eqb, ltb-true, ltb-false, leb-false, le-ltb, lt-leb, not-false}
+use lib.Dec.{eqb, ltb}
+use lib.ListN.{length, getD, set, length-set}
+use lib.Seq.{getD-set-same}
+use Rattle.octets.specs.Count.{any}
+use Rattle.octets.proofs.Counts.{true-or-false, or-false-left, or-false-right, any-at, none-at, none-all, none-least}
+use Rattle.octets.proofs.Counts.{least-none, least-at, least-below, least-passes}
+use Rattle.refusal.specs.Refusal.{first}
+use Rattle.refusal.proofs.Laws.{none-applies}
+use Rattle.flow.specs.declared.Flow.{Flow}
+use Rattle.flow.specs.Flow.{fresh, flows, longest}
+use Rattle.table.specs.declared.Mode.{Mode}
+use Rattle.table.specs.declared.Mode.the-variants as mode
+use Rattle.table.specs.declared.Row.{Row}
+use Rattle.table.specs.declared.Table.{Table}
+use Rattle.table.specs.Rows.{rows, isClosed, isDmpt, rowAt, closedRow, empty, openIn, find, freeIn, lowestFree, withRow, withFlow}
+use Rattle.table.specs.Broken.{flowBroken, idBroken, flowBrokenIn, rowBroken, sameOpen, openTwice, broken}
+use Rattle.table.specs.Calls.{isOpen, freshRow, openRefusals, openedBy, opened, closeRefusals, closedBy, closed}
+
+-- One element of a list replaced. Past the end nothing is replaced, and what holds of the old elements holds still: this is why
+-- hardly a law here asks how many rows or flows the lists have.
+after-set : {A : Type 0} (P : A → Type 0) (l : List A) (i : ℕ) (a d : A) (j : ℕ) → (j ≡ i → P a) → P (getD l j d) →
+    P (getD (set l i a) j d)
+after-set P [] i a d j new old = old
+after-set P (x ∷ l) zero a d zero new old = new refl
+after-set P (x ∷ l) zero a d (suc j) new old = old
+after-set P (x ∷ l) (suc i) a d zero new old = old
+after-set P (x ∷ l) (suc i) a d (suc j) new old = after-set P l i a d j (λ e. new (ap suc e)) old
+
+after-row : (P : Row → Type 0) (t : Table) (i : ℕ) (row : Row) (j : ℕ) → (j ≡ i → P row) → P (rowAt t j) →
+    P (rowAt (withRow t i row) j)
+after-row P t i row j new old = after-set P (t .rows) i row _ j new old
+
+-- at the very place stands the new element, or the default past the end
+set-there : {A : Type 0} (P : A → Type 0) (l : List A) (i : ℕ) (a d : A) → P a → P d → P (getD (set l i a) i d)
+set-there P [] i a d new past = past
+set-there P (x ∷ l) zero a d new past = new
+set-there P (x ∷ l) (suc i) a d new past = set-there P l i a d new past
+
+-- Rule 13 holds a row against the earlier rows only; a replaced row has later ones too.
+eqb-sym : (a b : ℕ) → eqb a b ≡ eqb b a
+eqb-sym a b =
+    ⊎-elim
+    (λ (h : eqb a b ≡ true). h ∙ sym (eq-eqb b a (sym (eqb-true a b h))))
+    (λ (h : eqb a b ≡ false). h ∙ sym (ne-eqb b a (λ e. eqb-false a b h (sym e))))
+    (true-or-false (eqb a b))
+
+same-sym : (a b : Row) → sameOpen a b ≡ sameOpen b a
+same-sym a b =
+    ap (λ (z : Bool). z && eqb (a .id) (b .id)) (and-comm (not (isClosed (a .kind))) (not (isClosed (b .kind))))
+    ∙ ap (λ (z : Bool). not (isClosed (b .kind)) && not (isClosed (a .kind)) && z) (eqb-sym (a .id) (b .id))
+
+-- What it is not to be broken: every row is sound by itself, and no two rows have one ID open.
+row-clear : (t : Table) → broken t ≡ false → (i : ℕ) → i < rows → (rowBroken (rowAt t i) || openTwice t i) ≡ false
+unfolding broken
+row-clear t whole i l = none-at (λ i. rowBroken (rowAt t i) || openTwice t i) rows i whole l
+
+pub rows-sound : (t : Table) → broken t ≡ false → (i : ℕ) → i < rows → rowBroken (rowAt t i) ≡ false
+rows-sound t whole i l = or-false-left (rowBroken (rowAt t i)) (openTwice t i) (row-clear t whole i l)
+
+apart-below : (t : Table) → broken t ≡ false → (i j : ℕ) → i < rows → j < i → sameOpen (rowAt t i) (rowAt t j) ≡ false
+apart-below t whole i j l m =
+    none-at (λ j. sameOpen (rowAt t i) (rowAt t j)) i j
+    (or-false-right (rowBroken (rowAt t i)) (openTwice t i) (row-clear t whole i l)) m
+
+pub rows-apart : (t : Table) → broken t ≡ false → (i j : ℕ) → i < rows → j < rows → (j ≡ i → ⊥) →
+    sameOpen (rowAt t i) (rowAt t j) ≡ false
+rows-apart t whole i j l m other =
+    ⊎-elim
+    (λ (b : ltb j i ≡ true). apart-below t whole i j l (ltb-true j i b))
+    (λ (b : ltb j i ≡ false). same-sym (rowAt t i) (rowAt t j) ∙ apart-below t whole j i m (omega (arith, ltb-false j i b)))
+    (true-or-false (ltb j i))
+
+pub unbroken : (t : Table) → ((i : ℕ) → i < rows → rowBroken (rowAt t i) ≡ false) →
+    ((i j : ℕ) → i < rows → j < rows → (j ≡ i → ⊥) → sameOpen (rowAt t i) (rowAt t j) ≡ false) → broken t ≡ false
+unfolding broken
+unbroken t sound apart =
+    none-all (λ i. rowBroken (rowAt t i) || openTwice t i) rows
+    (λ i l. simp (sound i l, none-all (λ j. sameOpen (rowAt t i) (rowAt t j)) i (λ j m. apart i j l (omega arith) (λ e. omega arith))))
+
+pub empty-unbroken : broken empty ≡ false
+unfolding broken any
+empty-unbroken = refl
+
+-- The step that every call takes: one row replaced.
+pub row-keeps : (t : Table) (i : ℕ) (row : Row) → broken t ≡ false → rowBroken row ≡ false →
+    ((j : ℕ) → j < rows → (j ≡ i → ⊥) → sameOpen row (rowAt t j) ≡ false) → broken (withRow t i row) ≡ false
+row-keeps t i row whole sound alone =
+    unbroken (withRow t i row)
+    (λ j l. after-row (λ r. rowBroken r ≡ false) t i row j (λ e. sound) (rows-sound t whole j l))
+    (λ j k l m other.
+    after-row (λ r. sameOpen r (rowAt (withRow t i row) k) ≡ false) t i row j
+    (λ e. after-row (λ r. sameOpen row r ≡ false) t i row k (λ d. absurd (other (d ∙ sym e))) (alone k m (λ d. other (d ∙ sym e))))
+    (after-row (λ r. sameOpen (rowAt t j) r ≡ false) t i row k
+    (λ d. same-sym (rowAt t j) row ∙ alone j l (λ e. other (d ∙ sym e)))
+    (rows-apart t whole j k l m other)))
+
+-- Opening: the ID is open nowhere, so that the fresh row is alone with it.
+record Opens (t : Table) (id : ℕ) : Type 0 where
+  whole : broken t ≡ false
+  named : eqb id 0 ≡ false
+  absent : any (openIn t id) rows ≡ false
+  room : lowestFree t < rows
+
+opens : (t : Table) (id : ℕ) → first (openRefusals t id) ≡ 0 → Opens t id
+opens t id e =
+    let passed = none-applies (openRefusals t id) refl e in
+    record {
+      whole = passed .0;
+      named = passed .1 .0;
+      absent = none-least (openIn t id) rows (ltb-false (find t id) rows (passed .1 .1 .0));
+      room = leb-false rows (lowestFree t) (passed .1 .1 .1 .0);
+    }
+
+fresh-sound : (id : ℕ) (asked : Mode) → eqb id 0 ≡ false → rowBroken (freshRow id asked) ≡ false
+unfolding any
+fresh-sound id mode.Psp named = simp named
+fresh-sound id mode.Dmpt named = simp named
+
+fresh-alone : (t : Table) (id : ℕ) (asked : Mode) → any (openIn t id) rows ≡ false → (j : ℕ) → j < rows →
+    sameOpen (freshRow id asked) (rowAt t j) ≡ false
+fresh-alone t id mode.Psp absent j l = simp (eqb-sym id (rowAt t j .id)) (none-at (openIn t id) rows j absent l)
+fresh-alone t id mode.Dmpt absent j l = simp (eqb-sym id (rowAt t j .id)) (none-at (openIn t id) rows j absent l)
+
+fresh-keeps : (t : Table) (id : ℕ) (asked : Mode) → Opens t id → broken (withRow t (lowestFree t) (freshRow id asked)) ≡ false
+fresh-keeps t id asked o =
+    row-keeps t (lowestFree t) (freshRow id asked) (o .whole) (fresh-sound id asked (o .named))
+    (λ j l other. fresh-alone t id asked (o .absent) j l)
+
+opened-by-keeps : (c : ℕ) (t : Table) (id : ℕ) (asked : Mode) → first (openRefusals t id) ≡ c → broken t ≡ false →
+    broken (openedBy c t id asked .table) ≡ false
+opened-by-keeps zero t id asked e whole = fresh-keeps t id asked (opens t id e)
+opened-by-keeps (suc c) t id asked e whole = whole
+
+pub opened-keeps : (t : Table) (id : ℕ) (asked : Mode) → broken t ≡ false → broken (opened t id asked .table) ≡ false
+unfolding opened
+opened-keeps t id asked whole = opened-by-keeps (first (openRefusals t id)) t id asked refl whole
+
+-- Closing: a closed row is never open with another.
+emptied-keeps : (t : Table) (i : ℕ) → broken t ≡ false → broken (withRow t i closedRow) ≡ false
+unfolding any
+emptied-keeps t i whole = row-keeps t i closedRow whole refl (λ j l other. refl)
+
+closed-by-keeps : (c : ℕ) (t : Table) (id : ℕ) → broken t ≡ false → broken (closedBy c t id .table) ≡ false
+closed-by-keeps zero t id whole = emptied-keeps t (find t id) whole
+closed-by-keeps (suc c) t id whole = whole
+
+pub closed-keeps : (t : Table) (id : ℕ) → broken t ≡ false → broken (closed t id .table) ≡ false
+unfolding closed
+closed-keeps t id whole = closed-by-keeps (first (closeRefusals t id)) t id whole
+
+-- Putting a flow back: the row keeps its ID and its kind, so it is as alone as it was.
+abbrev rowWith : Row → ℕ → Flow → Row
+rowWith row k f = record { id = row .id; kind = row .kind; flows = set (row .flows) k f }
+
+flow-sound : (row : Row) (k : ℕ) (f : Flow) → rowBroken row ≡ false →
+    flowBroken (isClosed (row .kind)) (isDmpt (row .kind)) k f ≡ false → rowBroken (rowWith row k f) ≡ false
+flow-sound row k f sound good =
+    simp (
+      or-false-left (idBroken row) (any (flowBrokenIn row) flows) sound,
+      none-all (flowBrokenIn (rowWith row k f)) flows each,
+    )
+  where
+    each : (j : ℕ) → j < flows → flowBrokenIn (rowWith row k f) j ≡ false
+    each j l =
+        after-set (λ g. flowBroken (isClosed (row .kind)) (isDmpt (row .kind)) j g ≡ false) (row .flows) k f fresh j
+        (λ e. rw e good)
+        (none-at (flowBrokenIn row) flows j (or-false-right (idBroken row) (any (flowBrokenIn row) flows) sound) l)
+
+pub flow-keeps : (t : Table) (i k : ℕ) (f : Flow) → broken t ≡ false → i < rows →
+    flowBroken (isClosed (rowAt t i .kind)) (isDmpt (rowAt t i .kind)) k f ≡ false → broken (withFlow t i k f) ≡ false
+flow-keeps t i k f whole l good =
+    row-keeps t i (rowWith (rowAt t i) k f) whole
+    (flow-sound (rowAt t i) k f (rows-sound t whole i l) good) (λ j m other. rows-apart t whole i j l m other)
+
+accepted-sound : (dmpt : Bool) (k : ℕ) (f : Flow) → f .heard ≡ true → f .held ≤ longest →
+    (dmpt ≡ true → (k ≡ 0) × (f .held ≡ 0)) → flowBroken false dmpt k f ≡ false
+accepted-sound false k f heard fits bare = simp (heard, le-ltb longest (f .held) fits)
+accepted-sound true k f heard fits bare =
+    simp (heard, le-ltb longest (f .held) fits, eq-eqb k 0 (bare refl .0), eq-eqb (f .held) 0 (bare refl .1))
+
+-- what a flow that took a number is put back as
+pub accepted-keeps : (t : Table) (i k : ℕ) (f : Flow) → broken t ≡ false → i < rows → isClosed (rowAt t i .kind) ≡ false →
+    f .heard ≡ true → f .held ≤ longest → (isDmpt (rowAt t i .kind) ≡ true → (k ≡ 0) × (f .held ≡ 0)) →
+    broken (withFlow t i k f) ≡ false
+accepted-keeps t i k f whole l live heard fits bare =
+    flow-keeps t i k f whole l (rw live (accepted-sound (isDmpt (rowAt t i .kind)) k f heard fits bare))
+
+-- A call that is refused leaves the table as it was, and drops nothing.
+opened-by-refused : (c : ℕ) (t : Table) (id : ℕ) (asked : Mode) → (openedBy c t id asked .code ≡ 0 → ⊥) →
+    openedBy c t id asked .table ≡ t
+opened-by-refused zero t id asked refused = absurd (refused refl)
+opened-by-refused (suc c) t id asked refused = refl
+
+pub refused-keeps : (t : Table) (id : ℕ) (asked : Mode) → (opened t id asked .code ≡ 0 → ⊥) → opened t id asked .table ≡ t
+unfolding opened
+refused-keeps t id asked refused = opened-by-refused (first (openRefusals t id)) t id asked refused
+
+closed-by-refused : (c : ℕ) (t : Table) (id : ℕ) → (closedBy c t id .code ≡ 0 → ⊥) →
+    (closedBy c t id .table ≡ t) × (closedBy c t id .dropped ≡ 0)
+closed-by-refused zero t id refused = absurd (refused refl)
+closed-by-refused (suc c) t id refused = (refl, refl)
+
+pub refused-close-keeps : (t : Table) (id : ℕ) → (closed t id .code ≡ 0 → ⊥) →
+    (closed t id .table ≡ t) × (closed t id .dropped ≡ 0)
+unfolding closed
+refused-close-keeps t id refused = closed-by-refused (first (closeRefusals t id)) t id refused
+
+-- The answered number is that of the order, and 0 comes with the replaced row.
+opened-by-code : (c : ℕ) (t : Table) (id : ℕ) (asked : Mode) → openedBy c t id asked .code ≡ c
+opened-by-code zero t id asked = refl
+opened-by-code (suc c) t id asked = refl
+
+pub opened-code : (t : Table) (id : ℕ) (asked : Mode) → opened t id asked .code ≡ first (openRefusals t id)
+unfolding opened
+opened-code t id asked = opened-by-code (first (openRefusals t id)) t id asked
+
+abbrev afterOpen : Table → ℕ → Mode → Table
+afterOpen t id asked = withRow t (lowestFree t) (freshRow id asked)
+
+opened-table : (t : Table) (id : ℕ) (asked : Mode) → opened t id asked .code ≡ 0 → opened t id asked .table ≡ afterOpen t id asked
+unfolding opened
+opened-table t id asked z = rw (sym (opened-by-code (first (openRefusals t id)) t id asked) ∙ z)
+
+closed-by-code : (c : ℕ) (t : Table) (id : ℕ) → closedBy c t id .code ≡ c
+closed-by-code zero t id = refl
+closed-by-code (suc c) t id = refl
+
+pub closed-code : (t : Table) (id : ℕ) → closed t id .code ≡ first (closeRefusals t id)
+unfolding closed
+closed-code t id = closed-by-code (first (closeRefusals t id)) t id
+
+abbrev afterClose : Table → ℕ → Table
+afterClose t id = withRow t (find t id) closedRow
+
+closed-table : (t : Table) (id : ℕ) → closed t id .code ≡ 0 → closed t id .table ≡ afterClose t id
+unfolding closed
+closed-table t id z = rw (sym (closed-by-code (first (closeRefusals t id)) t id) ∙ z)
+
+-- Where an opened session is found: in its fresh row, for it was open nowhere else. Here the length counts, since in a shorter
+-- table the lowest free row may lie past the end.
+abbrev opensAs : ℕ → Row → Bool
+opensAs id row = not (isClosed (row .kind)) && eqb (row .id) id
+
+fresh-open : (id : ℕ) (asked : Mode) → opensAs id (freshRow id asked) ≡ true
+fresh-open id mode.Psp = eq-eqb id id refl
+fresh-open id mode.Dmpt = eq-eqb id id refl
+
+fresh-at : (t : Table) (id : ℕ) (asked : Mode) → length (t .rows) ≡ rows → Opens t id →
+    rowAt (afterOpen t id asked) (lowestFree t) ≡ freshRow id asked
+fresh-at t id asked six o = getD-set-same (t .rows) (lowestFree t) (freshRow id asked) _ (omega (arith, o .room))
+
+fresh-first : (t : Table) (id : ℕ) (asked : Mode) → Opens t id → any (openIn (afterOpen t id asked) id) (lowestFree t) ≡ false
+fresh-first t id asked o =
+    none-all (openIn (afterOpen t id asked) id) (lowestFree t)
+    (λ j l.
+    after-row (λ r. opensAs id r ≡ false) t (lowestFree t) (freshRow id asked) j
+    (λ e. absurd (below j l e))
+    (none-at (openIn t id) rows j (o .absent) (omega (arith, o .room))))
+  where
+    below : (j : ℕ) → j < lowestFree t → j ≡ lowestFree t → ⊥
+    below j l e = omega arith
+
+fresh-found : (t : Table) (id : ℕ) (asked : Mode) → length (t .rows) ≡ rows → Opens t id →
+    find (afterOpen t id asked) id ≡ lowestFree t
+fresh-found t id asked six o =
+    least-at (openIn (afterOpen t id asked) id) rows (lowestFree t) (fresh-first t id asked o)
+    (ap (opensAs id) (fresh-at t id asked six o) ∙ fresh-open id asked) (o .room)
+
+pub opened-there : (t : Table) (id : ℕ) (asked : Mode) → length (t .rows) ≡ rows → opened t id asked .code ≡ 0 →
+    (find (opened t id asked .table) id ≡ lowestFree t) × (rowAt (opened t id asked .table) (lowestFree t) ≡ freshRow id asked)
+opened-there t id asked six z =
+    let o = opens t id (sym (opened-code t id asked) ∙ z) in
+    rw (opened-table t id asked z) (fresh-found t id asked six o, fresh-at t id asked six o)
+
+-- A closed session can be opened again: the unbroken table had it open in one row only, and that row is free now.
+record Closes (t : Table) (id : ℕ) : Type 0 where
+  whole : broken t ≡ false
+  named : eqb id 0 ≡ false
+  there : find t id < rows
+
+closes : (t : Table) (id : ℕ) → first (closeRefusals t id) ≡ 0 → Closes t id
+closes t id e =
+    let passed = none-applies (closeRefusals t id) refl e in
+    record {
+      whole = passed .0;
+      named = or-false-right (not (isOpen t id)) (eqb id 0) (passed .1 .0);
+      there = ltb-true (find t id) rows (not-false (isOpen t id) (or-false-left (not (isOpen t id)) (eqb id 0) (passed .1 .0)));
+    }
+
+not-both : (a b : Bool) (m n id : ℕ) → (a && eqb m id) ≡ true → (a && b && eqb m n) ≡ false → (b && eqb n id) ≡ false
+not-both true b m n id p q = rw (eqb-sym n id, ← eqb-true m id p) q
+not-both false b m n id p q = absurd (true≢false (sym p))
+
+only-there : (t : Table) (id : ℕ) → Closes t id → (j : ℕ) → j < rows → (j ≡ find t id → ⊥) → openIn t id j ≡ false
+only-there t id c j l other =
+    not-both (not (isClosed (rowAt t (find t id) .kind))) (not (isClosed (rowAt t j .kind))) (rowAt t (find t id) .id) (rowAt t j .id) id
+    (least-passes (openIn t id) rows (c .there)) (rows-apart t (c .whole) (find t id) j (c .there) l other)
+
+closed-absent : (t : Table) (id : ℕ) → Closes t id → any (openIn (afterClose t id) id) rows ≡ false
+closed-absent t id c =
+    none-all (openIn (afterClose t id) id) rows
+    (λ j l.
+    ⊎-elim
+    (λ (h : eqb j (find t id) ≡ true).
+    rw (eqb-true j (find t id) h) (set-there (λ r. opensAs id r ≡ false) (t .rows) (find t id) closedRow _ refl refl))
+    (λ (h : eqb j (find t id) ≡ false).
+    after-row (λ r. opensAs id r ≡ false) t (find t id) closedRow j (λ e. refl) (only-there t id c j l (eqb-false j (find t id) h)))
+    (true-or-false (eqb j (find t id))))
+
+closed-room : (t : Table) (id : ℕ) → Closes t id → lowestFree (afterClose t id) < rows
+closed-room t id c =
+    least-below (freeIn (afterClose t id)) rows
+    (any-at (freeIn (afterClose t id)) rows (find t id)
+    (set-there (λ r. isClosed (r .kind) ≡ true) (t .rows) (find t id) closedRow _ refl refl) (c .there))
+
+closed-opens : (t : Table) (id : ℕ) → Closes t id → Opens (afterClose t id) id
+closed-opens t id c =
+    record {
+      whole = emptied-keeps t (find t id) (c .whole);
+      named = c .named;
+      absent = closed-absent t id c;
+      room = closed-room t id c;
+    }
+
+none-given : (t : Table) (id : ℕ) → Opens t id → first (openRefusals t id) ≡ 0
+none-given t id o =
+    let nowhere : find t id ≡ rows = least-none (openIn t id) rows (o .absent) in
+    simp (o .whole, o .named, le-ltb (find t id) rows (omega arith), lt-leb rows (lowestFree t) (o .room))
+
+pub reopens : (t : Table) (id : ℕ) (asked : Mode) → closed t id .code ≡ 0 → opened (closed t id .table) id asked .code ≡ 0
+reopens t id asked z =
+    let c = closes t id (sym (closed-code t id) ∙ z) in
+    rw (closed-table t id z) (opened-code (afterClose t id) id asked ∙ none-given (afterClose t id) id (closed-opens t id c))
+
+closed-length : (t : Table) (id : ℕ) → closed t id .code ≡ 0 → length (closed t id .table .rows) ≡ length (t .rows)
+closed-length t id z = rw (closed-table t id z) (length-set (t .rows) (find t id) closedRow)
+
+-- .. and it starts fresh
+pub reopens-fresh : (t : Table) (id : ℕ) (asked : Mode) → length (t .rows) ≡ rows → closed t id .code ≡ 0 →
+    let after = opened (closed t id .table) id asked .table in
+    rowAt after (find after id) ≡ freshRow id asked
+reopens-fresh t id asked six z =
+    let there = opened-there (closed t id .table) id asked (closed-length t id z ∙ six) (reopens t id asked z) in
+    rw (there .0) (there .1)
