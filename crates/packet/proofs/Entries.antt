@@ -23,6 +23,12 @@ entry-before width k n h =
 pub entry-within : (width k n room : ℕ) → 2 ≤ width → k < n → headerLength + width * n ≤ room → headerLength + width * k + 1 < room
 entry-within width k n room w h r = omega (arith, entry-before width k n h)
 
+-- where n entries fit, fewer do
+pub fewer-entries : (width k n room : ℕ) → k ≤ n → headerLength + width * n ≤ room → headerLength + width * k ≤ room
+fewer-entries width k n room h r =
+    let e : width * k ≤ width * n = mul-le-mul-left width h in
+    omega arith
+
 -- what the survey of a table has found after k of n entries
 pub record Surveying (width : ℕ) (sub : List ℕ) (count n total : ℕ) (spoilt : Bool) (k : ℕ) : Type 0 where
   pub within : k ≤ n

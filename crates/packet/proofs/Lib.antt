@@ -2,3 +2,4 @@ pub mod Entries
 pub mod Mpegs
 pub mod Passing
 pub mod Orders
+pub mod Asked

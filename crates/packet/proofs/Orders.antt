@@ -53,3 +53,52 @@ module _ (width : ℕ) (sub : List ℕ) (count : ℕ) (counted : count ≡ segme
 
         pub segments-passed : spoilt ≡ false → 0 ≡ first (segmentRefusals width sub)
         segments-passed e = sym (ap (λ (b : Bool). cond b 11 0) e) ∙ by-faults
+
+-- The packet check. `early` is what refusals 2 to 4 answered.
+module _ (lead kind : ℕ) (packet : List ℕ) where
+  pub check-unknown : kindUnknown kind ≡ true → 24 ≡ check lead kind packet
+  unfolding check checkRefusals
+  check-unknown u = simp u
+
+  module _ (known : kindUnknown kind ≡ false) (early : ℕ) (judged : early ≡ first (beforeSession lead packet)) where
+    pub check-early : (early ≡ 0 → ⊥) → early ≡ check lead kind packet
+    unfolding check checkRefusals
+    check-early s =
+        simp known
+        (judged
+        ∙ sym (first-stopped (beforeSession lead packet)
+        (cond (eqb kind kindPsp) (pspRefusals entryWidth (sub lead packet)) (dmptRefusals (sub lead packet)))
+        (λ z. s (judged ∙ z))))
+
+    late-part : early ≡ 0 → check lead kind packet ≡ first (cond (eqb kind kindPsp) (pspRefusals entryWidth (sub lead packet)) (dmptRefusals (sub lead packet)))
+    unfolding check checkRefusals
+    late-part z =
+        simp known
+        (first-passed (beforeSession lead packet)
+        (cond (eqb kind kindPsp) (pspRefusals entryWidth (sub lead packet)) (dmptRefusals (sub lead packet)))
+        refl (sym judged ∙ z))
+
+    pub check-psp : early ≡ 0 → kind ≡ kindPsp → (r : ℕ) → r ≡ first (pspRefusals entryWidth (sub lead packet)) → r ≡ check lead kind packet
+    check-psp z e r h = h ∙ sym (late-part z ∙ simp (eq-eqb kind kindPsp e))
+
+    pub check-dmpt : early ≡ 0 → (kind ≡ kindPsp → ⊥) → (r : ℕ) → r ≡ first (dmptRefusals (sub lead packet)) → r ≡ check lead kind packet
+    check-dmpt z e r h = h ∙ sym (late-part z ∙ simp (ne-eqb kind kindPsp e))
+
+-- The cause of a segment's refusal. `refused` is what the PSP check answered.
+module _ (lead : ℕ) (packet : List ℕ) (k refused : ℕ) (judged : refused ≡ check lead kindPsp packet) where
+  pub cause-stopped : (refused ≡ 0 → ⊥) → refused ≡ segmentCause lead packet k
+  unfolding segmentCause causeRefusals check
+  cause-stopped s =
+      judged
+      ∙ sym (first-stopped (checkRefusals lead kindPsp packet) (14 when leb (segmentCount (sub lead packet)) k ∷ []) (λ z. s (judged ∙ z)))
+
+  module _ (passed : refused ≡ 0) where
+    last-line : segmentCause lead packet k ≡ cond (leb (segmentCount (sub lead packet)) k) 14 0
+    unfolding segmentCause causeRefusals check checkRefusals
+    last-line = first-passed (checkRefusals lead kindPsp packet) (14 when leb (segmentCount (sub lead packet)) k ∷ []) refl (sym judged ∙ passed)
+
+    pub cause-outside : segmentCount (sub lead packet) ≤ k → 14 ≡ segmentCause lead packet k
+    cause-outside h = sym (last-line ∙ simp (le-leb (segmentCount (sub lead packet)) k h))
+
+    pub cause-none : k < segmentCount (sub lead packet) → 0 ≡ segmentCause lead packet k
+    cause-none h = sym (last-line ∙ simp (lt-leb (segmentCount (sub lead packet)) k h))

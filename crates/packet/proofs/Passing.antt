@@ -3,23 +3,24 @@
 use Prim.Native.Nat.{ℕ, _+_, _-_, _*_, _%_, _<_, _≤_}
 use mathlib.Core.Path.{_≡_, refl, sym, ap, _∙_}
 use mathlib.Core.Bool.{Bool, true, false, not}
-use mathlib.Core.List.{List}
+use mathlib.Core.List.{List, [], _∷_, _++_}
 use native.Mathlib.Omega.{arith}
 use native.Mathlib.Nat.{mul-le-mul}
-use lib.Dec.{eqb, ltb}
+use lib.Dec.{eqb, ltb, leb}
 use lib.ListN.{length}
-use borrow.Author.Tests.{ltb-true, ltb-false, eqb-true, eqb-false, not-false}
-use Rattle.refusal.specs.Refusal.{first}
-use Rattle.refusal.proofs.Laws.{none-applies}
+use borrow.Author.Tests.{ltb-true, ltb-false, leb-false, eqb-true, eqb-false, not-false}
+use Rattle.refusal.specs.Refusal.{_when_, first}
+use Rattle.refusal.proofs.Laws.{NoneApplies, none-applies, none-first, none-apart}
 use Rattle.octets.specs.Bytes.{byteAt}
 use Rattle.octets.specs.Count.{any, sumTo}
 use Rattle.octets.proofs.Counts.{none-at, or-false-left, sum-within}
 use Rattle.octets.proofs.Stretches.{length-rest}
 use Rattle.flow.specs.Flow.{topFlow}
 use Rattle.packet.specs.Header.{idLength, sessionId, sub, headerLength, sSet, flowId, segmentCount, notPlain, shortestPacket, longestPacket, beforeSession}
-use Rattle.packet.specs.Segments.{entryAt, beginsIn, endsIn, lengthIn, lengthAt, bodyAt}
+use Rattle.packet.specs.Segments.{entryWidth, entryAt, beginsIn, endsIn, lengthIn, lengthAt, bodyAt}
 use Rattle.packet.specs.Psp.{wanted, badEntry, pspRefusals}
 use Rattle.packet.specs.Dmpt.{mpegLength, syncByte, carried, mpegCount, mpegAt, dmptRefusals}
+use Rattle.packet.specs.Check.{kindPsp, checkRefusals, check, causeRefusals, segmentCause}
 
 -- Refusals 2, 3 and 4 passed.
 pub record EarlyPassed (lead : ℕ) (packet : List ℕ) : Type 0 where
@@ -27,10 +28,12 @@ pub record EarlyPassed (lead : ℕ) (packet : List ℕ) : Type 0 where
   pub not-long : length packet ≤ lead + longestPacket
   pub no-control : sessionId lead packet ≡ 0 → ⊥
 
-pub early-passed : (lead : ℕ) (packet : List ℕ) → first (beforeSession lead packet) ≡ 0 → EarlyPassed lead packet
-early-passed lead packet z =
-    let n = none-applies (beforeSession lead packet) refl z in
+early-of : (lead : ℕ) (packet : List ℕ) → NoneApplies (beforeSession lead packet) → EarlyPassed lead packet
+early-of lead packet n =
     record { not-short = ltb-false _ _ (n .0); not-long = ltb-false _ _ (n .1 .0); no-control = eqb-false _ _ (n .1 .1 .0) }
+
+pub early-passed : (lead : ℕ) (packet : List ℕ) → first (beforeSession lead packet) ≡ 0 → EarlyPassed lead packet
+early-passed lead packet z = early-of lead packet (none-applies (beforeSession lead packet) refl z)
 
 -- what follows the session ID then has a whole header
 pub sub-length : (lead : ℕ) (packet : List ℕ) → lead + shortestPacket ≤ length packet → length (sub lead packet) + (lead + idLength) ≡ length packet
@@ -48,9 +51,8 @@ pub record PspPassed (width : ℕ) (sub : List ℕ) : Type 0 where
   pub fills : wanted width sub ≡ length sub
   pub sound : any (λ k. badEntry (segmentCount sub) k (entryAt width sub k)) (segmentCount sub) ≡ false
 
-pub psp-passed : (width : ℕ) (sub : List ℕ) → first (pspRefusals width sub) ≡ 0 → PspPassed width sub
-psp-passed width sub z =
-    let n = none-applies (pspRefusals width sub) refl z in
+psp-of : (width : ℕ) (sub : List ℕ) → NoneApplies (pspRefusals width sub) → PspPassed width sub
+psp-of width sub n =
     record {
       plain = n .0;
       in-row = ltb-false _ _ (n .1 .0);
@@ -59,6 +61,9 @@ psp-passed width sub z =
       fills = eqb-true _ _ (not-false _ (n .1 .1 .1 .1 .0));
       sound = n .1 .1 .1 .1 .1 .0;
     }
+
+pub psp-passed : (width : ℕ) (sub : List ℕ) → first (pspRefusals width sub) ≡ 0 → PspPassed width sub
+psp-passed width sub z = psp-of width sub (none-applies (pspRefusals width sub) refl z)
 
 module _ (width : ℕ) (sub : List ℕ) (p : PspPassed width sub) where
   -- the entries lie in the packet
@@ -87,9 +92,8 @@ pub record DmptPassed (sub : List ℕ) : Type 0 where
   pub whole : carried sub % mpegLength ≡ 0
   pub synced : any (λ k. not (eqb (byteAt (mpegAt sub k) 0) syncByte)) (mpegCount sub) ≡ false
 
-pub dmpt-passed : (sub : List ℕ) → first (dmptRefusals sub) ≡ 0 → DmptPassed sub
-dmpt-passed sub z =
-    let n = none-applies (dmptRefusals sub) refl z in
+dmpt-of : (sub : List ℕ) → NoneApplies (dmptRefusals sub) → DmptPassed sub
+dmpt-of sub n =
     record {
       plain = n .0;
       only-flow = eqb-true _ _ (not-false _ (n .1 .0));
@@ -97,6 +101,25 @@ dmpt-passed sub z =
       whole = eqb-true _ _ (not-false _ (n .1 .1 .1 .0));
       synced = n .1 .1 .1 .1 .0;
     }
+
+pub dmpt-passed : (sub : List ℕ) → first (dmptRefusals sub) ≡ 0 → DmptPassed sub
+dmpt-passed sub z = dmpt-of sub (none-applies (dmptRefusals sub) refl z)
+
+-- The PSP check passed, and segment k asked for and given.
+pub check-passed : (lead : ℕ) (packet : List ℕ) → check lead kindPsp packet ≡ 0 → EarlyPassed lead packet × PspPassed entryWidth (sub lead packet)
+unfolding check checkRefusals
+check-passed lead packet z =
+    let n = none-applies (checkRefusals lead kindPsp packet) refl z in
+    let both = none-apart (beforeSession lead packet) (pspRefusals entryWidth (sub lead packet)) (n .1) in
+    (early-of lead packet (both .0), psp-of entryWidth (sub lead packet) (both .1))
+
+pub cause-passed : (lead : ℕ) (packet : List ℕ) (k : ℕ) → segmentCause lead packet k ≡ 0 →
+    (check lead kindPsp packet ≡ 0) × (k < segmentCount (sub lead packet))
+unfolding segmentCause causeRefusals check checkRefusals
+cause-passed lead packet k z =
+    let n = none-applies (causeRefusals lead packet k) refl z in
+    let both = none-apart (checkRefusals lead kindPsp packet) (14 when leb (segmentCount (sub lead packet)) k ∷ []) n in
+    (none-first (checkRefusals lead kindPsp packet) (both .0), leb-false _ _ (both .1 .0))
 
 -- A table of 127 entries at most, each of 4 bytes at most, is small.
 pub table-small : (width count : ℕ) → width ≤ 4 → count < 128 → width * count ≤ 512

@@ -56,3 +56,12 @@ stopped-by false m xs ys below s = below s
 pub first-stopped : (xs ys : List Refusal) → (first xs ≡ 0 → ⊥) → first (xs ++ ys) ≡ first xs
 first-stopped [] ys s = absurd (s refl)
 first-stopped (r ∷ xs) ys s = stopped-by (r .applies) (r .number) xs ys (first-stopped xs ys) s
+
+-- The other way round, and an order taken apart.
+pub none-first : (xs : List Refusal) → NoneApplies xs → first xs ≡ 0
+none-first [] n = refl
+none-first (r ∷ xs) n = simp (n .0) (none-first xs (n .1))
+
+pub none-apart : (xs ys : List Refusal) → NoneApplies (xs ++ ys) → NoneApplies xs × NoneApplies ys
+none-apart [] ys n = (tt, n)
+none-apart (r ∷ xs) ys n = let both = none-apart xs ys (n .1) in ((n .0, both .0), both .1)

@@ -34,12 +34,12 @@ find-row-requires c κs = search needs
 returns-3 : tie.Need-returns-3
 unfolding closed
 returns-3 c = simp (
-      ← c .before .before .before .before .is-broken .ensures,
-      c .before .before .before .if1 .left,
-      ne-eqb _ _ (c .before .before .if2 .left),
-      ← c .before .find-row .ensures,
-      le-ltb _ _ (c .if3 .taken),
-    )
+  ← c .before .before .before .before .is-broken .ensures,
+  c .before .before .before .if1 .left,
+  ne-eqb _ _ (c .before .before .if2 .left),
+  ← c .before .find-row .ensures,
+  le-ltb _ _ (c .if3 .taken),
+)
 
 -- src/lib.rt:300:15
 mul-row : tie.Need-mul-row
@@ -69,14 +69,14 @@ held-in-requires c κs = search needs
 returns-4 : tie.Need-returns-4
 unfolding closed
 returns-4 c = simp (
-      ← c .before .before .before .before .before .before .before .is-broken .ensures,
-      c .before .before .before .before .before .before .if1 .left,
-      ne-eqb _ _ (c .before .before .before .before .before .if2 .left),
-      ← c .before .before .before .before .find-row .ensures,
-      lt-ltb _ _ (c .before .before .before .if3 .left),
-      c .before .closed-row .ensures,
-      c .held-in .ensures,
-    )
+  ← c .before .before .before .before .before .before .before .is-broken .ensures,
+  c .before .before .before .before .before .before .if1 .left,
+  ne-eqb _ _ (c .before .before .before .before .before .if2 .left),
+  ← c .before .before .before .before .find-row .ensures,
+  lt-ltb _ _ (c .before .before .before .if3 .left),
+  c .before .closed-row .ensures,
+  c .held-in .ensures,
+)
 
 pub close-spec : {M : Type 1} → statement M
 close-spec =

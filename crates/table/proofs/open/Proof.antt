@@ -33,12 +33,12 @@ find-row-requires c κs = search needs
 returns-3 : tie.Need-returns-3
 unfolding opened
 returns-3 c = simp (
-      ← c .before .before .before .before .is-broken .ensures,
-      c .before .before .before .if1 .left,
-      ne-eqb _ _ (c .before .before .if2 .left),
-      ← c .before .find-row .ensures,
-      lt-ltb _ _ (c .if3 .taken),
-    )
+  ← c .before .before .before .before .is-broken .ensures,
+  c .before .before .before .if1 .left,
+  ne-eqb _ _ (c .before .before .if2 .left),
+  ← c .before .find-row .ensures,
+  lt-ltb _ _ (c .if3 .taken),
+)
 
 -- src/lib.rt:258:9
 lowest-free-requires : tie.Need-lowest-free-requires
@@ -48,14 +48,14 @@ lowest-free-requires c κs = search needs
 returns-4 : tie.Need-returns-4
 unfolding opened
 returns-4 c = simp (
-      ← c .before .before .before .before .before .before .is-broken .ensures,
-      c .before .before .before .before .before .if1 .left,
-      ne-eqb _ _ (c .before .before .before .before .if2 .left),
-      ← c .before .before .before .find-row .ensures,
-      le-ltb _ _ (c .before .before .if3 .left),
-      ← c .before .lowest-free .ensures,
-      le-leb _ _ (c .if4 .taken),
-    )
+  ← c .before .before .before .before .before .before .is-broken .ensures,
+  c .before .before .before .before .before .if1 .left,
+  ne-eqb _ _ (c .before .before .before .before .if2 .left),
+  ← c .before .before .before .find-row .ensures,
+  le-ltb _ _ (c .before .before .if3 .left),
+  ← c .before .lowest-free .ensures,
+  le-leb _ _ (c .if4 .taken),
+)
 
 -- src/lib.rt:266:9
 fresh-row-requires : tie.Need-fresh-row-requires
@@ -73,15 +73,15 @@ element-set-from-row c = search needs
 returns-5 : tie.Need-returns-5
 unfolding opened
 returns-5 c = simp (
-      ← c .before .before .before .before .before .before .before .is-broken .ensures,
-      c .before .before .before .before .before .before .if1 .left,
-      ne-eqb _ _ (c .before .before .before .before .before .if2 .left),
-      ← c .before .before .before .before .find-row .ensures,
-      le-ltb _ _ (c .before .before .before .if3 .left),
-      ← c .before .before .lowest-free .ensures,
-      lt-leb _ _ (c .before .if4 .left),
-      c .fresh-row .ensures,
-    )
+  ← c .before .before .before .before .before .before .before .is-broken .ensures,
+  c .before .before .before .before .before .before .if1 .left,
+  ne-eqb _ _ (c .before .before .before .before .before .if2 .left),
+  ← c .before .before .before .before .find-row .ensures,
+  le-ltb _ _ (c .before .before .before .if3 .left),
+  ← c .before .before .lowest-free .ensures,
+  lt-leb _ _ (c .before .if4 .left),
+  c .fresh-row .ensures,
+)
 
 pub open-spec : {M : Type 1} → statement M
 open-spec =

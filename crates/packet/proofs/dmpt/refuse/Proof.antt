@@ -1,3 +1,5 @@
+-- `packet::dmpt::refuse` asks 6 and 7 in order, and then about the MPEG packets.
+use borrow.Author.Tests.{eq-eqb, ne-eqb}
 use borrow.Author.Needs.{needs}
 use Rattle.packet.proofs.dmpt.refuse.Statement.{statement}
 use Rattle.packet.proofs.dmpt.refuse.Tie as tie
@@ -13,7 +15,7 @@ not-plain-requires c κs = search needs
 
 -- src/dmpt.rt:76:9
 returns : tie.Need-returns
-returns c = ?
+returns c = simp (← c .before .not-plain .ensures, c .if1 .taken)
 
 -- src/dmpt.rt:78:8
 flow-id-requires : tie.Need-flow-id-requires
@@ -21,7 +23,13 @@ flow-id-requires c κs = search needs
 
 -- src/dmpt.rt:79:9
 returns-2 : tie.Need-returns-2
-returns-2 c = ?
+returns-2 c =
+    simp (
+      ← c .before .before .before .not-plain .ensures,
+      c .before .before .if1 .left,
+      ← c .before .flow-id .ensures .0,
+      ne-eqb _ _ (c .if2 .taken),
+    )
 
 -- src/dmpt.rt:81:5
 refuse-mpegs-requires : tie.Need-refuse-mpegs-requires
@@ -29,7 +37,14 @@ refuse-mpegs-requires c κs = search needs
 
 -- src/dmpt.rt:71:1
 returns-3 : tie.Need-returns-3
-returns-3 c = ?
+returns-3 c =
+    simp (
+      ← c .before .before .before .before .not-plain .ensures,
+      c .before .before .before .if1 .left,
+      ← c .before .before .flow-id .ensures .0,
+      eq-eqb _ _ (c .before .if2 .left),
+    )
+    (c .refuse-mpegs .ensures)
 
 pub refuse-spec : {M : Type 1} → statement M
 refuse-spec =

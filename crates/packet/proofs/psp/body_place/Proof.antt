@@ -1,3 +1,12 @@
+-- `packet::psp::body_place` adds up header, entries and the bodies before the segment.
+use mathlib.Core.Path.{refl, ap, _∙_}
+use Prim.Native.Nat.{ℕ, _+_, _*_}
+use native.Mathlib.Omega.{arith}
+use Rattle.octets.specs.Count.{sumTo}
+use Rattle.packet.specs.Header.{headerLength}
+use Rattle.packet.specs.Segments.{lengthAt, bodyAt}
+use Rattle.packet.proofs.Entries.{fewer-entries}
+use Rattle.packet.proofs.Passing.{table-small}
 use borrow.Author.Needs.{needs}
 use Rattle.packet.proofs.psp.body_place.Statement.{statement}
 use Rattle.packet.proofs.psp.body_place.Tie as tie
@@ -12,23 +21,35 @@ segment-count-requires c κs = search needs
 
 -- src/psp.rt:85:9
 survey-requires : tie.Need-survey-requires
-survey-requires c κs = ?
+survey-requires c κs =
+    let s = c .before .before in
+    let count = c .segment-count .ensures in
+    (s .pre .0, omega (arith, count .0, s .pre .2), count .1, fewer-entries (s .args .width) (s .args .k) _ _ (s .pre .2) (s .pre .3))
 
 -- src/psp.rt:86:29
 mul-result : tie.Need-mul-result
-mul-result c = ?
+mul-result c =
+    let s = c .before .before .before in
+    omega (arith, table-small (s .args .width) (c .before .segment-count .result) (s .pre .1) (c .before .segment-count .ensures .1))
 
 -- src/psp.rt:86:5
 add-result : tie.Need-add-result
-add-result c = ?
+add-result c =
+    let s = c .before .before .before in
+    omega (arith, table-small (s .args .width) (c .before .segment-count .result) (s .pre .1) (c .before .segment-count .ensures .1))
 
 -- src/psp.rt:86:5
 add-result-2 : tie.Need-add-result-2
-add-result-2 c = ?
+add-result-2 c =
+    let s = c .before .before .before .before in
+    let count = c .before .before .segment-count in
+    omega (arith, table-small (s .args .width) (count .result) (s .pre .1) (count .ensures .1), c .before .survey .ensures .2, s .pre .2, count .ensures .0)
 
 -- src/psp.rt:80:1
 returns : tie.Need-returns
-returns c = ?
+unfolding bodyAt
+returns c =
+    rw (c .before .survey .ensures .0, c .before .before .segment-count .ensures .0) refl
 
 pub body-place-spec : {M : Type 1} → statement M
 body-place-spec =

@@ -1,3 +1,5 @@
+-- `packet::psp::refuse` asks 6, 7 and 8 in order, and then about the segments.
+use borrow.Author.Tests.{lt-ltb, le-ltb}
 use borrow.Author.Needs.{needs}
 use Rattle.packet.proofs.psp.refuse.Statement.{statement}
 use Rattle.packet.proofs.psp.refuse.Tie as tie
@@ -14,7 +16,7 @@ not-plain-requires c κs = search needs
 
 -- src/psp.rt:118:9
 returns : tie.Need-returns
-returns c = ?
+returns c = simp (← c .before .not-plain .ensures, c .if1 .taken)
 
 -- src/psp.rt:120:20
 flow-id-requires : tie.Need-flow-id-requires
@@ -22,7 +24,13 @@ flow-id-requires c κs = search needs
 
 -- src/psp.rt:121:9
 returns-2 : tie.Need-returns-2
-returns-2 c = ?
+returns-2 c =
+    simp (
+      ← c .before .before .before .not-plain .ensures,
+      c .before .before .if1 .left,
+      ← c .before .flow-id .ensures .0,
+      lt-ltb _ _ (c .if2 .taken),
+    )
 
 -- src/psp.rt:123:9
 s-set-requires : tie.Need-s-set-requires
@@ -30,7 +38,15 @@ s-set-requires c κs = search needs
 
 -- src/psp.rt:124:9
 returns-3 : tie.Need-returns-3
-returns-3 c = ?
+returns-3 c =
+    simp (
+      ← c .before .before .before .before .before .not-plain .ensures,
+      c .before .before .before .before .if1 .left,
+      ← c .before .before .before .flow-id .ensures .0,
+      le-ltb _ _ (c .before .before .if2 .left),
+      ← c .before .s-set .ensures,
+      c .if3 .taken,
+    )
 
 -- src/psp.rt:126:5
 refuse-segments-requires : tie.Need-refuse-segments-requires
@@ -38,7 +54,16 @@ refuse-segments-requires c κs = search needs
 
 -- src/psp.rt:113:1
 returns-4 : tie.Need-returns-4
-returns-4 c = ?
+returns-4 c =
+    simp (
+      ← c .before .before .before .before .before .before .not-plain .ensures,
+      c .before .before .before .before .before .if1 .left,
+      ← c .before .before .before .before .flow-id .ensures .0,
+      le-ltb _ _ (c .before .before .before .if2 .left),
+      ← c .before .before .s-set .ensures,
+      c .before .if3 .left,
+    )
+    (c .refuse-segments .ensures)
 
 pub refuse-spec : {M : Type 1} → statement M
 refuse-spec =

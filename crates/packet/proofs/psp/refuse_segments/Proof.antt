@@ -1,3 +1,8 @@
+-- `packet::psp::refuse_segments` answers at each return the line of 9 to 11 for what it has counted (`Orders`).
+use mathlib.Core.Path.{_∙_, sym}
+use native.Mathlib.Omega.{arith}
+use Rattle.packet.proofs.Passing.{table-small}
+use Rattle.packet.proofs.Orders.{segments-none, segments-cut, segments-misfit, segments-spoilt, segments-passed}
 use borrow.Author.Needs.{needs}
 use Rattle.packet.proofs.psp.refuse_segments.Statement.{statement}
 use Rattle.packet.proofs.psp.refuse_segments.Tie as tie
@@ -12,19 +17,27 @@ segment-count-requires c κs = search needs
 
 -- src/psp.rt:96:9
 returns : tie.Need-returns
-returns c = ?
+returns c =
+    let a = c .before .before .before .args in
+    segments-none (a .width) (a .sub .now) _ (c .before .segment-count .ensures .0) (c .if1 .taken)
 
 -- src/psp.rt:98:42
 mul-bodies : tie.Need-mul-bodies
-mul-bodies c = ?
+mul-bodies c =
+    let s = c .before .before .before in
+    omega (arith, table-small (s .args .width) (c .before .segment-count .result) (s .pre .1) (c .before .segment-count .ensures .1))
 
 -- src/psp.rt:98:18
 add-bodies : tie.Need-add-bodies
-add-bodies c = ?
+add-bodies c =
+    let s = c .before .before .before in
+    omega (arith, table-small (s .args .width) (c .before .segment-count .result) (s .pre .1) (c .before .segment-count .ensures .1))
 
 -- src/psp.rt:100:9
 returns-2 : tie.Need-returns-2
-returns-2 c = ?
+returns-2 c =
+    let a = c .before .before .before .before .args in
+    segments-cut (a .width) (a .sub .now) _ (c .before .before .segment-count .ensures .0) (c .before .if1 .left) (c .if2 .taken)
 
 -- src/psp.rt:102:9
 survey-requires : tie.Need-survey-requires
@@ -36,15 +49,23 @@ add-if3 c = search needs
 
 -- src/psp.rt:104:9
 returns-3 : tie.Need-returns-3
-returns-3 c = ?
+returns-3 c =
+    let a = c .before .before .before .before .before .before .before .args in
+    segments-misfit (a .width) (a .sub .now) _ (c .before .before .before .before .before .segment-count .ensures .0) (c .before .before .before .before .if1 .left) _ (c .before .before .survey .ensures .0) (c .if3 .taken)
 
 -- src/psp.rt:107:9
 returns-4 : tie.Need-returns-4
-returns-4 c = ?
+returns-4 c =
+    let a = c .before .before .before .before .before .before .before .before .args in
+    let table = c .before .before .before .survey .ensures in
+    segments-spoilt (a .width) (a .sub .now) _ (c .before .before .before .before .before .before .segment-count .ensures .0) (c .before .before .before .before .before .if1 .left) _ (table .0) (c .before .if3 .left) _ (table .1) (c .if4 .taken)
 
 -- src/psp.rt:90:1
 returns-5 : tie.Need-returns-5
-returns-5 c = ?
+returns-5 c =
+    let a = c .before .before .before .before .before .before .before .before .args in
+    let table = c .before .before .before .survey .ensures in
+    segments-passed (a .width) (a .sub .now) _ (c .before .before .before .before .before .before .segment-count .ensures .0) (c .before .before .before .before .before .if1 .left) _ (table .0) (c .before .if3 .left) _ (table .1) (c .if4 .left)
 
 pub refuse-segments-spec : {M : Type 1} → statement M
 refuse-segments-spec =
