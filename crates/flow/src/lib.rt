@@ -63,9 +63,11 @@ impl Flow {
     pub fn judge(self, number: u16) -> Judged
         ensures { λ r. ⌜ PermitsJudge self number r ⌝ }
     {
+        let expected = self.expected;
+        let following = number_after(number);
         let next = Flow {
             heard: true,
-            expected: number_after(number),
+            expected: following,
             held: self.held,
         };
         if !self.heard {
@@ -75,7 +77,7 @@ impl Flow {
                 late: false,
             };
         }
-        let gap = ahead_of(number, self.expected);
+        let gap = ahead_of(number, expected);
         if gap < Flow::HALF {
             return Judged {
                 flow: next,

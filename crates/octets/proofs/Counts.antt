@@ -25,6 +25,9 @@ or-false-right false b h = h
 or-false-right true false h = refl
 or-false-right true true h = h
 
+pub or-same : {a b x y : Bool} → a ≡ x → b ≡ y → (a || b) ≡ (x || y)
+or-same p q = rw (p, q) refl
+
 -- Some number passes, or none.
 pub any-none : (p : ℕ → Bool) → any p 0 ≡ false
 unfolding any

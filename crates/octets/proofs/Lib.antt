@@ -1,3 +1,4 @@
 pub mod Stretches
 pub mod Counts
 pub mod Numbers
+pub mod Examples

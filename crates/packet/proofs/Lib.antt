@@ -3,3 +3,5 @@ pub mod Mpegs
 pub mod Passing
 pub mod Orders
 pub mod Asked
+pub mod Unique
+pub mod Examples

@@ -97,7 +97,7 @@ fn refuse_segments(sub: &[u8], width: usize) -> u32
     }
     let bodies = header::HEADER_LENGTH + width * count;
     if sub.len() < bodies {
-        return refusal::LENGTHS_DISAGREE;
+        return refusal::LENGTHS_DISAGREE; // the segment table itself is cut
     }
     let table = survey(sub, width, count, count);
     if bodies + table.total != sub.len() {

@@ -1,7 +1,7 @@
 -- `table::is_broken` gathers the faults of all six rows, each by itself and against the rows before it.
 use Prim.Native.Nat.{_-_}
 use mathlib.Core.Bool.{_||_}
-use Rattle.octets.proofs.Counts.{Gathered, gather-begin, gather-turn, gather-end}
+use Rattle.octets.proofs.Counts.{or-same, Gathered, gather-begin, gather-turn, gather-end}
 use Rattle.table.specs.Rows.{rows, rowAt}
 use Rattle.table.specs.Broken.{rowBroken, openTwice, broken}
 use borrow.Author.Needs.{needs}
@@ -52,7 +52,7 @@ loop-again c =
     gather-turn
     (c .before .before .before .before .loop .inv)
     (c .before .before .before .loop-test .taken)
-    (cc (c .before .row-broken .ensures, c .open-twice .ensures))
+    (or-same (c .before .row-broken .ensures) (c .open-twice .ensures))
 
 -- src/lib.rt:168:1
 returns : tie.Need-returns Inv-loop μ-loop

@@ -1,0 +1,96 @@
+-- Opens, closes and broken tables, by computation: the definitions answer what document 01 says. Each line would be refused with
+-- another number in it.
+use Prim.Native.Nat.{ℕ}
+use mathlib.Core.Path.{_≡_, refl}
+use mathlib.Core.Bool.{Bool, true, false}
+use mathlib.Core.List.{List, [], _∷_}
+use lib.ListN.{replicate}
+use Rattle.octets.specs.Count.{any, least, sumTo}
+use Rattle.flow.specs.declared.Flow.{Flow}
+use Rattle.flow.specs.Flow.{fresh, flows}
+use Rattle.table.specs.declared.Kind.{Kind}
+use Rattle.table.specs.declared.Kind.the-variants as kind
+use Rattle.table.specs.declared.Mode.the-variants as mode
+use Rattle.table.specs.declared.Row.{Row}
+use Rattle.table.specs.declared.Table.{Table}
+use Rattle.table.specs.Rows.{empty, closedRow, rowAt, find, withRow, withFlow}
+use Rattle.table.specs.Broken.{broken}
+use Rattle.table.specs.Calls.{opened, closed}
+
+abbrev flow-of : Bool → ℕ → ℕ → Flow
+flow-of heard expected held = record { heard = heard; expected = expected; held = held }
+
+abbrev row-of : ℕ → Kind → Row
+row-of id kind = record { id = id; kind = kind; flows = replicate flows fresh }
+
+-- a table with session 7 in row 0, and one with 7 to 12 in the six rows, 8 as D-MPT
+abbrev one : Table
+one = record { rows = row-of 7 kind.Psp ∷ closedRow ∷ closedRow ∷ closedRow ∷ closedRow ∷ closedRow ∷ [] }
+
+abbrev six : Table
+six = record { rows = row-of 7 kind.Psp ∷ row-of 8 kind.Dmpt ∷ row-of 9 kind.Psp ∷ row-of 10 kind.Psp ∷ row-of 11 kind.Psp ∷ row-of 12 kind.Psp ∷ [] }
+
+abbrev five : Table
+five = withRow six 5 closedRow
+
+opened-so : (opened empty 7 mode.Psp ≡ record { code = 0; table = one }) × (opened five 12 mode.Psp ≡ record { code = 0; table = six })
+    × (opened (withRow one 0 closedRow) 7 mode.Psp ≡ record { code = 0; table = one })
+    × (opened (withRow six 1 closedRow) 8 mode.Dmpt ≡ record { code = 0; table = six })
+unfolding opened broken any least
+opened-so = (refl, refl, refl, refl)
+
+-- where a session stands, and what it is
+there : (find one 7 ≡ 0) × (find six 12 ≡ 5) × (find six 13 ≡ 6) × (find empty 0 ≡ 6) × (rowAt one 0 ≡ row-of 7 kind.Psp) × (rowAt six 1 ≡ row-of 8 kind.Dmpt)
+    × (rowAt one 1 ≡ closedRow)
+unfolding opened broken any least
+there = (refl, refl, refl, refl, refl, refl, refl)
+
+-- opening: ID 0, also in a full table; an open ID, also in a full table and as another kind; a seventh session; a refused open changes nothing
+opens : ((opened empty 7 mode.Psp) .code ≡ 0) × ((opened empty 0 mode.Psp) .code ≡ 21) × ((opened six 0 mode.Psp) .code ≡ 21)
+    × ((opened one 7 mode.Dmpt) .code ≡ 22) × ((opened six 7 mode.Psp) .code ≡ 22) × ((opened six 13 mode.Psp) .code ≡ 23)
+    × ((opened six 13 mode.Psp) .table ≡ six) × ((opened one 7 mode.Dmpt) .table ≡ one) × ((opened empty 4294967295 mode.Dmpt) .code ≡ 0)
+unfolding opened broken any least
+opens = (refl, refl, refl, refl, refl, refl, refl, refl, refl)
+
+-- the lowest free row, after a close in the middle; an ID closed and opened again, which starts fresh
+again : (find ((opened ((closed six 9) .table) 13 mode.Psp) .table) 13 ≡ 2)
+    × (rowAt ((opened ((closed (withFlow one 0 1 (flow-of true 5 2048)) 7) .table) 7 mode.Dmpt) .table) 0 ≡ row-of 7 kind.Dmpt)
+unfolding opened closed broken any least sumTo
+again = (refl, refl)
+
+-- closing: what the flows hold is dropped, in one flow and in two; the row is emptied; a session that is not open, and ID 0
+closes : ((closed (withFlow one 0 3 (flow-of true 5 2048)) 7) .dropped ≡ 2048)
+    × ((closed (withFlow (withFlow one 0 3 (flow-of true 5 2048)) 0 1 (flow-of true 5 10)) 7) .dropped ≡ 2058)
+    × ((closed (withFlow one 0 3 (flow-of true 5 2048)) 7) .code ≡ 0) × ((closed (withFlow one 0 3 (flow-of true 5 2048)) 7) .table ≡ empty)
+    × ((closed one 7) .table ≡ empty) × ((closed one 7) .dropped ≡ 0) × ((closed one 8) .code ≡ 25) × ((closed one 0) .code ≡ 25) × ((closed empty 0) .code ≡ 25)
+    × ((closed (withFlow one 0 3 (flow-of true 5 10)) 8) .dropped ≡ 0)
+unfolding opened closed broken any least sumTo
+closes = (refl, refl, refl, refl, refl, refl, refl, refl, refl, refl)
+
+-- 13 comes first, and from a row that has nothing to do with the call: row 5 is closed and not all zero
+elsewhere : ((opened (withFlow one 5 3 (flow-of true 0 0)) 9 mode.Psp) .code ≡ 13) × ((opened (withFlow one 5 3 (flow-of true 0 0)) 0 mode.Psp) .code ≡ 13)
+    × ((closed (withFlow one 5 3 (flow-of true 0 0)) 7) .code ≡ 13) × ((closed (withFlow one 5 3 (flow-of true 0 0)) 7) .table ≡ withFlow one 5 3 (flow-of true 0 0))
+unfolding opened closed broken any least sumTo
+elsewhere = (refl, refl, refl, refl)
+
+-- An open row with ID 0; an open ID in two rows, neighbours or not, of two kinds; a closed row with an ID, and with each number of a flow not 0
+rows-broken : (broken (withRow six 0 (row-of 0 kind.Psp)) ≡ true) × (broken (withRow six 3 (row-of 0 kind.Dmpt)) ≡ true)
+    × (broken (withRow six 5 (row-of 7 kind.Psp)) ≡ true) × (broken (withRow six 2 (row-of 8 kind.Psp)) ≡ true)
+    × (broken (withRow empty 5 (row-of 7 kind.Closed)) ≡ true) × (broken (withFlow empty 5 3 (flow-of true 0 0)) ≡ true)
+    × (broken (withFlow empty 0 0 (flow-of false 1 0)) ≡ true) × (broken (withFlow empty 0 0 (flow-of false 0 1)) ≡ true)
+unfolding opened broken any least
+rows-broken = (refl, refl, refl, refl, refl, refl, refl, refl)
+
+-- 2,049 bytes held; a fresh flow with a number expected, or with bytes held; D-MPT with a byte held, in flow 0 and in flow 2, and with flow 1 or 3 heard
+flows-broken : (broken (withFlow six 0 2 (flow-of true 0 2049)) ≡ true) × (broken (withFlow six 0 2 (flow-of false 1 0)) ≡ true)
+    × (broken (withFlow six 0 2 (flow-of false 0 1)) ≡ true) × (broken (withFlow six 1 0 (flow-of true 0 1)) ≡ true)
+    × (broken (withFlow six 1 2 (flow-of true 0 1)) ≡ true) × (broken (withFlow six 1 1 (flow-of true 0 0)) ≡ true)
+    × (broken (withFlow six 1 3 (flow-of true 0 0)) ≡ true)
+unfolding opened broken any least
+flows-broken = (refl, refl, refl, refl, refl, refl, refl)
+
+-- just not broken: 2,048 bytes held in the last flow of the last row, a D-MPT session that has heard a number, the empty table, the full one
+not-broken : (broken (withFlow six 5 3 (flow-of true 65535 2048)) ≡ false) × (broken (withFlow six 1 0 (flow-of true 9 0)) ≡ false)
+    × (broken empty ≡ false) × (broken six ≡ false) × (broken one ≡ false)
+unfolding opened broken any least
+not-broken = (refl, refl, refl, refl, refl)

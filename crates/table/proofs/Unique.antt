@@ -1,0 +1,27 @@
+-- No call of this crate leaves its outcome open: something is permitted, and any two permitted outcomes are equal, the table included.
+use Prim.Native.Nat.{ℕ}
+use mathlib.Core.Path.{_≡_, refl, sym, _∙_}
+use Rattle.table.specs.declared.Mode.{Mode}
+use Rattle.table.specs.declared.Table.{Table}
+use Rattle.table.specs.declared.Opening.{Opening}
+use Rattle.table.specs.declared.Closing.{Closing}
+use Rattle.table.specs.Rows.{empty, PermitsEmpty}
+use Rattle.table.specs.Calls.{opened, closed, PermitsOpen, PermitsClose}
+
+pub empty-permitted : PermitsEmpty empty
+empty-permitted = refl
+
+pub empty-unique : (a b : Table) → PermitsEmpty a → PermitsEmpty b → a ≡ b
+empty-unique a b p q = p ∙ sym q
+
+pub open-permitted : (t : Table) (id : ℕ) (asked : Mode) → PermitsOpen t id asked (opened t id asked)
+open-permitted t id asked = refl
+
+pub open-unique : (t : Table) (id : ℕ) (asked : Mode) (a b : Opening) → PermitsOpen t id asked a → PermitsOpen t id asked b → a ≡ b
+open-unique t id asked a b p q = p ∙ sym q
+
+pub close-permitted : (t : Table) (id : ℕ) → PermitsClose t id (closed t id)
+close-permitted t id = refl
+
+pub close-unique : (t : Table) (id : ℕ) (a b : Closing) → PermitsClose t id a → PermitsClose t id b → a ≡ b
+close-unique t id a b p q = p ∙ sym q
