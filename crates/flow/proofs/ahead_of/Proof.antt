@@ -4,22 +4,16 @@ use Rattle.flow.specs.Numbers.{ahead}
 use borrow.Author.Needs.{needs}
 use Rattle.flow.proofs.ahead_of.Statement.{statement}
 use Rattle.flow.proofs.ahead_of.Tie as tie
-use Rattle.flow.proofs.ahead_of.Reads as reads
-use Rattle.flow.proofs.ahead_of.Lts as lts
 
--- src/lib.rt:25:7
 add-result : tie.Need-add-result
 add-result c = search needs
 
--- src/lib.rt:25:7
 sub-result : tie.Need-sub-result
 sub-result c = search needs
 
--- src/lib.rt:25:5
 cast-result : tie.Need-cast-result
 cast-result c = search needs
 
--- src/lib.rt:22:1
 returns : tie.Need-returns
 unfolding ahead
 returns c = refl

@@ -10,8 +10,6 @@ use Rattle.octets.proofs.Stretches.{length-part}
 use borrow.Author.Needs.{needs}
 use Rattle.octets.proofs.copy.Statement.{statement}
 use Rattle.octets.proofs.copy.Tie as tie
-use Rattle.octets.proofs.copy.Reads as reads
-use Rattle.octets.proofs.copy.Lts as lts
 
 abbrev Inv-loop : tie.InvT-loop
 Inv-loop target₀ at source from count i₀ target i =
@@ -20,35 +18,27 @@ Inv-loop target₀ at source from count i₀ target i =
 abbrev μ-loop : tie.MeasureT-loop
 μ-loop target₀ at source from count i₀ target i = count - i
 
--- src/lib.rt:60:5
 loop-holds : tie.Need-loop-holds Inv-loop μ-loop
 loop-holds c = (search needs, refl, paste-zero (c .args .target .now) (c .args .at) (drop (c .args .from) (c .args .source .now)))
 
--- src/lib.rt:61:33
 add-target : tie.Need-add-target Inv-loop μ-loop
 add-target c = omega arith
 
--- src/lib.rt:61:26
 shared-slice-read-target : tie.Need-shared-slice-read-target Inv-loop μ-loop
 shared-slice-read-target c = omega arith
 
--- src/lib.rt:61:16
 add-target-2 : tie.Need-add-target-2 Inv-loop μ-loop
 add-target-2 c = omega arith
 
--- src/lib.rt:61:9
 slice-write-target : tie.Need-slice-write-target Inv-loop μ-loop
 slice-write-target c = omega arith
 
--- src/lib.rt:62:9
 add-i : tie.Need-add-i Inv-loop μ-loop
 add-i c = omega arith
 
--- src/lib.rt:60:5
 loop-less : tie.Need-loop-less Inv-loop μ-loop
 loop-less c = omega arith
 
--- src/lib.rt:60:5
 loop-again : tie.Need-loop-again Inv-loop μ-loop
 loop-again c =
     let l = c .before .before in
@@ -63,11 +53,9 @@ loop-again c =
       rw (l .loop .inv .2, ← getD-drop (a .from) source i 0, paste-suc target (a .at) (drop (a .from) source) i 0 in-target in-source, ← add-one i) refl,
     )
 
--- src/lib.rt:55:1
 same-length : tie.Need-same-length Inv-loop μ-loop
 same-length c = c .before .loop .inv .1
 
--- src/lib.rt:55:1
 returns : tie.Need-returns Inv-loop μ-loop
 unfolding put part
 returns c =

@@ -4,34 +4,25 @@ use Rattle.octets.proofs.Stretches.{set-set-put}
 use borrow.Author.Needs.{needs}
 use Rattle.octets.proofs.write_u16.Statement.{statement}
 use Rattle.octets.proofs.write_u16.Tie as tie
-use Rattle.octets.proofs.write_u16.Reads as reads
-use Rattle.octets.proofs.write_u16.Lts as lts
 
--- src/lib.rt:41:17
 cast-bytes : tie.Need-cast-bytes
 cast-bytes c = search needs
 
--- src/lib.rt:41:5
 slice-write-bytes : tie.Need-slice-write-bytes
 slice-write-bytes c = search needs
 
--- src/lib.rt:42:21
 cast-bytes-2 : tie.Need-cast-bytes-2
 cast-bytes-2 c = search needs
 
--- src/lib.rt:42:11
 add-bytes : tie.Need-add-bytes
 add-bytes c = search needs
 
--- src/lib.rt:42:5
 slice-write-bytes-2 : tie.Need-slice-write-bytes-2
 slice-write-bytes-2 c = search needs
 
--- src/lib.rt:37:1
 same-length : tie.Need-same-length
 same-length c = search needs
 
--- src/lib.rt:37:1
 returns : tie.Need-returns
 returns c = set-set-put (c .args .bytes .now) (c .args .at) (c .args .number / 256 % 256) (c .args .number % 256) (search needs)
 

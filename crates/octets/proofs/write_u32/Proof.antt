@@ -8,35 +8,25 @@ use Rattle.octets.proofs.Numbers.{four-put}
 use borrow.Author.Needs.{needs}
 use Rattle.octets.proofs.write_u32.Statement.{statement}
 use Rattle.octets.proofs.write_u32.Tie as tie
-use Rattle.octets.proofs.write_u32.Reads as reads
-use Rattle.octets.proofs.write_u32.Lts as lts
-use Rattle.octets.proofs.write_u16.Reads as write-u16-reads
 
--- src/lib.rt:50:26
 cast-write-u16 : tie.Need-cast-write-u16
 cast-write-u16 c = search needs
 
--- src/lib.rt:50:5
 write-u16-requires : tie.Need-write-u16-requires
 write-u16-requires c κs = search needs
 
--- src/lib.rt:51:22
 add-write-u16 : tie.Need-add-write-u16
 add-write-u16 c = search needs
 
--- src/lib.rt:51:30
 cast-write-u16-2 : tie.Need-cast-write-u16-2
 cast-write-u16-2 c = search needs
 
--- src/lib.rt:51:5
 write-u16-requires-2 : tie.Need-write-u16-requires-2
 write-u16-requires-2 c κs = search needs
 
--- src/lib.rt:46:1
 same-length : tie.Need-same-length
 same-length c = search needs
 
--- src/lib.rt:46:1
 returns : tie.Need-returns
 returns c =
     let second = c .before .before .write-u162 .ensures in

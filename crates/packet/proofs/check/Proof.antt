@@ -14,12 +14,6 @@ use Rattle.packet.proofs.Orders.{check-unknown, check-early, check-psp,
 use borrow.Author.Needs.{needs}
 use Rattle.packet.proofs.check.Statement.{statement}
 use Rattle.packet.proofs.check.Tie as tie
-use Rattle.packet.proofs.check.Reads as reads
-use Rattle.packet.proofs.check.Lts as lts
-use Rattle.packet.proofs.dmpt.refuse.Reads as dmpt-refuse-reads
-use Rattle.packet.proofs.header.refuse_early.Reads as refuse-early-reads
-use Rattle.packet.proofs.header.sub_of.Reads as sub-of-reads
-use Rattle.packet.proofs.psp.refuse.Reads as psp-refuse-reads
 
 -- what is cut from a packet that passed 2 to 4 has a whole header
 cut-whole : (c : tie.After-sub-of) → headerLength ≤ length (c .sub-of .result .now)
@@ -28,41 +22,33 @@ cut-whole c =
     let passed = early-passed overIp packet (sym (c .before .before .refuse-early .ensures) ∙ c .before .if2 .left) in
     rw (c .sub-of .ensures) (sub-whole overIp packet (passed .not-short))
 
--- src/lib.rt:27:9
 returns : tie.Need-returns
 returns c = check-unknown overIp (c .before .before .args .kind) (c .before .before .args .packet .now) (c .if1 .taken)
 
--- src/lib.rt:29:9
 refuse-early-requires : tie.Need-refuse-early-requires
 refuse-early-requires c κs = search needs
 
--- src/lib.rt:31:9
 returns-2 : tie.Need-returns-2
 returns-2 c =
     let a = c .before .before .before .before .args in
     check-early overIp (a .kind) (a .packet .now) (c .before .before .if1 .left) _ (c .before .refuse-early .ensures) (c .if2 .taken)
 
--- src/lib.rt:33:9
 sub-of-requires : tie.Need-sub-of-requires
 sub-of-requires c κs =
     omega (arith, early-passed overIp (c .before .before .before .before .args .packet .now) (sym (c .before .refuse-early .ensures) ∙ c .if2 .left) .not-short)
 
--- src/lib.rt:35:9
 refuse-requires : tie.Need-refuse-requires
 refuse-requires c κs = (omega arith, omega arith, cut-whole (c .before))
 
--- src/lib.rt:35:9
 returns-3 : tie.Need-returns-3
 returns-3 c =
     let a = c .before .before .before .before .before .before .before .args in
     check-psp overIp (a .kind) (a .packet .now) (c .before .before .before .before .before .if1 .left) _ (c .before .before .before .before .refuse-early .ensures) (c .before .before .before .if2 .left) (c .before .if3 .taken) _
     (c .refuse .ensures ∙ ap (λ (l : List ℕ). first (pspRefusals entryWidth l)) (c .before .before .sub-of .ensures))
 
--- src/lib.rt:37:5
 refuse-requires-2 : tie.Need-refuse-requires-2
 refuse-requires-2 c κs = cut-whole (c .before)
 
--- src/lib.rt:23:1
 returns-4 : tie.Need-returns-4
 returns-4 c =
     let a = c .before .before .before .before .before .before .before .args in

@@ -10,11 +10,6 @@ use Rattle.packet.proofs.Orders.{cause-stopped, cause-outside, cause-no
 use borrow.Author.Needs.{needs}
 use Rattle.packet.proofs.segment_cause.Statement.{statement}
 use Rattle.packet.proofs.segment_cause.Tie as tie
-use Rattle.packet.proofs.segment_cause.Reads as reads
-use Rattle.packet.proofs.segment_cause.Lts as lts
-use Rattle.packet.proofs.check.Reads as check-reads
-use Rattle.packet.proofs.header.segment_count.Reads as segment-count-reads
-use Rattle.packet.proofs.header.sub_of.Reads as sub-of-reads
 
 passed : (c : tie.Else1) → EarlyPassed overIp (c .before .before .before .args .packet .now)
 passed c = check-passed overIp (c .before .before .before .args .packet .now) (sym (c .before .check .ensures) ∙ c .if1 .left) .0
@@ -23,30 +18,24 @@ counted : (c : tie.After-segment-count) →
     c .segment-count .result ≡ segmentCount (sub overIp (c .before .before .before .before .before .args .packet .now))
 counted c = c .segment-count .ensures .0 ∙ ap segmentCount (c .before .sub-of .ensures)
 
--- src/lib.rt:44:9
 check-requires : tie.Need-check-requires
 check-requires c κs = search needs
 
--- src/lib.rt:46:9
 returns : tie.Need-returns
 returns c = cause-stopped overIp (c .before .before .before .args .packet .now) (c .before .before .before .args .k) _ (c .before .check .ensures) (c .if1 .taken)
 
--- src/lib.rt:48:9
 sub-of-requires : tie.Need-sub-of-requires
 sub-of-requires c κs = omega (arith, passed c .not-short)
 
--- src/lib.rt:49:8
 segment-count-requires : tie.Need-segment-count-requires
 segment-count-requires c κs =
     rw (c .sub-of .ensures) (sub-whole overIp (c .before .before .before .before .args .packet .now) (passed (c .before) .not-short))
 
--- src/lib.rt:50:9
 returns-2 : tie.Need-returns-2
 returns-2 c =
     let a = c .before .before .before .before .before .before .args in
     cause-outside overIp (a .packet .now) (a .k) _ (c .before .before .before .before .check .ensures) (c .before .before .before .if1 .left) (omega (arith, counted (c .before), c .if2 .taken))
 
--- src/lib.rt:41:1
 returns-3 : tie.Need-returns-3
 returns-3 c =
     let a = c .before .before .before .before .before .before .args in

@@ -5,32 +5,21 @@ use Rattle.table.specs.Calls.{closed}
 use borrow.Author.Needs.{needs}
 use Rattle.table.proofs.close.Statement.{statement}
 use Rattle.table.proofs.close.Tie as tie
-use Rattle.table.proofs.close.Reads as reads
-use Rattle.table.proofs.close.Lts as lts
-use Rattle.table.proofs.closed_row.Reads as closed-row-reads
-use Rattle.table.proofs.find_row.Reads as find-row-reads
-use Rattle.table.proofs.held_in.Reads as held-in-reads
-use Rattle.table.proofs.is_broken.Reads as is-broken-reads
 
--- src/lib.rt:278:8
 is-broken-requires : tie.Need-is-broken-requires
 is-broken-requires c κs = search needs
 
--- src/lib.rt:279:9
 returns : tie.Need-returns
 unfolding closed
 returns c = simp (← c .before .is-broken .ensures, c .if1 .taken)
 
--- src/lib.rt:286:9
 returns-2 : tie.Need-returns-2
 unfolding closed
 returns-2 c = simp (← c .before .before .is-broken .ensures, c .before .if1 .left, eq-eqb _ _ (c .if2 .taken), or-true)
 
--- src/lib.rt:292:9
 find-row-requires : tie.Need-find-row-requires
 find-row-requires c κs = search needs
 
--- src/lib.rt:294:9
 returns-3 : tie.Need-returns-3
 unfolding closed
 returns-3 c = simp (
@@ -41,31 +30,24 @@ returns-3 c = simp (
   le-ltb _ _ (c .if3 .taken),
 )
 
--- src/lib.rt:300:15
 mul-row : tie.Need-mul-row
 mul-row c = search needs
 
--- src/lib.rt:300:15
 element-copy-out-row : tie.Need-element-copy-out-row
 element-copy-out-row c = search needs
 
--- src/lib.rt:302:9
 closed-row-requires : tie.Need-closed-row-requires
 closed-row-requires c κs = search needs
 
--- src/lib.rt:303:5
 mul-empty : tie.Need-mul-empty
 mul-empty c = search needs
 
--- src/lib.rt:303:5
 element-set-from-empty : tie.Need-element-set-from-empty
 element-set-from-empty c = search needs
 
--- src/lib.rt:306:18
 held-in-requires : tie.Need-held-in-requires
 held-in-requires c κs = search needs
 
--- src/lib.rt:275:1
 returns-4 : tie.Need-returns-4
 unfolding closed
 returns-4 c = simp (

@@ -5,9 +5,6 @@ use Rattle.table.specs.Rows.{rows, openIn}
 use borrow.Author.Needs.{needs}
 use Rattle.table.proofs.find_row.Statement.{statement}
 use Rattle.table.proofs.find_row.Tie as tie
-use Rattle.table.proofs.find_row.Reads as reads
-use Rattle.table.proofs.find_row.Lts as lts
-use Rattle.table.proofs.is_closed.Reads as is-closed-reads
 
 abbrev Inv-loop : tie.InvT-loop
 Inv-loop id table i₀ i = Sought (openIn table id) rows i
@@ -15,23 +12,18 @@ Inv-loop id table i₀ i = Sought (openIn table id) rows i
 abbrev μ-loop : tie.MeasureT-loop
 μ-loop id table i₀ i = rows - i
 
--- src/lib.rt:186:5
 loop-holds : tie.Need-loop-holds Inv-loop μ-loop
 loop-holds c = seek-begin _ _
 
--- src/lib.rt:187:19
 mul-row : tie.Need-mul-row Inv-loop μ-loop
 mul-row c = search needs
 
--- src/lib.rt:187:19
 element-copy-out-row : tie.Need-element-copy-out-row Inv-loop μ-loop
 element-copy-out-row c = search needs
 
--- src/lib.rt:189:13
 is-closed-requires : tie.Need-is-closed-requires Inv-loop μ-loop
 is-closed-requires c κs = search needs
 
--- src/lib.rt:190:13
 returns : tie.Need-returns Inv-loop μ-loop
 returns c =
     seek-found
@@ -39,15 +31,12 @@ returns c =
     (c .before .before .before .before .loop-test .taken)
     (rw (c .before .before .is-closed .ensures) at (c .if1 .taken))
 
--- src/lib.rt:192:9
 add-i : tie.Need-add-i Inv-loop μ-loop
 add-i c = search needs
 
--- src/lib.rt:186:5
 loop-less : tie.Need-loop-less Inv-loop μ-loop
 loop-less c = search needs
 
--- src/lib.rt:186:5
 loop-again : tie.Need-loop-again Inv-loop μ-loop
 loop-again c =
     seek-turn
@@ -55,7 +44,6 @@ loop-again c =
     (c .before .before .before .before .loop-test .taken)
     (rw (c .before .before .is-closed .ensures) at (c .if1 .left))
 
--- src/lib.rt:182:1
 returns-2 : tie.Need-returns-2 Inv-loop μ-loop
 returns-2 c = seek-end (c .before .loop .inv) (c .loop-test .left)
 

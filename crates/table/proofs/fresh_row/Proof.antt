@@ -2,20 +2,13 @@
 use borrow.Author.Needs.{needs}
 use Rattle.table.proofs.fresh_row.Statement.{statement}
 use Rattle.table.proofs.fresh_row.Tie as tie
-use Rattle.table.proofs.fresh_row.Reads as reads
-use Rattle.table.proofs.fresh_row.Lts as lts
-use Rattle.flow.proofs.Flow.fresh.Reads as fresh-reads
-use Rattle.table.proofs.kind_of.Reads as kind-of-reads
 
--- src/lib.rt:77:9
 fresh-requires : tie.Need-fresh-requires
 fresh-requires c κs = search needs
 
--- src/lib.rt:78:9
 kind-of-requires : tie.Need-kind-of-requires
 kind-of-requires c κs = search needs
 
--- src/lib.rt:74:1
 returns : tie.Need-returns
 returns c = simp (c .before .fresh .ensures, c .kind-of .ensures)
 

@@ -4,54 +4,40 @@ use Rattle.octets.specs.Count.{sumTo}
 use borrow.Author.Needs.{needs}
 use Rattle.table.proofs.held_in.Statement.{statement}
 use Rattle.table.proofs.held_in.Tie as tie
-use Rattle.table.proofs.held_in.Reads as reads
-use Rattle.table.proofs.held_in.Lts as lts
 
--- src/lib.rt:217:13
 element-copy-out-a : tie.Need-element-copy-out-a
 element-copy-out-a c = search needs
 
--- src/lib.rt:218:13
 element-copy-out-b : tie.Need-element-copy-out-b
 element-copy-out-b c = search needs
 
--- src/lib.rt:219:13
 element-copy-out-c : tie.Need-element-copy-out-c
 element-copy-out-c c = search needs
 
--- src/lib.rt:220:13
 element-copy-out-d : tie.Need-element-copy-out-d
 element-copy-out-d c = search needs
 
--- src/lib.rt:221:5
 cast-result : tie.Need-cast-result
 cast-result c = search needs
 
--- src/lib.rt:221:21
 cast-result-2 : tie.Need-cast-result-2
 cast-result-2 c = search needs
 
--- src/lib.rt:221:5
 add-result : tie.Need-add-result
 add-result c = search needs
 
--- src/lib.rt:221:37
 cast-result-3 : tie.Need-cast-result-3
 cast-result-3 c = search needs
 
--- src/lib.rt:221:5
 add-result-2 : tie.Need-add-result-2
 add-result-2 c = search needs
 
--- src/lib.rt:221:53
 cast-result-4 : tie.Need-cast-result-4
 cast-result-4 c = search needs
 
--- src/lib.rt:221:5
 add-result-3 : tie.Need-add-result-3
 add-result-3 c = search needs
 
--- src/lib.rt:214:1
 returns : tie.Need-returns
 unfolding sumTo
 returns c = omega arith

@@ -4,32 +4,21 @@ use Rattle.table.specs.Calls.{opened}
 use borrow.Author.Needs.{needs}
 use Rattle.table.proofs.open.Statement.{statement}
 use Rattle.table.proofs.open.Tie as tie
-use Rattle.table.proofs.open.Reads as reads
-use Rattle.table.proofs.open.Lts as lts
-use Rattle.table.proofs.find_row.Reads as find-row-reads
-use Rattle.table.proofs.fresh_row.Reads as fresh-row-reads
-use Rattle.table.proofs.is_broken.Reads as is-broken-reads
-use Rattle.table.proofs.lowest_free.Reads as lowest-free-reads
 
--- src/lib.rt:240:8
 is-broken-requires : tie.Need-is-broken-requires
 is-broken-requires c κs = search needs
 
--- src/lib.rt:241:9
 returns : tie.Need-returns
 unfolding opened
 returns c = simp (← c .before .is-broken .ensures, c .if1 .taken)
 
--- src/lib.rt:247:9
 returns-2 : tie.Need-returns-2
 unfolding opened
 returns-2 c = simp (← c .before .before .is-broken .ensures, c .before .if1 .left, eq-eqb _ _ (c .if2 .taken))
 
--- src/lib.rt:252:8
 find-row-requires : tie.Need-find-row-requires
 find-row-requires c κs = search needs
 
--- src/lib.rt:253:9
 returns-3 : tie.Need-returns-3
 unfolding opened
 returns-3 c = simp (
@@ -40,11 +29,9 @@ returns-3 c = simp (
   lt-ltb _ _ (c .if3 .taken),
 )
 
--- src/lib.rt:258:9
 lowest-free-requires : tie.Need-lowest-free-requires
 lowest-free-requires c κs = search needs
 
--- src/lib.rt:260:9
 returns-4 : tie.Need-returns-4
 unfolding opened
 returns-4 c = simp (
@@ -57,19 +44,15 @@ returns-4 c = simp (
   le-leb _ _ (c .if4 .taken),
 )
 
--- src/lib.rt:266:9
 fresh-row-requires : tie.Need-fresh-row-requires
 fresh-row-requires c κs = search needs
 
--- src/lib.rt:267:5
 mul-row : tie.Need-mul-row
 mul-row c = search needs
 
--- src/lib.rt:267:5
 element-set-from-row : tie.Need-element-set-from-row
 element-set-from-row c = search needs
 
--- src/lib.rt:237:1
 returns-5 : tie.Need-returns-5
 unfolding opened
 returns-5 c = simp (

@@ -12,11 +12,6 @@ use lib.Dec.{eqb}
 use borrow.Author.Needs.{needs}
 use Rattle.table.proofs.row_broken.Statement.{statement}
 use Rattle.table.proofs.row_broken.Tie as tie
-use Rattle.table.proofs.row_broken.Reads as reads
-use Rattle.table.proofs.row_broken.Lts as lts
-use Rattle.table.proofs.flow_broken.Reads as flow-broken-reads
-use Rattle.table.proofs.is_closed.Reads as is-closed-reads
-use Rattle.table.proofs.is_dmpt.Reads as is-dmpt-reads
 
 -- the two questions about the kind are asked once, before the loop
 as-defined : (row : Row) {closed dmpt bad : Bool} → closed ≡ isClosed (row .kind) → dmpt ≡ isDmpt (row .kind) →
@@ -30,43 +25,33 @@ Inv-loop row closed dmpt bad₀ k₀ bad k = Gathered bad₀ (λ k. flowBroken c
 abbrev μ-loop : tie.MeasureT-loop
 μ-loop row closed dmpt bad₀ k₀ bad k = flows - k
 
--- src/lib.rt:130:9
 is-closed-requires : tie.Need-is-closed-requires Inv-loop μ-loop
 is-closed-requires c κs = search needs
 
--- src/lib.rt:131:9
 is-dmpt-requires : tie.Need-is-dmpt-requires Inv-loop μ-loop
 is-dmpt-requires c κs = search needs
 
--- src/lib.rt:134:5
 loop-holds : tie.Need-loop-holds Inv-loop μ-loop
 loop-holds c = gather-begin _ _ _
 
--- src/lib.rt:135:20
 mul-flow : tie.Need-mul-flow Inv-loop μ-loop
 mul-flow c = search needs
 
--- src/lib.rt:135:20
 element-copy-out-flow : tie.Need-element-copy-out-flow Inv-loop μ-loop
 element-copy-out-flow c = search needs
 
--- src/lib.rt:136:21
 flow-broken-requires : tie.Need-flow-broken-requires Inv-loop μ-loop
 flow-broken-requires c κs = search needs
 
--- src/lib.rt:137:9
 add-k : tie.Need-add-k Inv-loop μ-loop
 add-k c = search needs
 
--- src/lib.rt:134:5
 loop-less : tie.Need-loop-less Inv-loop μ-loop
 loop-less c = search needs
 
--- src/lib.rt:134:5
 loop-again : tie.Need-loop-again Inv-loop μ-loop
 loop-again c = gather-turn (c .before .before .before .loop .inv) (c .before .before .loop-test .taken) (c .flow-broken .ensures)
 
--- src/lib.rt:126:1
 returns : tie.Need-returns Inv-loop μ-loop
 returns c =
     as-defined (c .before .before .before .before .args .t1) (c .before .before .before .is-closed .ensures) (c .before .before .is-dmpt .ensures)

@@ -3,24 +3,16 @@ use borrow.Author.Tests.{lt-ltb, le-ltb}
 use borrow.Author.Needs.{needs}
 use Rattle.flow.proofs.Flow.judge.Statement.{statement}
 use Rattle.flow.proofs.Flow.judge.Tie as tie
-use Rattle.flow.proofs.Flow.judge.Reads as reads
-use Rattle.flow.proofs.Flow.judge.Lts as lts
-use Rattle.flow.proofs.ahead_of.Reads as ahead-of-reads
-use Rattle.flow.proofs.number_after.Reads as number-after-reads
 
--- src/lib.rt:62:23
 number-after-requires : tie.Need-number-after-requires
 number-after-requires c κs = search needs
 
--- src/lib.rt:66:13
 returns : tie.Need-returns
 returns c = simp (c .if1 .taken, c .before .before .number-after .ensures)
 
--- src/lib.rt:72:13
 ahead-of-requires : tie.Need-ahead-of-requires
 ahead-of-requires c κs = search needs
 
--- src/lib.rt:74:13
 returns-2 : tie.Need-returns-2
 returns-2 c =
     simp (
@@ -30,7 +22,6 @@ returns-2 c =
       c .before .before .before .before .number-after .ensures,
     )
 
--- src/lib.rt:57:5
 returns-3 : tie.Need-returns-3
 returns-3 c = simp (c .before .before .if1 .left, ← c .before .ahead-of .ensures, le-ltb _ _ (c .if2 .left))
 

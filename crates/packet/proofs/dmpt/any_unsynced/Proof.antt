@@ -10,8 +10,6 @@ use Rattle.packet.proofs.Mpegs.{mpeg-first}
 use borrow.Author.Needs.{needs}
 use Rattle.packet.proofs.dmpt.any_unsynced.Statement.{statement}
 use Rattle.packet.proofs.dmpt.any_unsynced.Tie as tie
-use Rattle.packet.proofs.dmpt.any_unsynced.Reads as reads
-use Rattle.packet.proofs.dmpt.any_unsynced.Lts as lts
 
 abbrev Inv-loop : tie.InvT-loop
 Inv-loop sub n unsynced₀ k₀ unsynced k = Gathered unsynced₀ (λ i. not (eqb (byteAt (mpegAt sub i) 0) syncByte)) n unsynced k
@@ -19,37 +17,29 @@ Inv-loop sub n unsynced₀ k₀ unsynced k = Gathered unsynced₀ (λ i. not (eq
 abbrev μ-loop : tie.MeasureT-loop
 μ-loop sub n unsynced₀ k₀ unsynced k = n - k
 
--- src/dmpt.rt:45:5
 loop-holds : tie.Need-loop-holds Inv-loop μ-loop
 loop-holds c = gather-begin _ _ _
 
--- src/dmpt.rt:46:60
 mul-unsynced : tie.Need-mul-unsynced Inv-loop μ-loop
 mul-unsynced c = search needs
 
--- src/dmpt.rt:46:36
 add-unsynced : tie.Need-add-unsynced Inv-loop μ-loop
 add-unsynced c = search needs
 
--- src/dmpt.rt:46:32
 shared-slice-read-unsynced : tie.Need-shared-slice-read-unsynced Inv-loop μ-loop
 shared-slice-read-unsynced c = search needs
 
--- src/dmpt.rt:47:9
 add-k : tie.Need-add-k Inv-loop μ-loop
 add-k c = search needs
 
--- src/dmpt.rt:45:5
 loop-less : tie.Need-loop-less Inv-loop μ-loop
 loop-less c = search needs
 
--- src/dmpt.rt:45:5
 loop-again : tie.Need-loop-again Inv-loop μ-loop
 loop-again c =
     gather-turn (c .before .before .loop .inv) (c .before .loop-test .taken)
     (ap (λ (b : ℕ). not (eqb b syncByte)) (sym (mpeg-first (c .before .before .before .args .sub .now) (c .before .before .loop .k))))
 
--- src/dmpt.rt:39:1
 returns : tie.Need-returns Inv-loop μ-loop
 returns c = gather-end (c .before .loop .inv) (c .loop-test .left)
 

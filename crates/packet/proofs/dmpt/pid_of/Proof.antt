@@ -8,27 +8,19 @@ use Rattle.packet.proofs.Mpegs.{pid-read}
 use borrow.Author.Needs.{needs}
 use Rattle.packet.proofs.dmpt.pid_of.Statement.{statement}
 use Rattle.packet.proofs.dmpt.pid_of.Tie as tie
-use Rattle.packet.proofs.dmpt.pid_of.Reads as reads
-use Rattle.packet.proofs.dmpt.pid_of.Lts as lts
-use Rattle.octets.proofs.read_u16.Reads as read-u16-reads
 
--- src/dmpt.rt:35:51
 mul-read-u16 : tie.Need-mul-read-u16
 mul-read-u16 c = search needs
 
--- src/dmpt.rt:35:27
 add-read-u16 : tie.Need-add-read-u16
 add-read-u16 c = search needs
 
--- src/dmpt.rt:35:27
 add-read-u16-2 : tie.Need-add-read-u16-2
 add-read-u16-2 c = search needs
 
--- src/dmpt.rt:35:5
 read-u16-requires : tie.Need-read-u16-requires
 read-u16-requires c κs = search needs
 
--- src/dmpt.rt:31:1
 returns : tie.Need-returns
 returns c =
     let a = c .before .before .args in

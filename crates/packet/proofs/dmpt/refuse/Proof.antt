@@ -3,25 +3,16 @@ use borrow.Author.Tests.{eq-eqb, ne-eqb}
 use borrow.Author.Needs.{needs}
 use Rattle.packet.proofs.dmpt.refuse.Statement.{statement}
 use Rattle.packet.proofs.dmpt.refuse.Tie as tie
-use Rattle.packet.proofs.dmpt.refuse.Reads as reads
-use Rattle.packet.proofs.dmpt.refuse.Lts as lts
-use Rattle.packet.proofs.dmpt.refuse_mpegs.Reads as refuse-mpegs-reads
-use Rattle.packet.proofs.header.flow_id.Reads as flow-id-reads
-use Rattle.packet.proofs.header.not_plain.Reads as not-plain-reads
 
--- src/dmpt.rt:75:8
 not-plain-requires : tie.Need-not-plain-requires
 not-plain-requires c κs = search needs
 
--- src/dmpt.rt:76:9
 returns : tie.Need-returns
 returns c = simp (← c .before .not-plain .ensures, c .if1 .taken)
 
--- src/dmpt.rt:78:8
 flow-id-requires : tie.Need-flow-id-requires
 flow-id-requires c κs = search needs
 
--- src/dmpt.rt:79:9
 returns-2 : tie.Need-returns-2
 returns-2 c =
     simp (
@@ -31,11 +22,9 @@ returns-2 c =
       ne-eqb _ _ (c .if2 .taken),
     )
 
--- src/dmpt.rt:81:5
 refuse-mpegs-requires : tie.Need-refuse-mpegs-requires
 refuse-mpegs-requires c κs = search needs
 
--- src/dmpt.rt:71:1
 returns-3 : tie.Need-returns-3
 returns-3 c =
     simp (

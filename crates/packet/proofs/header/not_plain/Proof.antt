@@ -2,20 +2,13 @@
 use borrow.Author.Needs.{needs}
 use Rattle.packet.proofs.header.not_plain.Statement.{statement}
 use Rattle.packet.proofs.header.not_plain.Tie as tie
-use Rattle.packet.proofs.header.not_plain.Reads as reads
-use Rattle.packet.proofs.header.not_plain.Lts as lts
-use Rattle.packet.proofs.header.h_bits.Reads as h-bits-reads
-use Rattle.packet.proofs.header.v_set.Reads as v-set-reads
 
--- src/header.rt:93:5
 v-set-requires : tie.Need-v-set-requires
 v-set-requires c κs = search needs
 
--- src/header.rt:93:19
 h-bits-requires : tie.Need-h-bits-requires
 h-bits-requires c κs = search needs
 
--- src/header.rt:89:1
 returns : tie.Need-returns
 returns c = simp (c .before .v-set .ensures, c .h-bits .ensures)
 

@@ -3,31 +3,22 @@ use borrow.Author.Tests.{eq-eqb, ne-eqb, lt-ltb, le-ltb}
 use borrow.Author.Needs.{needs}
 use Rattle.packet.proofs.header.refuse_early.Statement.{statement}
 use Rattle.packet.proofs.header.refuse_early.Tie as tie
-use Rattle.packet.proofs.header.refuse_early.Reads as reads
-use Rattle.packet.proofs.header.refuse_early.Lts as lts
-use Rattle.packet.proofs.header.session_id.Reads as session-id-reads
 
--- src/header.rt:101:23
 add-if1 : tie.Need-add-if1
 add-if1 c = search needs
 
--- src/header.rt:102:9
 returns : tie.Need-returns
 returns c = simp (lt-ltb _ _ (c .if1 .taken))
 
--- src/header.rt:104:8
 add-if2 : tie.Need-add-if2
 add-if2 c = search needs
 
--- src/header.rt:105:9
 returns-2 : tie.Need-returns-2
 returns-2 c = simp (le-ltb _ _ (c .before .if1 .left), lt-ltb _ _ (c .if2 .taken))
 
--- src/header.rt:107:8
 session-id-requires : tie.Need-session-id-requires
 session-id-requires c κs = search needs
 
--- src/header.rt:108:9
 returns-3 : tie.Need-returns-3
 returns-3 c =
     simp (
@@ -37,7 +28,6 @@ returns-3 c =
       eq-eqb _ _ (c .if3 .taken),
     )
 
--- src/header.rt:97:1
 returns-4 : tie.Need-returns-4
 returns-4 c =
     simp (

@@ -4,26 +4,19 @@ use Prim.Native.Nat.{_+_}
 use borrow.Author.Needs.{needs}
 use Rattle.packet.proofs.header.sub_of.Statement.{statement}
 use Rattle.packet.proofs.header.sub_of.Tie as tie
-use Rattle.packet.proofs.header.sub_of.Reads as reads
-use Rattle.packet.proofs.header.sub_of.Lts as lts
 
--- src/header.rt:40:16
 add-from : tie.Need-add-from
 add-from c = search needs
 
--- src/header.rt:41:5
 sub-result : tie.Need-sub-result
 sub-result c = search needs
 
--- src/header.rt:41:5
 part-result-start : tie.Need-part-result-start
 part-result-start c = search needs
 
--- src/header.rt:41:5
 part-result-end : tie.Need-part-result-end
 part-result-end c = search needs
 
--- src/header.rt:36:1
 returns : tie.Need-returns
 returns c = sliced-rest (c .before .args .packet .now) (c .before .args .lead + 4)
 

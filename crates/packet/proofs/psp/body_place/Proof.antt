@@ -10,42 +10,32 @@ use Rattle.packet.proofs.Passing.{table-small}
 use borrow.Author.Needs.{needs}
 use Rattle.packet.proofs.psp.body_place.Statement.{statement}
 use Rattle.packet.proofs.psp.body_place.Tie as tie
-use Rattle.packet.proofs.psp.body_place.Reads as reads
-use Rattle.packet.proofs.psp.body_place.Lts as lts
-use Rattle.packet.proofs.header.segment_count.Reads as segment-count-reads
-use Rattle.packet.proofs.psp.survey.Reads as survey-reads
 
--- src/psp.rt:84:9
 segment-count-requires : tie.Need-segment-count-requires
 segment-count-requires c κs = search needs
 
--- src/psp.rt:85:9
 survey-requires : tie.Need-survey-requires
 survey-requires c κs =
     let s = c .before .before in
     let count = c .segment-count .ensures in
     (s .pre .0, omega (arith, count .0, s .pre .2), count .1, fewer-entries (s .args .width) (s .args .k) _ _ (s .pre .2) (s .pre .3))
 
--- src/psp.rt:86:29
 mul-result : tie.Need-mul-result
 mul-result c =
     let s = c .before .before .before in
     omega (arith, table-small (s .args .width) (c .before .segment-count .result) (s .pre .1) (c .before .segment-count .ensures .1))
 
--- src/psp.rt:86:5
 add-result : tie.Need-add-result
 add-result c =
     let s = c .before .before .before in
     omega (arith, table-small (s .args .width) (c .before .segment-count .result) (s .pre .1) (c .before .segment-count .ensures .1))
 
--- src/psp.rt:86:5
 add-result-2 : tie.Need-add-result-2
 add-result-2 c =
     let s = c .before .before .before .before in
     let count = c .before .before .segment-count in
     omega (arith, table-small (s .args .width) (count .result) (s .pre .1) (count .ensures .1), c .before .survey .ensures .2, s .pre .2, count .ensures .0)
 
--- src/psp.rt:80:1
 returns : tie.Need-returns
 unfolding bodyAt
 returns c =

@@ -6,61 +6,47 @@ use Rattle.packet.proofs.Orders.{segments-none, segments-cut, segments-
 use borrow.Author.Needs.{needs}
 use Rattle.packet.proofs.psp.refuse_segments.Statement.{statement}
 use Rattle.packet.proofs.psp.refuse_segments.Tie as tie
-use Rattle.packet.proofs.psp.refuse_segments.Reads as reads
-use Rattle.packet.proofs.psp.refuse_segments.Lts as lts
-use Rattle.packet.proofs.header.segment_count.Reads as segment-count-reads
-use Rattle.packet.proofs.psp.survey.Reads as survey-reads
 
--- src/psp.rt:94:9
 segment-count-requires : tie.Need-segment-count-requires
 segment-count-requires c κs = search needs
 
--- src/psp.rt:96:9
 returns : tie.Need-returns
 returns c =
     let a = c .before .before .before .args in
     segments-none (a .width) (a .sub .now) _ (c .before .segment-count .ensures .0) (c .if1 .taken)
 
--- src/psp.rt:98:42
 mul-bodies : tie.Need-mul-bodies
 mul-bodies c =
     let s = c .before .before .before in
     omega (arith, table-small (s .args .width) (c .before .segment-count .result) (s .pre .1) (c .before .segment-count .ensures .1))
 
--- src/psp.rt:98:18
 add-bodies : tie.Need-add-bodies
 add-bodies c =
     let s = c .before .before .before in
     omega (arith, table-small (s .args .width) (c .before .segment-count .result) (s .pre .1) (c .before .segment-count .ensures .1))
 
--- src/psp.rt:100:9
 returns-2 : tie.Need-returns-2
 returns-2 c =
     let a = c .before .before .before .before .args in
     segments-cut (a .width) (a .sub .now) _ (c .before .before .segment-count .ensures .0) (c .before .if1 .left) (c .if2 .taken)
 
--- src/psp.rt:102:9
 survey-requires : tie.Need-survey-requires
 survey-requires c κs = search needs
 
--- src/psp.rt:103:8
 add-if3 : tie.Need-add-if3
 add-if3 c = search needs
 
--- src/psp.rt:104:9
 returns-3 : tie.Need-returns-3
 returns-3 c =
     let a = c .before .before .before .before .before .before .before .args in
     segments-misfit (a .width) (a .sub .now) _ (c .before .before .before .before .before .segment-count .ensures .0) (c .before .before .before .before .if1 .left) _ (c .before .before .survey .ensures .0) (c .if3 .taken)
 
--- src/psp.rt:107:9
 returns-4 : tie.Need-returns-4
 returns-4 c =
     let a = c .before .before .before .before .before .before .before .before .args in
     let table = c .before .before .before .survey .ensures in
     segments-spoilt (a .width) (a .sub .now) _ (c .before .before .before .before .before .before .segment-count .ensures .0) (c .before .before .before .before .before .if1 .left) _ (table .0) (c .before .if3 .left) _ (table .1) (c .if4 .taken)
 
--- src/psp.rt:90:1
 returns-5 : tie.Need-returns-5
 returns-5 c =
     let a = c .before .before .before .before .before .before .before .before .args in
