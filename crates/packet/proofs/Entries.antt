@@ -9,9 +9,9 @@ use native.Mathlib.Nat.{mul-suc, mul-le-mul-left}
 use lib.ListN.{length}
 use Rattle.octets.specs.Count.{any, sumTo}
 use Rattle.octets.proofs.Counts.{any-none, any-more, sum-none, sum-more}
-use Rattle.packet.specs.Header.{headerLength}
+use Rattle.packet.specs.Header.{headerLength, segmentCount}
 use Rattle.packet.specs.Segments.{eBit, entryAt, lengthIn, lengthAt}
-use Rattle.packet.specs.Psp.{badEntry}
+use Rattle.packet.specs.Psp.{badEntry, badAt}
 
 -- entry k ends before entry n begins
 pub entry-before : (width k n : ℕ) → k < n → width * k + width ≤ width * n
@@ -30,36 +30,36 @@ fewer-entries width k n room h r =
     omega arith
 
 -- what the survey of a table has found after k of n entries
-pub record Surveying (width : ℕ) (sub : List ℕ) (count n total : ℕ) (spoilt : Bool) (k : ℕ) : Type 0 where
+pub record Surveying (width : ℕ) (sub : List ℕ) (n total : ℕ) (spoilt : Bool) (k : ℕ) : Type 0 where
   pub within : k ≤ n
   pub sum : total ≡ sumTo (lengthAt width sub) k
-  pub faults : spoilt ≡ any (λ i. badEntry count i (entryAt width sub i)) k
+  pub faults : spoilt ≡ any (badAt width sub) k
   pub small : total ≤ eBit * k
 
-pub survey-begin : (width : ℕ) (sub : List ℕ) (count n : ℕ) → Surveying width sub count n 0 false 0
-survey-begin width sub count n =
+pub survey-begin : (width : ℕ) (sub : List ℕ) (n : ℕ) → Surveying width sub n 0 false 0
+survey-begin width sub n =
     record {
       within = omega arith;
       sum = sym (sum-none (lengthAt width sub));
-      faults = sym (any-none (λ i. badEntry count i (entryAt width sub i)));
+      faults = sym (any-none (badAt width sub));
       small = omega arith;
     }
 
-pub survey-turn : {width : ℕ} {sub : List ℕ} {count n total : ℕ} {spoilt : Bool} {k : ℕ} {entry size : ℕ} {bad : Bool} →
-    Surveying width sub count n total spoilt k → k < n → entry ≡ entryAt width sub k → size ≡ lengthIn entry → size < eBit →
-    bad ≡ badEntry count k entry → Surveying width sub count n (total + size) (spoilt || bad) (k + 1)
-survey-turn {width} {sub} {count} {n} {total} {spoilt} {k} {entry} {size} {bad} s l e z less b =
+pub survey-turn : {width : ℕ} {sub : List ℕ} {n total : ℕ} {spoilt : Bool} {k : ℕ} {count entry size : ℕ} {bad : Bool} →
+    Surveying width sub n total spoilt k → k < n → count ≡ segmentCount sub → entry ≡ entryAt width sub k →
+    size ≡ lengthIn entry → size < eBit → bad ≡ badEntry count k entry → Surveying width sub n (total + size) (spoilt || bad) (k + 1)
+survey-turn {width} {sub} {n} {total} {spoilt} {k} {count} {entry} {size} {bad} s l c e z less b =
     let size-is : size ≡ lengthAt width sub k = z ∙ ap lengthIn e in
-    let bad-is : bad ≡ badEntry count k (entryAt width sub k) = b ∙ ap (badEntry count k) e in
+    let bad-is : bad ≡ badAt width sub k = b ∙ ap (badEntry count k) e ∙ ap (λ (m : ℕ). badEntry m k (entryAt width sub k)) c in
     record {
       within = omega arith;
       sum = rw (sum-more (lengthAt width sub) k, s .sum, size-is) refl;
-      faults = rw (any-more (λ i. badEntry count i (entryAt width sub i)) k, s .faults, bad-is) refl;
+      faults = rw (any-more (badAt width sub) k, s .faults, bad-is) refl;
       small = omega (arith, s .small);
     }
 
-pub survey-end : {width : ℕ} {sub : List ℕ} {count n total : ℕ} {spoilt : Bool} {k : ℕ} →
-    Surveying width sub count n total spoilt k → n ≤ k → Surveying width sub count n total spoilt n
-survey-end {width} {sub} {count} {n} {total} {spoilt} {k} s l =
+pub survey-end : {width : ℕ} {sub : List ℕ} {n total : ℕ} {spoilt : Bool} {k : ℕ} →
+    Surveying width sub n total spoilt k → n ≤ k → Surveying width sub n total spoilt n
+survey-end {width} {sub} {n} {total} {spoilt} {k} s l =
     let done : k ≡ n = omega (arith, s .within) in
     rw done at s

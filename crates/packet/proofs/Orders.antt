@@ -13,7 +13,7 @@ use Rattle.refusal.proofs.Laws.{first-passed, first-stopped}
 use Rattle.octets.specs.Count.{any, sumTo}
 use Rattle.packet.specs.Header.{sub, headerLength, segmentCount, beforeSession}
 use Rattle.packet.specs.Segments.{entryWidth, entryAt, lengthAt, bodyAt}
-use Rattle.packet.specs.Psp.{wanted, badEntry, segmentRefusals, pspRefusals}
+use Rattle.packet.specs.Psp.{wanted, badAt, segmentRefusals, pspRefusals}
 use Rattle.packet.specs.Dmpt.{dmptRefusals}
 use Rattle.packet.specs.Check.{kindPsp, kindDmpt, kindUnknown, checkRefusals, check, causeRefusals, segmentCause}
 
@@ -42,10 +42,10 @@ module _ (width : ℕ) (sub : List ℕ) (count : ℕ) (counted : count ≡ segme
       segments-misfit w = misfit (λ e. w (wanted-is ∙ e))
 
       module _ (fit : headerLength + width * count + total ≡ length sub) (spoilt : Bool)
-          (judged : spoilt ≡ any (λ k. badEntry count k (entryAt width sub k)) count) where
+          (judged : spoilt ≡ any (badAt width sub) count) where
         by-faults : cond spoilt 11 0 ≡ first (segmentRefusals width sub)
         by-faults =
-            let f : spoilt ≡ any (λ k. badEntry (segmentCount sub) k (entryAt width sub k)) (segmentCount sub) = judged ∙ ap (λ (n : ℕ). any (λ k. badEntry n k (entryAt width sub k)) n) counted in
+            let f : spoilt ≡ any (badAt width sub) (segmentCount sub) = judged ∙ ap (any (badAt width sub)) counted in
             simp (ne-eqb (segmentCount sub) 0 (λ z. some (counted ∙ z)), eq-eqb (wanted width sub) (length sub) (sym wanted-is ∙ fit), f)
 
         pub segments-spoilt : spoilt ≡ true → 11 ≡ first (segmentRefusals width sub)

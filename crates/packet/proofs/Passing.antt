@@ -18,7 +18,7 @@ use Rattle.octets.proofs.Stretches.{length-rest}
 use Rattle.flow.specs.Flow.{topFlow}
 use Rattle.packet.specs.Header.{idLength, sessionId, sub, headerLength, sSet, flowId, segmentCount, notPlain, shortestPacket, longestPacket, beforeSession}
 use Rattle.packet.specs.Segments.{entryWidth, entryAt, beginsIn, endsIn, lengthIn, lengthAt, bodyAt}
-use Rattle.packet.specs.Psp.{wanted, badEntry, pspRefusals}
+use Rattle.packet.specs.Psp.{wanted, badAt, pspRefusals}
 use Rattle.packet.specs.Dmpt.{mpegLength, syncByte, carried, mpegCount, mpegAt, dmptRefusals}
 use Rattle.packet.specs.Check.{kindPsp, checkRefusals, check, causeRefusals, segmentCause}
 
@@ -49,7 +49,7 @@ pub record PspPassed (width : ℕ) (sub : List ℕ) : Type 0 where
   pub counted : sSet sub ≡ true
   pub some : segmentCount sub ≡ 0 → ⊥
   pub fills : wanted width sub ≡ length sub
-  pub sound : any (λ k. badEntry (segmentCount sub) k (entryAt width sub k)) (segmentCount sub) ≡ false
+  pub sound : any (badAt width sub) (segmentCount sub) ≡ false
 
 psp-of : (width : ℕ) (sub : List ℕ) → NoneApplies (pspRefusals width sub) → PspPassed width sub
 psp-of width sub n =
@@ -77,8 +77,8 @@ module _ (width : ℕ) (sub : List ℕ) (p : PspPassed width sub) where
     unfolding wanted bodyAt
     body-inside = omega (arith, p .fills, sum-within (lengthAt width sub) k (segmentCount sub) there)
 
-    pub entry-good : badEntry (segmentCount sub) k (entryAt width sub k) ≡ false
-    entry-good = none-at (λ k. badEntry (segmentCount sub) k (entryAt width sub k)) (segmentCount sub) k (p .sound) there
+    pub entry-good : badAt width sub k ≡ false
+    entry-good = none-at (badAt width sub) (segmentCount sub) k (p .sound) there
 
     -- no segment is empty
     pub body-some : lengthAt width sub k ≡ 0 → ⊥

@@ -21,11 +21,14 @@ abbrev pub badEntry : ℕ → ℕ → ℕ → Bool
 badEntry n k entry =
     eqb (lengthIn entry) 0 || (not (eqb k 0) && not (beginsIn entry)) || (not (eqb (k + 1) n) && not (endsIn entry))
 
+abbrev pub badAt : ℕ → List ℕ → ℕ → Bool
+badAt width sub k = badEntry (segmentCount sub) k (entryAt width sub k)
+
 abbrev pub segmentRefusals : ℕ → List ℕ → List Refusal
 segmentRefusals width sub =
     9 when eqb (segmentCount sub) 0
     ∷ 10 when not (eqb (wanted width sub) (length sub))
-    ∷ 11 when any (λ k. badEntry (segmentCount sub) k (entryAt width sub k)) (segmentCount sub)
+    ∷ 11 when any (badAt width sub) (segmentCount sub)
     ∷ []
 
 abbrev pub pspRefusals : ℕ → List ℕ → List Refusal

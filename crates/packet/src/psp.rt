@@ -7,7 +7,7 @@ ghost use Rattle.refusal.specs.Refusal.{first};
 ghost use Rattle.packet.specs.Header.{headerLength, segmentCount};
 ghost use Rattle.octets.specs.Count.{any, sumTo};
 ghost use Rattle.packet.specs.Segments.{eBit, entryAt, beginsIn, endsIn, lengthIn, lengthAt, bodyAt};
-ghost use Rattle.packet.specs.Psp.{badEntry, segmentRefusals, pspRefusals};
+ghost use Rattle.packet.specs.Psp.{badEntry, badAt, segmentRefusals, pspRefusals};
 use crate::header;
 use flow::Flow;
 
@@ -59,11 +59,14 @@ pub struct Surveyed {
     pub spoilt: bool,
 }
 
-// Surveys the first n of `count` entries.
-pub fn survey(sub: &[u8], width: usize, count: usize, n: usize) -> Surveyed
-    requires { ⌜ (2 ≤ width) × (n ≤ count) × (count < 128) × (headerLength + width * n ≤ length (now sub)) ⌝ }
-    ensures { λ r. ⌜ (r .total ≡ sumTo (lengthAt width (now (sub .entry))) n) × (r .spoilt ≡ any (λ k. badEntry count k (entryAt width (now (sub .entry)) k)) n) × (r .total ≤ eBit * n) ⌝ }
+// Surveys the first n entries.
+pub fn survey(sub: &[u8], width: usize, n: usize) -> Surveyed
+    requires { ⌜ (2 ≤ width) × (n ≤ segmentCount (now sub)) × (headerLength + width * n ≤ length (now sub)) ⌝ }
+    ensures { λ r. ⌜ r .total ≡ sumTo (lengthAt width (now (sub .entry))) n ⌝ }
+    ensures { λ r. ⌜ r .spoilt ≡ any (badAt width (now (sub .entry))) n ⌝ }
+    ensures { λ r. ⌜ r .total ≤ eBit * n ⌝ }
 {
+    let count = header::segment_count(sub);
     let mut total: usize = 0;
     let mut spoilt = false;
     let mut k: usize = 0;
@@ -78,11 +81,12 @@ pub fn survey(sub: &[u8], width: usize, count: usize, n: usize) -> Surveyed
 
 // Where the body of segment k starts.
 pub fn body_place(sub: &[u8], width: usize, k: usize) -> usize
-    requires { ⌜ (2 ≤ width) × (width ≤ 4) × (k ≤ segmentCount (now sub)) × (headerLength + width * segmentCount (now sub) ≤ length (now sub)) ⌝ }
+    requires { ⌜ (2 ≤ width) × (width ≤ 4) × (k ≤ segmentCount (now sub)) ⌝ }
+    requires { ⌜ headerLength + width * segmentCount (now sub) ≤ length (now sub) ⌝ }
     ensures { λ r. ⌜ r ≡ bodyAt width (now (sub .entry)) k ⌝ }
 {
     let count = header::segment_count(sub);
-    let before = survey(sub, width, count, k);
+    let before = survey(sub, width, k);
     header::HEADER_LENGTH + width * count + before.total
 }
 
@@ -99,7 +103,7 @@ fn refuse_segments(sub: &[u8], width: usize) -> u32
     if sub.len() < bodies {
         return refusal::LENGTHS_DISAGREE; // the segment table itself is cut
     }
-    let table = survey(sub, width, count, count);
+    let table = survey(sub, width, count);
     if bodies + table.total != sub.len() {
         return refusal::LENGTHS_DISAGREE;
     }

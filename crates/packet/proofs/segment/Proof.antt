@@ -69,7 +69,7 @@ add-start c = search needs
 body-place-requires : tie.Need-body-place-requires
 body-place-requires c κs =
     let g = facts c in
-    (omega arith, omega arith, omega (arith, g .among), g .entries)
+    ((omega arith, omega arith, omega (arith, g .among)), g .entries)
 
 add-start-2 : tie.Need-add-start-2
 add-start-2 c = omega (arith, place-inside c)

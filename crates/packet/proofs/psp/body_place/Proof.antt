@@ -17,24 +17,23 @@ segment-count-requires c κs = search needs
 survey-requires : tie.Need-survey-requires
 survey-requires c κs =
     let s = c .before .before in
-    let count = c .segment-count .ensures in
-    (s .pre .0, omega (arith, count .0, s .pre .2), count .1, fewer-entries (s .args .width) (s .args .k) _ _ (s .pre .2) (s .pre .3))
+    (s .pre .0 .0, s .pre .0 .2, fewer-entries (s .args .width) (s .args .k) _ _ (s .pre .0 .2) (s .pre .1))
 
 mul-result : tie.Need-mul-result
 mul-result c =
     let s = c .before .before .before in
-    omega (arith, table-small (s .args .width) (c .before .segment-count .result) (s .pre .1) (c .before .segment-count .ensures .1))
+    omega (arith, table-small (s .args .width) (c .before .segment-count .result) (s .pre .0 .1) (c .before .segment-count .ensures .1))
 
 add-result : tie.Need-add-result
 add-result c =
     let s = c .before .before .before in
-    omega (arith, table-small (s .args .width) (c .before .segment-count .result) (s .pre .1) (c .before .segment-count .ensures .1))
+    omega (arith, table-small (s .args .width) (c .before .segment-count .result) (s .pre .0 .1) (c .before .segment-count .ensures .1))
 
 add-result-2 : tie.Need-add-result-2
 add-result-2 c =
     let s = c .before .before .before .before in
     let count = c .before .before .segment-count in
-    omega (arith, table-small (s .args .width) (count .result) (s .pre .1) (count .ensures .1), c .before .survey .ensures .2, s .pre .2, count .ensures .0)
+    omega (arith, table-small (s .args .width) (count .result) (s .pre .0 .1) (count .ensures .1), c .before .survey .ensures .1 .1, s .pre .0 .2, count .ensures .0)
 
 returns : tie.Need-returns
 unfolding bodyAt

@@ -45,13 +45,13 @@ returns-4 : tie.Need-returns-4
 returns-4 c =
     let a = c .before .before .before .before .before .before .before .before .args in
     let table = c .before .before .before .survey .ensures in
-    segments-spoilt (a .width) (a .sub .now) _ (c .before .before .before .before .before .before .segment-count .ensures .0) (c .before .before .before .before .before .if1 .left) _ (table .0) (c .before .if3 .left) _ (table .1) (c .if4 .taken)
+    segments-spoilt (a .width) (a .sub .now) _ (c .before .before .before .before .before .before .segment-count .ensures .0) (c .before .before .before .before .before .if1 .left) _ (table .0) (c .before .if3 .left) _ (table .1 .0) (c .if4 .taken)
 
 returns-5 : tie.Need-returns-5
 returns-5 c =
     let a = c .before .before .before .before .before .before .before .before .args in
     let table = c .before .before .before .survey .ensures in
-    segments-passed (a .width) (a .sub .now) _ (c .before .before .before .before .before .before .segment-count .ensures .0) (c .before .before .before .before .before .if1 .left) _ (table .0) (c .before .if3 .left) _ (table .1) (c .if4 .left)
+    segments-passed (a .width) (a .sub .now) _ (c .before .before .before .before .before .before .segment-count .ensures .0) (c .before .before .before .before .before .if1 .left) _ (table .0) (c .before .if3 .left) _ (table .1 .0) (c .if4 .left)
 
 pub refuse-segments-spec : {M : Type 1} → statement M
 refuse-segments-spec =
