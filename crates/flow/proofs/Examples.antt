@@ -1,9 +1,7 @@
 -- Numbers judged, by computation: the definitions say of document 01's cases what the paper says.
-use Prim.Native.Nat.{ℕ}
 use mathlib.Core.Path.{_≡_, refl}
-use mathlib.Core.Bool.{Bool, true, false}
+use mathlib.Core.Bool.{true, false}
 use Rattle.flow.specs.declared.Flow.{Flow}
-use Rattle.flow.specs.declared.Judged.{Judged}
 use Rattle.flow.specs.Numbers.{ahead, next}
 use Rattle.flow.specs.Flow.{fresh, judge, accepted, tooLate}
 

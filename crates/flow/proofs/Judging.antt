@@ -1,14 +1,14 @@
 -- What a judgement says: what is expected after accepting, how large a gap can be, that a late number changes nothing, and that
 -- within document 01's bound a judgement on numbers is one on places along the sender's packets.
 use Prim.Native.Nat.{ℕ, _+_, _-_, _<_, _≤_}
-use mathlib.Core.Path.{_≡_, refl, sym, ap, _∙_}
+use mathlib.Core.Path.{_≡_, refl, sym}
 use mathlib.Core.Bool.{Bool, true, false, cond, not, true≢false}
 use native.Mathlib.Omega.{arith}
 use lib.Dec.{ltb}
 use borrow.Author.Tests.{ltb-true, lt-ltb, le-ltb}
 use Rattle.flow.specs.declared.Flow.{Flow}
 use Rattle.flow.specs.declared.Judged.{Judged}
-use Rattle.flow.specs.Numbers.{modulus, ahead, next, numberAt}
+use Rattle.flow.specs.Numbers.{ahead, numberAt}
 use Rattle.flow.specs.Flow.{half, accepted, tooLate, judge}
 use Rattle.flow.proofs.Numbers.{ahead-forward, ahead-behind}
 

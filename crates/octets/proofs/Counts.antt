@@ -1,11 +1,11 @@
 -- The laws of `any`, `least`, `sumTo` and `upTo`: what they mean, and one turn more, at the code's `k + 1`. The invariants of
 -- the loops that compute them stand here too, as records: `Gathered` for a loop that gathers faults, `Sought` for one that
 -- looks for the first number that passes. A loop's own proof then only cites a begin, a turn and an end.
-use Prim.Native.Nat.{ℕ, zero, suc, _+_, _*_, _<_, _≤_}
+use Prim.Native.Nat.{ℕ, zero, suc, _+_, _<_, _≤_}
 use mathlib.Core.Path.{_≡_, refl, ap, _∙_, sym}
-use mathlib.Core.Bool.{Bool, true, false, cond, _||_, or-true, or-false, or-assoc, true≢false}
+use mathlib.Core.Bool.{Bool, true, false, _||_, or-true, or-false, or-assoc, true≢false}
 use mathlib.Core.Logic.{_⊎_, inl, inr, ⊎-elim}
-use mathlib.Core.List.{List, [], _∷_, _++_}
+use mathlib.Core.List.{[], _∷_, _++_}
 use native.Mathlib.Numerals.{add-one}
 use native.Mathlib.Omega.{arith}
 use native.Mathlib.Nat.{not-suc-le-zero, eq-or-lt-of-le, le-of-suc-le-suc, le-refl, le-trans, le-add-right}

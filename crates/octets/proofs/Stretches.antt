@@ -1,12 +1,12 @@
 -- The laws of cutting and pasting lists, proved once. Every proof above cites these and opens neither `take`, `drop` nor `++`.
 use mathlib.Core.Path.{_≡_, refl, sym, ap, _∙_}
-use Prim.Native.Nat.{ℕ, zero, suc, _+_, _-_, _≤_, _<_}
+use Prim.Native.Nat.{ℕ, suc, _+_, _-_, _≤_, _<_}
 use native.Mathlib.Nat.{add-zero, add-assoc}
 use native.Mathlib.Numerals.{add-one}
 use native.Mathlib.Omega.{arith}
 use mathlib.Core.List.{List, [], _∷_, _++_, append-assoc, append-nil}
-use lib.ListN.{length, take, drop, set, getD, length-append, length-drop, take-append-drop}
-use lib.Seq.{length-take-le, take-at, take-all, drop-at, drop-drop, set-split, append-snoc, take-add, take-append-seam, take-append-le, drop-append-le, drop-append-seam, getD-drop, getD-take}
+use lib.ListN.{length, take, drop, set, length-append, length-drop, take-append-drop}
+use lib.Seq.{length-take-le, take-at, take-all, drop-at, drop-drop, set-split, append-snoc, take-add, take-append-seam, drop-append-seam, getD-drop, getD-take}
 use Rattle.octets.specs.Bytes.{byteAt}
 use Rattle.octets.specs.Stretch.{part, rest, put, joined, lengths, cutBy}
 

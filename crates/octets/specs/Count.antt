@@ -1,7 +1,7 @@
 -- Going through the numbers 0, 1, .. below a bound n. Tables (rows, flows, entries) are read by number, and these four are
 -- the ways in which a rule goes through one. A loop that has done k turns has computed the same at k.
 use Prim.Native.Nat.{ℕ, zero, suc, _+_}
-use mathlib.Core.Bool.{Bool, true, false, cond, _||_}
+use mathlib.Core.Bool.{Bool, false, cond, _||_}
 use mathlib.Core.List.{List, [], _∷_, _++_}
 
 -- some number below n passes the test

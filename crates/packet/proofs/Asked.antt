@@ -7,8 +7,8 @@ use native.Mathlib.Omega.{arith}
 use lib.ListN.{length}
 use Rattle.octets.specs.Stretch.{part}
 use Rattle.octets.proofs.Stretches.{length-part, part-none, part-rest}
-use Rattle.packet.specs.Header.{overIp, idLength, headerLength, shortestPacket, segmentCount, sub}
-use Rattle.packet.specs.Segments.{entryWidth, lengthAt, bodyAt, Segment, segmentAt}
+use Rattle.packet.specs.Header.{overIp, idLength, headerLength, segmentCount, sub}
+use Rattle.packet.specs.Segments.{entryWidth, lengthAt, bodyAt, segmentAt}
 use Rattle.packet.specs.Check.{segmentCause, Extent, extentBy, segmentExtent, segmentGiven}
 use Rattle.packet.proofs.Entries.{entry-within}
 use Rattle.packet.proofs.Passing.{EarlyPassed, PspPassed, entries-inside, body-inside, body-some, check-passed, cause-passed, sub-length}

@@ -1,12 +1,11 @@
 -- The segment table: where an entry lies, and the invariant of the loop that surveys it. An entry's width is a number of its own, so
 -- that nothing here changes when another edition of the header brings wider entries.
-use Prim.Native.Nat.{ℕ, zero, suc, _+_, _*_, _<_, _≤_}
+use Prim.Native.Nat.{ℕ, suc, _+_, _*_, _<_, _≤_}
 use mathlib.Core.Path.{_≡_, refl, sym, ap, _∙_}
-use mathlib.Core.Bool.{Bool, true, false, _||_}
+use mathlib.Core.Bool.{Bool, false, _||_}
 use mathlib.Core.List.{List}
 use native.Mathlib.Omega.{arith}
 use native.Mathlib.Nat.{mul-suc, mul-le-mul-left}
-use lib.ListN.{length}
 use Rattle.octets.specs.Count.{any, sumTo}
 use Rattle.octets.proofs.Counts.{any-none, any-more, sum-none, sum-more}
 use Rattle.packet.specs.Header.{headerLength, segmentCount}

@@ -2,17 +2,17 @@
 -- line would be refused with another number in it.
 use Prim.Native.Nat.{ℕ, _+_}
 use mathlib.Core.Path.{_≡_, refl}
-use mathlib.Core.Bool.{Bool, true, false}
+use mathlib.Core.Bool.{true, false}
 use mathlib.Core.List.{List, [], _∷_, _++_}
-use lib.ListN.{length, take, drop, set, replicate}
+use lib.ListN.{take, set, replicate}
 use Rattle.octets.specs.Stretch.{part, rest}
 use Rattle.octets.specs.Count.{any, sumTo, upTo}
 use Rattle.flow.specs.Flow.{topFlow, flows}
 use Rattle.packet.specs.Header.{sub, overIp, mostLead, sessionId, sSet, flowId, segmentCount, number, idLength, headerLength, shortestPacket}
-use Rattle.packet.specs.Segments.{Segment, entryWidth, segments, segmentAt, bodyAt}
+use Rattle.packet.specs.Segments.{entryWidth, segments, segmentAt, bodyAt}
 use Rattle.packet.specs.Psp.{wanted}
 use Rattle.packet.specs.Dmpt.{mpegAt, mpegs, pid}
-use Rattle.packet.specs.Check.{checkRefusals, check, causeRefusals, segmentCause, Extent, segmentExtent, segmentGiven}
+use Rattle.packet.specs.Check.{checkRefusals, check, causeRefusals, segmentCause, segmentExtent, segmentGiven}
 
 abbrev pub A : List ℕ
 A = 0x00 ∷ 0x00 ∷ 0x01 ∷ 0x01 ∷ 0x41 ∷ 0x02 ∷ 0xFF ∷ 0xFF ∷ 0xC0 ∷ 0x06 ∷ 0x80 ∷ 0x02 ∷ 0x11 ∷ 0x12 ∷ 0x13 ∷ 0x14 ∷ 0x15 ∷ 0x16 ∷ 0x21 ∷ 0x22 ∷ []

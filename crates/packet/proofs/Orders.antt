@@ -1,21 +1,21 @@
 -- The ways out of the packet check: for each return of the code the line of the order that it answers, with what the code has found as
 -- arguments. A function's own proof then only cites these.
-use Prim.Native.Nat.{ℕ, _+_, _*_, _%_, _<_, _≤_}
+use Prim.Native.Nat.{ℕ, _+_, _*_, _<_, _≤_}
 use mathlib.Core.Path.{_≡_, refl, sym, ap, _∙_}
-use mathlib.Core.Bool.{Bool, true, false, cond, not, _&&_}
-use mathlib.Core.List.{List, [], _∷_, _++_}
+use mathlib.Core.Bool.{Bool, true, false, cond}
+use mathlib.Core.List.{List, [], _∷_}
 use native.Mathlib.Omega.{arith}
-use lib.Dec.{eqb, ltb, leb}
+use lib.Dec.{eqb, leb}
 use lib.ListN.{length}
-use borrow.Author.Tests.{eq-eqb, ne-eqb, le-leb, lt-leb, eqb-true}
-use Rattle.refusal.specs.Refusal.{Refusal, _when_, first}
+use borrow.Author.Tests.{eq-eqb, ne-eqb, le-leb, lt-leb}
+use Rattle.refusal.specs.Refusal.{_when_, first}
 use Rattle.refusal.proofs.Laws.{first-passed, first-stopped}
 use Rattle.octets.specs.Count.{any, sumTo}
 use Rattle.packet.specs.Header.{sub, headerLength, segmentCount, beforeSession}
-use Rattle.packet.specs.Segments.{entryWidth, entryAt, lengthAt, bodyAt}
+use Rattle.packet.specs.Segments.{entryWidth, lengthAt, bodyAt}
 use Rattle.packet.specs.Psp.{wanted, badAt, segmentRefusals, pspRefusals}
 use Rattle.packet.specs.Dmpt.{dmptRefusals}
-use Rattle.packet.specs.Check.{kindPsp, kindDmpt, kindUnknown, checkRefusals, check, causeRefusals, segmentCause}
+use Rattle.packet.specs.Check.{kindPsp, kindUnknown, checkRefusals, check, causeRefusals, segmentCause}
 
 -- Refusals 9 to 11, PSP. `count`, `total` and `spoilt` are what the code has counted.
 module _ (width : ℕ) (sub : List ℕ) (count : ℕ) (counted : count ≡ segmentCount sub) where

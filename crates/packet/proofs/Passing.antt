@@ -1,23 +1,23 @@
 -- What a packet that is not refused is known to have, one record for each stretch of the orders. The data call and the theorems above
 -- take their bounds from here: a packet that passes is as long as its parts, so every segment lies in it.
 use Prim.Native.Nat.{ℕ, _+_, _-_, _*_, _%_, _<_, _≤_}
-use mathlib.Core.Path.{_≡_, refl, sym, ap, _∙_}
-use mathlib.Core.Bool.{Bool, true, false, not}
-use mathlib.Core.List.{List, [], _∷_, _++_}
+use mathlib.Core.Path.{_≡_, refl}
+use mathlib.Core.Bool.{true, false, not}
+use mathlib.Core.List.{List, [], _∷_}
 use native.Mathlib.Omega.{arith}
 use native.Mathlib.Nat.{mul-le-mul}
-use lib.Dec.{eqb, ltb, leb}
+use lib.Dec.{eqb, leb}
 use lib.ListN.{length}
-use borrow.Author.Tests.{ltb-true, ltb-false, leb-false, eqb-true, eqb-false, not-false}
+use borrow.Author.Tests.{ltb-false, leb-false, eqb-true, eqb-false, not-false}
 use Rattle.refusal.specs.Refusal.{_when_, first}
 use Rattle.refusal.proofs.Laws.{NoneApplies, none-applies, none-first, none-apart}
 use Rattle.octets.specs.Bytes.{byteAt}
-use Rattle.octets.specs.Count.{any, sumTo}
+use Rattle.octets.specs.Count.{any}
 use Rattle.octets.proofs.Counts.{none-at, or-false-left, sum-within}
 use Rattle.octets.proofs.Stretches.{length-rest}
 use Rattle.flow.specs.Flow.{topFlow}
 use Rattle.packet.specs.Header.{idLength, sessionId, sub, headerLength, sSet, flowId, segmentCount, notPlain, shortestPacket, longestPacket, beforeSession}
-use Rattle.packet.specs.Segments.{entryWidth, entryAt, beginsIn, endsIn, lengthIn, lengthAt, bodyAt}
+use Rattle.packet.specs.Segments.{entryWidth, lengthAt, bodyAt}
 use Rattle.packet.specs.Psp.{wanted, badAt, pspRefusals}
 use Rattle.packet.specs.Dmpt.{mpegLength, syncByte, carried, mpegCount, mpegAt, dmptRefusals}
 use Rattle.packet.specs.Check.{kindPsp, checkRefusals, check, causeRefusals, segmentCause}

@@ -7,11 +7,8 @@ pub mod dmpt;
 pub mod header;
 pub mod psp;
 
-ghost use mathlib.Core.Path.{_≡_};
-ghost use Prim.Native.Nat.{_+_, _<_, _≤_};
-ghost use lib.ListN.{length};
-ghost use Rattle.octets.specs.Count.{sumTo};
-ghost use Rattle.packet.specs.Header.{overIp, idLength, headerLength, segmentCount, sub};
+ghost use Prim.Native.Nat.{_+_, _<_};
+ghost use Rattle.packet.specs.Header.{sub};
 ghost use Rattle.packet.specs.Check.{PermitsCheck, PermitsSegmentCause, PermitsSegment};
 
 // The kinds of session as the host program numbers them.

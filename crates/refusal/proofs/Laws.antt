@@ -6,7 +6,7 @@ use mathlib.Core.Bool.{Bool, true, false, cond, not, _&&_, true≢false}
 use mathlib.Core.List.{List, [], _∷_, _++_}
 use lib.Dec.{eqb}
 use borrow.Author.Tests.{eq-eqb}
-use Rattle.refusal.specs.Refusal.{Refusal, _when_, first}
+use Rattle.refusal.specs.Refusal.{Refusal, first}
 
 -- No line gives 0, which would say that nothing was refused. Of a list that is written out this is `refl`.
 abbrev pub numbered : List Refusal → Bool

@@ -2,7 +2,7 @@
 // session, and putting a flow's record back. Nothing here knows of packets, and nothing here touches the holding slice.
 ghost use mathlib.Core.Path.{_≡_};
 ghost use Prim.Native.Nat.{_<_};
-ghost use Rattle.table.specs.Rows.{PermitsEmpty, rows, isClosed, isDmpt, rowAt, find, lowestFree, closedRow, heldIn, withFlow};
+ghost use Rattle.table.specs.Rows.{PermitsEmpty, rows, isClosed, isDmpt, find, lowestFree, closedRow, heldIn, withFlow};
 ghost use Rattle.table.specs.Broken.{flowBroken, rowBroken, sameOpen, openTwice, broken};
 ghost use Rattle.table.specs.Calls.{kindOf, freshRow, PermitsOpen, PermitsClose};
 ghost use Rattle.flow.specs.Flow.{flows};

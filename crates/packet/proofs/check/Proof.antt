@@ -1,11 +1,11 @@
 -- `packet::check` asks about the kind, then 2 to 4, then the kind's own refusals: the order of `checkRefusals`.
-use mathlib.Core.Path.{_≡_, ap, sym, _∙_}
+use mathlib.Core.Path.{ap, sym, _∙_}
 use mathlib.Core.List.{List}
 use Prim.Native.Nat.{ℕ, _≤_}
 use native.Mathlib.Omega.{arith}
 use lib.ListN.{length}
 use Rattle.refusal.specs.Refusal.{first}
-use Rattle.packet.specs.Header.{overIp, headerLength, sub}
+use Rattle.packet.specs.Header.{overIp, headerLength}
 use Rattle.packet.specs.Segments.{entryWidth}
 use Rattle.packet.specs.Psp.{pspRefusals}
 use Rattle.packet.specs.Dmpt.{dmptRefusals}

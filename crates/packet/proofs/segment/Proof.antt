@@ -1,14 +1,13 @@
 -- `packet::segment` gives the stretch that `segmentExtent` names: an empty one at the start where the request is refused, else the body
 -- behind all entries and all bodies before it.
 use mathlib.Core.Path.{_≡_, refl, ap, sym, _∙_}
-use mathlib.Core.List.{List}
-use Prim.Native.Nat.{ℕ, _+_, _-_, _≤_}
+use Prim.Native.Nat.{_+_, _-_, _≤_}
 use native.Mathlib.Omega.{arith}
 use lib.ListN.{length}
 use Rattle.octets.specs.Stretch.{part}
 use Rattle.octets.proofs.Stretches.{sliced-part}
 use Rattle.packet.specs.Header.{overIp, idLength}
-use Rattle.packet.specs.Segments.{entryWidth, lengthIn, lengthAt, bodyAt}
+use Rattle.packet.specs.Segments.{entryWidth, lengthIn, lengthAt}
 use Rattle.packet.specs.Check.{segmentCause, Extent, segmentExtent, segmentGiven}
 use Rattle.packet.proofs.Asked.{Given, given-facts, given-none, extent-refused, extent-found}
 use borrow.Author.Needs.{needs}

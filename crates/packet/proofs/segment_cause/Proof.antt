@@ -1,10 +1,7 @@
 -- `packet::segment_cause` asks the PSP check, and then whether the packet has a segment k: the order of `causeRefusals`.
 use mathlib.Core.Path.{_≡_, ap, sym, _∙_}
-use mathlib.Core.List.{List}
-use Prim.Native.Nat.{ℕ, _≤_}
 use native.Mathlib.Omega.{arith}
-use lib.ListN.{length}
-use Rattle.packet.specs.Header.{overIp, headerLength, segmentCount, sub}
+use Rattle.packet.specs.Header.{overIp, segmentCount, sub}
 use Rattle.packet.proofs.Passing.{EarlyPassed, check-passed, sub-whole}
 use Rattle.packet.proofs.Orders.{cause-stopped, cause-outside, cause-none}
 use borrow.Author.Needs.{needs}

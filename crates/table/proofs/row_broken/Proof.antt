@@ -1,5 +1,5 @@
 -- `table::row_broken` gathers the faults of the four flows behind that of the ID.
-use Prim.Native.Nat.{ℕ, _-_}
+use Prim.Native.Nat.{_-_}
 use Rattle.octets.proofs.Counts.{Gathered, gather-begin, gather-turn, gather-end}
 use Rattle.flow.specs.Flow.{flows}
 use Rattle.octets.specs.Count.{any}

@@ -1,7 +1,7 @@
 -- `packet::dmpt::any_unsynced` gathers, over the MPEG packets in order, whether one starts with another byte.
 use Prim.Native.Nat.{ℕ, _-_}
 use mathlib.Core.Path.{ap, sym}
-use mathlib.Core.Bool.{Bool, not}
+use mathlib.Core.Bool.{not}
 use lib.Dec.{eqb}
 use Rattle.octets.specs.Bytes.{byteAt}
 use Rattle.octets.proofs.Counts.{Gathered, gather-begin, gather-turn, gather-end}

@@ -1,5 +1,4 @@
 -- `packet::dmpt::refuse_mpegs` asks 9, 10 and 11 in order.
-use mathlib.Core.Path.{ap, _∙_}
 use borrow.Author.Tests.{eq-eqb, ne-eqb}
 use borrow.Author.Needs.{needs}
 use Rattle.packet.proofs.dmpt.refuse_mpegs.Statement.{statement}

@@ -1,10 +1,7 @@
 -- `packet::psp::body_place` adds up header, entries and the bodies before the segment.
-use mathlib.Core.Path.{refl, ap, _∙_}
-use Prim.Native.Nat.{ℕ, _+_, _*_}
+use mathlib.Core.Path.{refl}
 use native.Mathlib.Omega.{arith}
-use Rattle.octets.specs.Count.{sumTo}
-use Rattle.packet.specs.Header.{headerLength}
-use Rattle.packet.specs.Segments.{lengthAt, bodyAt}
+use Rattle.packet.specs.Segments.{bodyAt}
 use Rattle.packet.proofs.Entries.{fewer-entries}
 use Rattle.packet.proofs.Passing.{table-small}
 use borrow.Author.Needs.{needs}

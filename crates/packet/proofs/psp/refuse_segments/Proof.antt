@@ -1,5 +1,4 @@
 -- `packet::psp::refuse_segments` answers at each return the line of 9 to 11 for what it has counted (`Orders`).
-use mathlib.Core.Path.{_∙_, sym}
 use native.Mathlib.Omega.{arith}
 use Rattle.packet.proofs.Passing.{table-small}
 use Rattle.packet.proofs.Orders.{segments-none, segments-cut, segments-misfit, segments-spoilt, segments-passed}
