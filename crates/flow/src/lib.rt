@@ -81,7 +81,7 @@ impl Flow {
         if gap < Flow::HALF {
             return Judged {
                 flow: next,
-                gap: gap,
+                gap,
                 late: false,
             };
         }

@@ -77,8 +77,8 @@ fn fresh_row(id: u32, mode: Mode) -> Row
     let fresh = Flow::fresh();
     let kind = kind_of(mode);
     Row {
-        id: id,
-        kind: kind,
+        id,
+        kind,
         flows: [fresh; FLOWS],
     }
 }
@@ -240,26 +240,26 @@ pub fn open(table: Table, id: u32, mode: Mode) -> Opening
     if is_broken(table) {
         return Opening {
             code: refusal::TABLE_BROKEN,
-            table: table,
+            table,
         };
     }
     if id == 0 {
         return Opening {
             code: refusal::OPEN_WITHOUT_ID,
-            table: table,
+            table,
         };
     }
     if find_row(table, id) < ROWS {
         return Opening {
             code: refusal::ALREADY_OPEN,
-            table: table,
+            table,
         };
     }
     let at = lowest_free(table);
     if ROWS <= at {
         return Opening {
             code: refusal::ALL_ROWS_OPEN,
-            table: table,
+            table,
         };
     }
     let mut next = table;
@@ -279,14 +279,14 @@ pub fn close(table: Table, id: u32) -> Closing
         return Closing {
             code: refusal::TABLE_BROKEN,
             dropped: 0,
-            table: table,
+            table,
         };
     }
     if id == 0 {
         return Closing {
             code: refusal::CLOSE_OF_NONE,
             dropped: 0,
-            table: table,
+            table,
         };
     }
     let at = find_row(table, id);
@@ -294,7 +294,7 @@ pub fn close(table: Table, id: u32) -> Closing
         return Closing {
             code: refusal::CLOSE_OF_NONE,
             dropped: 0,
-            table: table,
+            table,
         };
     }
     let row = table.rows[at];
