@@ -3,7 +3,7 @@ use mathlib.Core.Path.{_≡_, refl}
 use mathlib.Core.Bool.{true, false}
 use Rattle.flow.specs.declared.Flow.{Flow}
 use Rattle.flow.specs.Numbers.{ahead, next}
-use Rattle.flow.specs.Flow.{fresh, judge, accepted, tooLate}
+use Rattle.flow.specs.Flow.{fresh, judge, accepted, tooLate, unnumbered}
 
 -- a flow that took 0xFFFF, as after packet A
 abbrev afterA : Flow
@@ -44,3 +44,13 @@ late-again = refl
 -- a fresh flow that expects 0 by its zeros is not one that waits for 0
 fresh-is-not-waiting : (judge fresh 0x8000) .late ≡ false
 fresh-is-not-waiting = refl
+
+-- a late number leaves the whole record as it was, with gap 0
+late-leaves : judge (record { heard = true; expected = 5; held = 2 }) 3 ≡ record { flow = record { heard = true; expected = 5; held = 2 }; gap = 0; late = true }
+unfolding ahead next
+late-leaves = refl
+
+-- D-MPT with S clear: no gap, not late, and the record as it was
+unnumbered-leaves : (unnumbered fresh ≡ record { flow = fresh; gap = 0; late = false })
+    × (unnumbered afterA ≡ record { flow = record { heard = true; expected = 0; held = 2 }; gap = 0; late = false })
+unnumbered-leaves = (refl, refl)

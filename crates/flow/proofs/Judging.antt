@@ -1,7 +1,7 @@
 -- What a judgement says: what is expected after accepting, how large a gap can be, that a late number changes nothing, and that
 -- within document 01's bound a judgement on numbers is one on places along the sender's packets.
 use Prim.Native.Nat.{ℕ, _+_, _-_, _<_, _≤_}
-use mathlib.Core.Path.{_≡_, refl, sym}
+use mathlib.Core.Path.{_≡_, refl, sym, ap}
 use mathlib.Core.Bool.{Bool, true, false, cond, not, true≢false}
 use native.Mathlib.Omega.{arith}
 use lib.Dec.{ltb}
@@ -45,3 +45,9 @@ module _ (f : Flow) (start m : ℕ) (listening : f .heard ≡ true) (waits : f .
   pub judge-behind : (i : ℕ) → i < m → m ≤ i + half → judge f (numberAt start i) ≡ tooLate f
   judge-behind i from to =
       simp (listening, waits, le-ltb (ahead (numberAt start i) (numberAt start m)) half (ahead-behind start m i from to))
+
+-- A late number changes nothing of the record, and its gap is 0.
+pub late-keeps : (f : Flow) (n : ℕ) → judge f n .late ≡ true → (judge f n .flow ≡ f) × (judge f n .gap ≡ 0)
+late-keeps f n e =
+    let k = judge-sound f n .kept e in
+    (ap (λ (j : Judged). j .flow) k, ap (λ (j : Judged). j .gap) k)

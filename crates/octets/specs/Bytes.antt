@@ -1,15 +1,12 @@
--- Numbers of two and four bytes, most significant byte first (document 01, "Packet layout": numbers big-endian).
-use Prim.Native.Nat.{ℕ, _+_, _*_, _/_, _%_, _<_}
+-- Numbers of two and four bytes, most significant byte first (document 01, "Packet layout": numbers big-endian). The elements of a list are
+-- numbers of any size here; those of a slice of bytes are below 256.
+use Prim.Native.Nat.{ℕ, _+_, _*_, _/_, _%_}
 use mathlib.Core.List.{List, [], _∷_, _++_}
 use lib.ListN.{getD}
 
 -- Byte number i. Past the end of the list stands a 0; no rule is decided by it, since a rule on lengths stands before each that reads.
 abbrev pub byteAt : List ℕ → ℕ → ℕ
 byteAt bytes i = getD bytes i 0
-
--- The elements of a list are numbers of any size, those of a slice of bytes are below 256. Said only where it matters.
-abbrev pub AllBytes : List ℕ → Type 0
-AllBytes bytes = (i : ℕ) → byteAt bytes i < 256
 
 -- the number in the two bytes from place i on, and in the four
 abbrev pub be16At : List ℕ → ℕ → ℕ

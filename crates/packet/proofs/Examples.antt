@@ -4,14 +4,14 @@ use Prim.Native.Nat.{ℕ, _+_}
 use mathlib.Core.Path.{_≡_, refl}
 use mathlib.Core.Bool.{true, false}
 use mathlib.Core.List.{List, [], _∷_, _++_}
-use lib.ListN.{take, set, replicate}
+use lib.ListN.{length, take, set, replicate}
 use Rattle.octets.specs.Stretch.{part, rest}
 use Rattle.octets.specs.Count.{any, sumTo, upTo}
 use Rattle.flow.specs.Flow.{topFlow, flows}
 use Rattle.packet.specs.Header.{sub, overIp, mostLead, sessionId, sSet, flowId, segmentCount, number, idLength, headerLength, shortestPacket}
-use Rattle.packet.specs.Segments.{entryWidth, segments, segmentAt, bodyAt}
+use Rattle.packet.specs.Segments.{entryWidth, lengthIn, segments, segmentAt, bodyAt}
 use Rattle.packet.specs.Psp.{wanted}
-use Rattle.packet.specs.Dmpt.{mpegAt, mpegs, pid}
+use Rattle.packet.specs.Dmpt.{mpegAt, mpegs, pid, nullPid}
 use Rattle.packet.specs.Check.{checkRefusals, check, causeRefusals, segmentCause, segmentExtent, segmentGiven}
 
 abbrev pub A : List ℕ
@@ -110,3 +110,45 @@ with-a-lead : (check mostLead 1 (0 ∷ 3 ∷ 0 ∷ 0 ∷ A) ≡ 0) × (check mos
     × (segmentExtent mostLead (0 ∷ 3 ∷ 0 ∷ 0 ∷ A) 1 ≡ record { start = 22; size = 2 })
 unfolding check checkRefusals segmentExtent segmentCause causeRefusals rest wanted bodyAt any sumTo
 with-a-lead = (refl, refl, refl, refl, refl)
+
+-- Fields in whole: a number of two unlike bytes; S beside V; 127 segments, with the reserved bit; a length of 14 bits; the null PID
+fields : (number (0x41 ∷ 0x02 ∷ 0x12 ∷ 0x34 ∷ []) ≡ 0x1234) × (sSet (0xC0 ∷ []) ≡ true) × (segmentCount (0x41 ∷ 0xFF ∷ []) ≡ 127)
+    × (lengthIn 0xFFFF ≡ 16383) × (lengthIn 0xC800 ≡ 2048) × (pid (mpeg 0xFF) ≡ nullPid)
+fields = (refl, refl, refl, refl, refl, refl)
+
+-- PSP on flow 0
+flow-0 : check overIp 1 (set A 4 0x40) ≡ 0
+unfolding check checkRefusals rest wanted bodyAt any sumTo
+flow-0 = refl
+
+-- Orders that nothing above tells apart: 3 before 4, 4 before 6; for D-MPT 6 before 7, 7 before 9, 10 for less than one MPEG packet, 10 before 11
+orders : (check overIp 1 (set (set (A ++ replicate 4081 0) 2 0) 3 0) ≡ 3) × (check overIp 1 (set (set (set A 2 0) 3 0) 4 0xC1) ≡ 4)
+    × (check overIp 2 (set D 4 0x81) ≡ 6) × (check overIp 2 (set (take 8 D) 4 0x01) ≡ 7) × (check overIp 2 (take 9 D) ≡ 10)
+    × (check overIp 2 (take 383 (set D 8 0x46)) ≡ 10)
+unfolding check checkRefusals rest wanted bodyAt any sumTo mpegAt part
+orders = (refl, refl, refl, refl, refl, refl)
+
+-- Three segments of one byte: all whole; the middle one, and the last, without B; the first, and the middle one, without E
+abbrev three : ℕ → ℕ → ℕ → List ℕ
+three a b c = 0 ∷ 0 ∷ 1 ∷ 1 ∷ 0x41 ∷ 3 ∷ 0 ∷ 0 ∷ a ∷ 1 ∷ b ∷ 1 ∷ c ∷ 1 ∷ 0x11 ∷ 0x22 ∷ 0x33 ∷ []
+
+middles : (check overIp 1 (three 0x40 0xC0 0x80) ≡ 0) × (check overIp 1 (three 0xC0 0x40 0xC0) ≡ 11) × (check overIp 1 (three 0xC0 0xC0 0x40) ≡ 11)
+    × (check overIp 1 (three 0x80 0xC0 0xC0) ≡ 11) × (check overIp 1 (three 0xC0 0x80 0xC0) ≡ 11)
+unfolding check checkRefusals rest wanted bodyAt any sumTo
+middles = (refl, refl, refl, refl, refl)
+
+-- as many as there are: three segments, one MPEG packet
+as-many : (length (segments entryWidth (sub overIp (three 0xC0 0xC0 0xC0))) ≡ 3) × (mpegs (sub overIp (take 196 D)) ≡ mpeg 0xFE ∷ [])
+unfolding segments segmentAt bodyAt rest part sumTo upTo mpegs mpegAt
+as-many = (refl, refl)
+
+-- with a lead the session ID stands behind it, whatever the lead says
+lead-id : (check mostLead 1 (0 ∷ 3 ∷ 0 ∷ 0 ∷ set (set A 2 0) 3 0) ≡ 4) × (check mostLead 1 (0 ∷ 0 ∷ 0 ∷ 0 ∷ A) ≡ 0)
+unfolding check checkRefusals rest wanted bodyAt any sumTo
+lead-id = (refl, refl)
+
+-- entries of four bytes: marks and length stand in the first two
+wide-entries : segments 4 (0x41 ∷ 2 ∷ 0 ∷ 0 ∷ 0xC0 ∷ 1 ∷ 9 ∷ 9 ∷ 0x80 ∷ 2 ∷ 9 ∷ 9 ∷ 0x11 ∷ 0x21 ∷ 0x22 ∷ [])
+    ≡ record { begins = true; ends = true; body = 0x11 ∷ [] } ∷ record { begins = true; ends = false; body = 0x21 ∷ 0x22 ∷ [] } ∷ []
+unfolding segments segmentAt bodyAt part sumTo upTo
+wide-entries = refl

@@ -13,7 +13,7 @@ use Rattle.table.specs.declared.Kind.the-variants as kind
 use Rattle.table.specs.declared.Mode.the-variants as mode
 use Rattle.table.specs.declared.Row.{Row}
 use Rattle.table.specs.declared.Table.{Table}
-use Rattle.table.specs.Rows.{empty, closedRow, rowAt, find, withRow, withFlow}
+use Rattle.table.specs.Rows.{isDmpt, empty, closedRow, rowAt, find, withRow, withFlow}
 use Rattle.table.specs.Broken.{broken}
 use Rattle.table.specs.Calls.{opened, closed}
 
@@ -94,3 +94,32 @@ not-broken : (broken (withFlow six 5 3 (flow-of true 65535 2048)) ≡ false) × 
     × (broken empty ≡ false) × (broken six ≡ false) × (broken one ≡ false)
 unfolding opened broken any least
 not-broken = (refl, refl, refl, refl, refl)
+
+-- a closed row has four flows, all zero
+four-flows : closedRow ≡ record { id = 0; kind = kind.Closed; flows = flow-of false 0 0 ∷ flow-of false 0 0 ∷ flow-of false 0 0 ∷ flow-of false 0 0 ∷ [] }
+four-flows = refl
+
+kinds : (isDmpt kind.Closed ≡ false) × (isDmpt kind.Psp ≡ false) × (isDmpt kind.Dmpt ≡ true)
+kinds = (refl, refl, refl)
+
+-- every flow of the closed row is counted, and of no other row: session 9 stands in row 2, session 7 in row 0
+abbrev holding : Table
+holding =
+    withFlow (withFlow (withFlow (withFlow (withFlow six 2 0 (flow-of true 5 1)) 2 1 (flow-of true 5 10)) 2 2 (flow-of true 5 100)) 2 3 (flow-of true 5 1000))
+    0 0 (flow-of true 5 2000)
+
+all-flows : ((closed holding 9) .dropped ≡ 1111) × ((closed holding 7) .dropped ≡ 2000) × ((closed holding 10) .dropped ≡ 0)
+unfolding closed broken any least sumTo
+all-flows = (refl, refl, refl)
+
+-- 13 before 22 and before 25
+first-13 : ((opened (withFlow one 5 3 (flow-of true 0 0)) 7 mode.Psp) .code ≡ 13) × ((closed (withFlow one 5 3 (flow-of true 0 0)) 9) .code ≡ 13)
+    × ((closed (withFlow one 5 3 (flow-of true 0 0)) 0) .code ≡ 13)
+unfolding opened closed broken any least sumTo
+first-13 = (refl, refl, refl)
+
+-- rule 13 in flows that nothing above looks at
+other-flows : (broken (withFlow six 1 2 (flow-of true 0 0)) ≡ true) × (broken (withFlow empty 2 0 (flow-of true 0 0)) ≡ true)
+    × (broken (withFlow six 5 0 (flow-of true 0 2049)) ≡ true)
+unfolding broken any
+other-flows = (refl, refl, refl)

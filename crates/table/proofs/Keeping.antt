@@ -22,7 +22,7 @@ use Rattle.table.specs.declared.Mode.the-variants as mode
 use Rattle.table.specs.declared.Row.{Row}
 use Rattle.table.specs.declared.Table.{Table}
 use Rattle.table.specs.Rows.{rows, isClosed, isDmpt, rowAt, closedRow, empty, openIn, find, freeIn, lowestFree, withRow, withFlow}
-use Rattle.table.specs.Broken.{flowBroken, idBroken, flowBrokenIn, rowBroken, sameOpen, openTwice, broken}
+use Rattle.table.specs.Broken.{notZero, flowBroken, idBroken, flowBrokenIn, rowBroken, sameOpen, openTwice, broken}
 use Rattle.table.specs.Calls.{isOpen, freshRow, openRefusals, openedBy, opened, closeRefusals, closedBy, closed}
 
 -- One element of a list replaced. Past the end nothing is replaced, and what holds of the old elements holds still: this is why
@@ -351,3 +351,60 @@ pub reopens-fresh : (t : Table) (id : ℕ) (asked : Mode) → length (t .rows) �
 reopens-fresh t id asked six z =
     let there = opened-there (closed t id .table) id asked (closed-length t id z ∙ six) (reopens t id asked z) in
     rw (there .0) (there .1)
+
+-- What a flow that does not break its row is known to have: rule 13 overlooks nothing.
+pub record FlowWhole (closed dmpt : Bool) (k : ℕ) (f : Flow) : Type 0 where
+  pub bare : closed ≡ true → (f .heard ≡ false) × (f .expected ≡ 0) × (f .held ≡ 0)
+  pub fits : f .held ≤ longest
+  pub unheard : f .heard ≡ false → (f .held ≡ 0) × (f .expected ≡ 0)
+  pub holds-none : dmpt ≡ true → f .held ≡ 0
+  pub one-flow : dmpt ≡ true → (k ≡ 0 → ⊥) → f .heard ≡ false
+
+and-rest : (a b : Bool) → (a && b) ≡ false → a ≡ true → b ≡ false
+and-rest true b h e = h
+and-rest false b h e = absurd (true≢false (sym e))
+
+is-zero : (n : ℕ) → notZero n ≡ false → n ≡ 0
+is-zero n h = eqb-true n 0 (not-false (eqb n 0) h)
+
+bare-of : (f : Flow) → (f .heard || notZero (f .expected) || notZero (f .held)) ≡ false →
+    (f .heard ≡ false) × (f .expected ≡ 0) × (f .held ≡ 0)
+bare-of f h =
+    let two = or-false-left (f .heard || notZero (f .expected)) (notZero (f .held)) h in (
+      or-false-left (f .heard) (notZero (f .expected)) two,
+      is-zero (f .expected) (or-false-right (f .heard) (notZero (f .expected)) two),
+      is-zero (f .held) (or-false-right (f .heard || notZero (f .expected)) (notZero (f .held)) h),
+    )
+
+none-of-four : (a b c d : Bool) → (a || b || c || d) ≡ false → (a ≡ false) × (b ≡ false) × (c ≡ false) × (d ≡ false)
+none-of-four a b c d h =
+    let abc = or-false-left (a || b || c) d h in
+    let ab = or-false-left (a || b) c abc in
+    (or-false-left a b ab, or-false-right a b ab, or-false-right (a || b) c abc, or-false-right (a || b || c) d h)
+
+module _ (closed dmpt : Bool) (k : ℕ) (f : Flow) (whole : flowBroken closed dmpt k f ≡ false) where
+  lines : ((closed && (f .heard || notZero (f .expected) || notZero (f .held))) ≡ false)
+      × (ltb longest (f .held) ≡ false)
+      × ((not (f .heard) && (notZero (f .held) || notZero (f .expected))) ≡ false)
+      × ((dmpt && (notZero (f .held) || (notZero k && f .heard))) ≡ false)
+  lines =
+      none-of-four (closed && (f .heard || notZero (f .expected) || notZero (f .held))) (ltb longest (f .held))
+      (not (f .heard) && (notZero (f .held) || notZero (f .expected))) (dmpt && (notZero (f .held) || (notZero k && f .heard))) whole
+
+  zeros : f .heard ≡ false → (notZero (f .held) || notZero (f .expected)) ≡ false
+  zeros e = and-rest (not (f .heard)) (notZero (f .held) || notZero (f .expected)) (lines .2) (ap not e)
+
+  plain : dmpt ≡ true → (notZero (f .held) || (notZero k && f .heard)) ≡ false
+  plain e = and-rest dmpt (notZero (f .held) || (notZero k && f .heard)) (lines .3) e
+
+  pub flow-whole : FlowWhole closed dmpt k f
+  flow-whole =
+      record {
+        bare = λ e. bare-of f (and-rest closed (f .heard || notZero (f .expected) || notZero (f .held)) (lines .0) e);
+        fits = ltb-false longest (f .held) (lines .1);
+        unheard = λ e.
+            (is-zero (f .held) (or-false-left (notZero (f .held)) (notZero (f .expected)) (zeros e)), is-zero (f .expected) (or-false-right (notZero (f .held)) (notZero (f .expected)) (zeros e)));
+        holds-none = λ e. is-zero (f .held) (or-false-left (notZero (f .held)) (notZero k && f .heard) (plain e));
+        one-flow = λ e other.
+            and-rest (notZero k) (f .heard) (or-false-right (notZero (f .held)) (notZero k && f .heard) (plain e)) (ap not (ne-eqb k 0 other));
+      }
