@@ -1,6 +1,6 @@
 """Whether the documents name what is there.
 
-In README.md, docs/ and the header, every path in backquotes that begins with a folder of this repository exists, and every
+In README.md and docs/, every path in backquotes that begins with a folder of this repository exists, and every
 `file`: `name`, `name` names declarations of that file. Every must-fail edit stands in docs/PROMISES.md, and every edit named there
 exists. Prints what is wrong and ends with status 1; ends with 0 where nothing is."""
 import glob
@@ -8,12 +8,12 @@ import os
 import re
 import sys
 
-FOLDERS = ("crates/", "docs/", "bin/", "host/", "include/", ".ci/", "examples/", "second/", "bench/")
+FOLDERS = ("crates/", "docs/", "bin/", "host/", "include/", ".ci/")
 NAMED = re.compile(r"`([^`\s]+\.(?:antt|rt|h))`: ((?:`[^`]+`(?:, | and )?)+)")
 
 
 def declared(text, name):
-    """Whether a file declares NAME: a line that begins with it, after words such as pub, abbrev, fn or const."""
+    """Whether a line of a file begins with NAME, indented or not, after words such as pub, abbrev, fn or const."""
     words = r"(?:pub |abbrev |unfoldable |extern \"C\" |record |data |struct |enum |const |fn |uint32_t )*"
     return re.search(rf"(?m)^\s*{words}{re.escape(name)}(?![\w-])", text) is not None
 

@@ -45,7 +45,7 @@ enum sklyapina_refusal {
     /* PSP: a segment of no bytes, one after the first that does not begin a frame (B clear), or
      * one before the last that does not end a frame (E clear); D-MPT: an MPEG packet whose first
      * byte is not 0x47 */
-    SKLYAPINA_SEGMENT_SPOILT = 11,
+    SKLYAPINA_CONTENT_SPOILT = 11,
     /* the kind is neither SKLYAPINA_KIND_PSP nor SKLYAPINA_KIND_DMPT */
     SKLYAPINA_KIND_UNKNOWN = 24
 };

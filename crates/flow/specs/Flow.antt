@@ -1,6 +1,6 @@
--- A flow's record, and what it makes of a sequence number (document 01, "Opening, closing, listening"). A fresh flow takes any
--- number, with gap 0. Any other takes a number that lies less than 32,768 ahead of the one it expects, and reports how far
--- ahead as the gap; it calls the rest late. Once it has taken a number, it expects the next one.
+-- A flow's record, and what it makes of a sequence number (document 01, "Opening, closing, listening"). A fresh flow accepts any
+-- number, with gap 0. Any other accepts a number that lies less than 32,768 ahead of the one it expects, and reports how far
+-- ahead as the gap; the rest are late. Once it has accepted a number, it expects the next one.
 use Prim.Native.Nat.{ℕ}
 use mathlib.Core.Path.{_≡_}
 use mathlib.Core.Bool.{true, false, cond, not}
@@ -28,7 +28,7 @@ topFlow = 3
 abbrev pub fresh : Flow
 fresh = record { heard = false; expected = 0; held = 0 }
 
--- the record after it took a number; how many bytes it holds is for the join rule to say
+-- the record after it accepted a number; how many bytes it holds is for the join rule to say
 abbrev pub expecting : Flow → ℕ → Flow
 expecting f number = record { heard = true; expected = next number; held = f .held }
 
@@ -50,7 +50,7 @@ abbrev pub unnumbered : Flow → Judged
 unnumbered f = record { flow = f; gap = 0; late = false }
 
 -- What the two calls on a record permit, whole. (Whether a flow is fresh is read off `heard` alone: a record that has heard nothing and
--- yet holds or expects something stands in a broken table, which the calls above refuse.)
+-- yet holds or expects something stands in a broken table, which open, close and the data call refuse by 13.)
 abbrev pub PermitsFresh : Flow → Type 0
 PermitsFresh answer = answer ≡ fresh
 

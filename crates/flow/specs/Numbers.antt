@@ -1,5 +1,5 @@
 -- Sequence numbers modulo 65,536 (document 01, "Opening, closing, listening"): the next one, and how far one lies ahead of
--- another. All are shut: the arithmetic is done once, in proofs/Numbers.antt, and cited from there.
+-- another. `ahead`, `next` and `numberAt` are shut: the arithmetic is done once, in proofs/Numbers.antt, and cited from there.
 use Prim.Native.Nat.{ℕ, _+_, _-_, _%_}
 
 abbrev pub modulus : ℕ

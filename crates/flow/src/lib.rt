@@ -4,7 +4,7 @@ ghost use mathlib.Core.Path.{_≡_};
 ghost use Rattle.flow.specs.Numbers.{ahead, next};
 ghost use Rattle.flow.specs.Flow.{PermitsFresh, PermitsJudge};
 
-// A row has so many flows, with the numbers 0 to `Flow::TOP`.
+// How many flows a row has; their numbers are 0 to `Flow::TOP`.
 pub const FLOWS: usize = 4;
 
 pub struct Flow {
@@ -65,14 +65,14 @@ impl Flow {
     {
         let expected = self.expected;
         let following = number_after(number);
-        let next = Flow {
+        let expecting = Flow {
             heard: true,
             expected: following,
             held: self.held,
         };
         if !self.heard {
             return Judged {
-                flow: next,
+                flow: expecting,
                 gap: 0,
                 late: false,
             };
@@ -80,7 +80,7 @@ impl Flow {
         let gap = ahead_of(number, expected);
         if gap < Flow::HALF {
             return Judged {
-                flow: next,
+                flow: expecting,
                 gap,
                 late: false,
             };

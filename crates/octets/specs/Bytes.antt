@@ -4,7 +4,8 @@ use Prim.Native.Nat.{ℕ, _+_, _*_, _/_, _%_}
 use mathlib.Core.List.{List, [], _∷_, _++_}
 use lib.ListN.{getD}
 
--- Byte number i. Past the end of the list stands a 0; no rule is decided by it, since a rule on lengths stands before each that reads.
+-- Byte number i. Past the end of the list stands a 0. No rule is decided by it: a rule on lengths stands before each that reads, and 10,
+-- which adds up the entries of a segment table, comes out the same whatever a cut entry reads as.
 abbrev pub byteAt : List ℕ → ℕ → ℕ
 byteAt bytes i = getD bytes i 0
 

@@ -1,5 +1,5 @@
 // Bytes in slices: big-endian numbers read and written, and one stretch copied into another slice. Nothing here knows of
-// packets. Each function asks that the place lies in the slice: only proved code calls them.
+// packets. Each public function asks that the place lies in the slice: only proved code calls them.
 ghost use mathlib.Core.Path.{_≡_};
 ghost use Prim.Native.Nat.{_+_, _≤_, _<_};
 ghost use lib.ListN.{length};

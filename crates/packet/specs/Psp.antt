@@ -16,7 +16,7 @@ use Rattle.packet.specs.Segments.{entryAt, beginsIn, endsIn, lengthIn, b
 unfoldable pub wanted : ℕ → List ℕ → ℕ
 wanted width sub = bodyAt width sub (segmentCount sub)
 
--- what is wrong with entry k of n: length 0, or no B though it is not the first, or no E though it is not the last
+-- whether entry k of n is bad: its length is 0, or B is missing though it is not the first, or E though it is not the last
 abbrev pub badEntry : ℕ → ℕ → ℕ → Bool
 badEntry n k entry =
     eqb (lengthIn entry) 0 || (not (eqb k 0) && not (beginsIn entry)) || (not (eqb (k + 1) n) && not (endsIn entry))

@@ -35,7 +35,7 @@ pub fn pid_of(sub: &[u8], k: usize) -> u16
     octets::read_u16(sub, header::HEADER_LENGTH + MPEG_LENGTH * k + 1) % 8192
 }
 
-// Whether one of the first n MPEG packets starts with another byte.
+// Whether one of the first n MPEG packets starts with another byte than 0x47.
 fn any_unsynced(sub: &[u8], n: usize) -> bool
     requires { ⌜ headerLength + mpegLength * n ≤ length (now sub) ⌝ }
     ensures { λ r. ⌜ r ≡ any (λ k. not (eqb (byteAt (mpegAt (now (sub .entry)) k) 0) syncByte)) n ⌝ }
@@ -62,7 +62,7 @@ fn refuse_mpegs(sub: &[u8]) -> u32
         return refusal::LENGTHS_DISAGREE;
     }
     if any_unsynced(sub, mpeg_count(sub)) {
-        return refusal::SEGMENT_SPOILT;
+        return refusal::CONTENT_SPOILT;
     }
     refusal::NONE
 }

@@ -5,7 +5,7 @@ ghost use lib.ListN.{length};
 ghost use Rattle.refusal.specs.Refusal.{first};
 ghost use Rattle.packet.specs.Header.{mostLead, idLength, sessionId, sub, headerLength, vSet, sSet, hBits, flowId, segmentCount, number, notPlain, beforeSession};
 
-// So many bytes stand before the session ID over IP.
+// How many bytes stand before the session ID over IP.
 pub const OVER_IP: usize = 0;
 
 pub const ID_LENGTH: usize = 4;
@@ -13,9 +13,9 @@ pub const ID_LENGTH: usize = 4;
 pub const HEADER_LENGTH: usize = 4;
 
 // A packet over IP has 8 to 4,100 bytes.
-const SHORTEST: usize = 8;
+const SHORTEST_PACKET: usize = 8;
 
-const LONGEST: usize = 4100;
+const LONGEST_PACKET: usize = 4100;
 
 // A byte as a number to count with. The contract says its bound, which a sum needs.
 pub fn wide(byte: u8) -> usize
@@ -85,7 +85,7 @@ pub fn number_in(sub: &[u8]) -> u16
     octets::read_u16(sub, 2)
 }
 
-// V set, or H not 00: no data packet.
+// Refusal 6: V set, or H not 00.
 pub fn not_plain(sub: &[u8]) -> bool
     requires { ⌜ headerLength ≤ length (now sub) ⌝ }
     ensures { λ r. ⌜ r ≡ notPlain (now (sub .entry)) ⌝ }
@@ -94,14 +94,14 @@ pub fn not_plain(sub: &[u8]) -> bool
 }
 
 // Refusals 2 to 4, which need no session; or 0, and then the packet has a whole header.
-pub fn refuse_early(packet: &[u8], lead: usize) -> u32
+pub fn refuse_before_session(packet: &[u8], lead: usize) -> u32
     requires { ⌜ lead ≤ mostLead ⌝ }
     ensures { λ r. ⌜ r ≡ first (beforeSession lead (now (packet .entry))) ⌝ }
 {
-    if packet.len() < lead + SHORTEST {
+    if packet.len() < lead + SHORTEST_PACKET {
         return refusal::PACKET_TOO_SHORT;
     }
-    if lead + LONGEST < packet.len() {
+    if lead + LONGEST_PACKET < packet.len() {
         return refusal::PACKET_TOO_LONG;
     }
     if session_id(packet, lead) == 0 {

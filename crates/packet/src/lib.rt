@@ -1,7 +1,7 @@
 // The layout of data packets: the header, the segments of PSP, the MPEG packets of D-MPT; the packet check without a table; and
 // segment k of a packet. Nothing here knows of tables or holding places.
 //
-// The functions of `header`, `psp` and `dmpt` read what stands behind the session ID, `sub`, and ask that it is long enough: only
+// Most functions of `header`, `psp` and `dmpt` read what stands behind the session ID, `sub`, and ask that it is long enough: only
 // proved code calls them. The three functions of this file ask nothing.
 pub mod dmpt;
 pub mod header;
@@ -23,7 +23,7 @@ pub fn check(kind: u32, packet: &[u8]) -> u32
     if (kind != KIND_PSP) & (kind != KIND_DMPT) {
         return refusal::KIND_UNKNOWN;
     }
-    let early = header::refuse_early(packet, header::OVER_IP);
+    let early = header::refuse_before_session(packet, header::OVER_IP);
     if early != refusal::NONE {
         return early;
     }

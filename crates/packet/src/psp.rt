@@ -45,7 +45,7 @@ pub fn length_of(entry: u16) -> usize
     (entry % E_BIT) as usize
 }
 
-// What is wrong with entry k of `count`: no length, no B though it is not the first, or no E though it is not the last.
+// Whether entry k of `count` is bad: its length is 0, or B is missing though it is not the first, or E though it is not the last.
 pub fn bad_entry(count: usize, k: usize, entry: u16) -> bool
     requires { ⌜ k < count ⌝ }
     ensures { λ r. ⌜ r ≡ badEntry count k entry ⌝ }
@@ -53,33 +53,33 @@ pub fn bad_entry(count: usize, k: usize, entry: u16) -> bool
     (length_of(entry) == 0) | ((k != 0) & !begins(entry)) | ((k + 1 != count) & !ends(entry))
 }
 
-// What the first entries of a segment table say: how long their segments are together, and whether an entry is spoilt.
+// What the first entries of a segment table say: how long their segments are together, and whether one of them is bad.
 pub struct Surveyed {
     pub total: usize,
-    pub spoilt: bool,
+    pub bad: bool,
 }
 
 // Surveys the first n entries.
 pub fn survey(sub: &[u8], width: usize, n: usize) -> Surveyed
     requires { ⌜ (2 ≤ width) × (n ≤ segmentCount (now sub)) × (headerLength + width * n ≤ length (now sub)) ⌝ }
     ensures { λ r. ⌜ r .total ≡ sumTo (lengthAt width (now (sub .entry))) n ⌝ }
-    ensures { λ r. ⌜ r .spoilt ≡ any (badAt width (now (sub .entry))) n ⌝ }
+    ensures { λ r. ⌜ r .bad ≡ any (badAt width (now (sub .entry))) n ⌝ }
     ensures { λ r. ⌜ r .total ≤ eBit * n ⌝ }
 {
     let count = header::segment_count(sub);
     let mut total: usize = 0;
-    let mut spoilt = false;
+    let mut bad = false;
     let mut k: usize = 0;
     while k < n {
         let e = entry(sub, width, k);
         total += length_of(e);
-        spoilt = spoilt | bad_entry(count, k, e);
+        bad = bad | bad_entry(count, k, e);
         k += 1;
     }
-    Surveyed { total, spoilt }
+    Surveyed { total, bad }
 }
 
-// Where the body of segment k starts.
+// Where the body of segment k starts. (What the survey says of bad entries is not asked for here.)
 pub fn body_place(sub: &[u8], width: usize, k: usize) -> usize
     requires { ⌜ (2 ≤ width) × (width ≤ 4) × (k ≤ segmentCount (now sub)) ⌝ }
     requires { ⌜ headerLength + width * segmentCount (now sub) ≤ length (now sub) ⌝ }
@@ -103,12 +103,12 @@ fn refuse_segments(sub: &[u8], width: usize) -> u32
     if sub.len() < bodies {
         return refusal::LENGTHS_DISAGREE; // the segment table itself is cut
     }
-    let table = survey(sub, width, count);
-    if bodies + table.total != sub.len() {
+    let surveyed = survey(sub, width, count);
+    if bodies + surveyed.total != sub.len() {
         return refusal::LENGTHS_DISAGREE;
     }
-    if table.spoilt {
-        return refusal::SEGMENT_SPOILT;
+    if surveyed.bad {
+        return refusal::CONTENT_SPOILT;
     }
     refusal::NONE
 }

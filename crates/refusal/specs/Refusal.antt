@@ -1,7 +1,7 @@
 -- Refusals in order (document 01, "Refusal numbers"). A refusal order is a list of numbers, each with the condition under
--- which it is given; the first one whose condition holds is the answer, and 0 is the answer where none holds. Every order of
--- the paper stands in specs/ as such a list, with the paper's numerals, to be held against the paper's table line by line; what two
--- orders share is a list of its own, cited by both.
+-- which it is given; the first one whose condition holds is the answer, and 0 is the answer where none holds. Every order
+-- that is built so far stands in specs/ as such a list, with the paper's numerals, to be held against the paper's table line by line; a
+-- stretch that several orders share is a list of its own.
 use Prim.Native.Nat.{ℕ}
 use mathlib.Core.Bool.{Bool, cond}
 use mathlib.Core.List.{List, [], _∷_}

@@ -1,5 +1,5 @@
-// Every refusal number of document 01 that the code gives so far, by name, in the order of its table; no other file of code
-// writes one as a numeral. 0 says that nothing was refused. (In specs/ it is the other way round: there the refusal lists
+// Every refusal number of document 01 that the code gives so far, by name, lowest first; no other file of Rattle code writes one as a
+// numeral. 0 says that nothing was refused. (In specs/ it is the other way round: there the refusal lists
 // have the paper's numerals, so that they can be held against its table.)
 
 pub const NONE: u32 = 0;
@@ -22,7 +22,7 @@ pub const NOTHING_CARRIED: u32 = 9;
 
 pub const LENGTHS_DISAGREE: u32 = 10;
 
-pub const SEGMENT_SPOILT: u32 = 11;
+pub const CONTENT_SPOILT: u32 = 11;
 
 // The table.
 pub const TABLE_BROKEN: u32 = 13;

@@ -9,7 +9,7 @@ ghost use Rattle.flow.specs.Flow.{flows};
 use flow::FLOWS;
 use flow::Flow;
 
-// The table has so many rows, one to a session.
+// How many rows the table has, one to a session.
 pub const ROWS: usize = 6;
 
 // What a row is. `Closed` comes first, so that it is the kind of a row of zeros.

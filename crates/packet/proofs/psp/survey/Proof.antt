@@ -7,10 +7,10 @@ use Rattle.packet.proofs.psp.survey.Statement.{statement}
 use Rattle.packet.proofs.psp.survey.Tie as tie
 
 abbrev Inv-loop : tie.InvT-loop
-Inv-loop sub width n count total₀ spoilt₀ k₀ total spoilt k = Surveying width sub n total spoilt k
+Inv-loop sub width n count total₀ bad₀ k₀ total bad k = Surveying width sub n total bad k
 
 abbrev μ-loop : tie.MeasureT-loop
-μ-loop sub width n count total₀ spoilt₀ k₀ total spoilt k = n - k
+μ-loop sub width n count total₀ bad₀ k₀ total bad k = n - k
 
 segment-count-requires : tie.Need-segment-count-requires Inv-loop μ-loop
 segment-count-requires c κs = search needs

@@ -1,8 +1,8 @@
--- `packet::header::refuse_early` asks 2, 3 and 4 in order: each return is the list's line for the tests that led there.
+-- `packet::header::refuse_before_session` asks 2, 3 and 4 in order: each return is the list's line for the tests that led there.
 use borrow.Author.Tests.{eq-eqb, ne-eqb, lt-ltb, le-ltb}
 use borrow.Author.Needs.{needs}
-use Rattle.packet.proofs.header.refuse_early.Statement.{statement}
-use Rattle.packet.proofs.header.refuse_early.Tie as tie
+use Rattle.packet.proofs.header.refuse_before_session.Statement.{statement}
+use Rattle.packet.proofs.header.refuse_before_session.Tie as tie
 
 add-if1 : tie.Need-add-if1
 add-if1 c = search needs
@@ -37,6 +37,6 @@ returns-4 c =
       ne-eqb _ _ (c .if3 .left),
     )
 
-pub refuse-early-spec : {M : Type 1} → statement M
-refuse-early-spec =
+pub refuse-before-session-spec : {M : Type 1} → statement M
+refuse-before-session-spec =
     tie.close (tie.spec add-if1 returns add-if2 returns-2 session-id-requires returns-3 returns-4)
