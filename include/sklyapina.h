@@ -1,5 +1,7 @@
 /* The calls of the card's library that its host program, in C or C++, may make.
  *
+ * The library is target/staticlib/libhost.a, made by `rt staticlib host`. It is for x86-64, and needs no other library.
+ *
  * Nothing compares this file with the library: each prototype here is a copy, by hand, of a
  * function in crates/host/src/lib.rt that is marked #[no_mangle] pub extern "C".
  * host/run builds the library, links it with a program that includes this file, and runs it. */
@@ -22,9 +24,9 @@ enum sklyapina_kind {
 /* Why a packet is refused, or that it is not. Where several causes hold, the answer is the
  * smallest of them; an unknown kind comes before them all. */
 enum sklyapina_refusal {
-    /* the packet is in order */
+    /* nothing is refused: the packet is well formed */
     SKLYAPINA_NONE = 0,
-    /* fewer than 8 bytes: not even a whole header */
+    /* fewer than 8 bytes: the session ID and the header behind it have 8 */
     SKLYAPINA_PACKET_TOO_SHORT = 2,
     /* more than 4,100 bytes */
     SKLYAPINA_PACKET_TOO_LONG = 3,
@@ -54,16 +56,17 @@ enum sklyapina_refusal {
  * sessions, so it says nothing of whether the session is open or the packet late.
  *
  * kind    a number of enum sklyapina_kind; any other number is answered, by 24
- * packet  the packet, from the first byte of its session ID. Never a null pointer, not even where
- *         length is 0: the library takes a slice, and Rust's rule is kept here, by which a slice
- *         is never null. For an empty packet, pass the address of any byte
+ * packet  the packet, from the first byte of its session ID: without the IP header before it. Never
+ *         a null pointer, not even where length is 0: the library takes a slice, and a slice is
+ *         never null. For an empty packet, pass the address of any byte
  * length  how many bytes may be read from packet on; 0 and lengths above 4,100 are answered too
  *
  * Answers a number of enum sklyapina_refusal: 24 for another kind, else the first of 2, 3, 4 and
  * 6 to 11 that applies, else 0. The answer depends on nothing but kind and the bytes.
  *
- * It keeps no pointer once it has returned, writes nothing and allocates nothing. The bytes must
- * not change while it runs. */
+ * It keeps no pointer once it has returned, writes nothing and allocates nothing, and it has no
+ * state: several threads may call it at once. It looks at no more than 127 segment entries or 21
+ * MPEG packets. The bytes must not change while it runs. */
 uint32_t sklyapina_check(uint32_t kind, const uint8_t *packet, size_t length);
 
 #ifdef __cplusplus
