@@ -5,7 +5,7 @@ use Rattle.flow.specs.declared.Flow.{Flow}
 use Rattle.flow.specs.Numbers.{ahead, next}
 use Rattle.flow.specs.Flow.{fresh, judge, accepted, tooLate, unnumbered}
 
--- a flow that took 0xFFFF, as after packet A
+-- a flow that accepted 0xFFFF, as after packet A
 abbrev afterA : Flow
 afterA = record { heard = true; expected = 0; held = 2 }
 

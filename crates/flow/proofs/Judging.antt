@@ -15,14 +15,14 @@ use Rattle.flow.proofs.Numbers.{ahead-forward, ahead-behind}
 -- either accepted, with a gap below 32,768, or late and as it was
 pub record Sound (f : Flow) (n : ℕ) (j : Judged) : Type 0 where
   pub gap-small : j .gap < half
-  pub took : j .late ≡ false → j ≡ accepted f n (j .gap)
+  pub accepts : j .late ≡ false → j ≡ accepted f n (j .gap)
   pub kept : j .late ≡ true → j ≡ tooLate f
 
 sound-accepted : (f : Flow) (n d : ℕ) → d < half → Sound f n (accepted f n d)
-sound-accepted f n d h = record { gap-small = h; took = λ _. refl; kept = λ e. absurd (true≢false (sym e)) }
+sound-accepted f n d h = record { gap-small = h; accepts = λ _. refl; kept = λ e. absurd (true≢false (sym e)) }
 
 sound-late : (f : Flow) (n : ℕ) → Sound f n (tooLate f)
-sound-late f n = record { gap-small = omega arith; took = λ e. absurd (true≢false e); kept = λ _. refl }
+sound-late f n = record { gap-small = omega arith; accepts = λ e. absurd (true≢false e); kept = λ _. refl }
 
 sound-by : (heard near : Bool) (f : Flow) (n d : ℕ) → (near ≡ true → d < half) →
     Sound f n (cond (not heard) (accepted f n 0) (cond near (accepted f n d) (tooLate f)))

@@ -19,7 +19,7 @@ pub numberAt-below : (s i : ℕ) → numberAt s i < modulus
 unfolding numberAt
 numberAt-below s i = omega arith
 
--- The expected number itself is 0 ahead, the one after the last number taken too, and the last number taken is far behind.
+-- The expected number is 0 ahead; the number that was accepted last, which is the one before it, is a whole turn less one ahead.
 pub ahead-same : (n : ℕ) → n < modulus → ahead n n ≡ 0
 unfolding ahead
 ahead-same n h = omega arith

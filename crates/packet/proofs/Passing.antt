@@ -105,6 +105,14 @@ dmpt-of sub n =
 pub dmpt-passed : (sub : List ℕ) → first (dmptRefusals sub) ≡ 0 → DmptPassed sub
 dmpt-passed sub z = dmpt-of sub (none-applies (dmptRefusals sub) refl z)
 
+-- Each MPEG packet lies in the packet, ..
+pub mpeg-inside : (sub : List ℕ) (k : ℕ) → headerLength ≤ length sub → k < mpegCount sub → headerLength + mpegLength * k + mpegLength ≤ length sub
+mpeg-inside sub k header there = omega arith
+
+-- .. and in one that passes they fill it
+pub mpegs-fill : (sub : List ℕ) → headerLength ≤ length sub → DmptPassed sub → headerLength + mpegLength * mpegCount sub ≡ length sub
+mpegs-fill sub header p = omega (arith, p .whole)
+
 -- The PSP check passed, and segment k asked for and given.
 pub check-passed : (lead : ℕ) (packet : List ℕ) → check lead kindPsp packet ≡ 0 → EarlyPassed lead packet × PspPassed entryWidth (sub lead packet)
 unfolding check checkRefusals

@@ -16,9 +16,6 @@ pub const MPEG_LENGTH: usize = 188;
 // Every MPEG packet starts with it.
 const SYNC: u8 = 0x47;
 
-// The PID of an MPEG packet that carries nothing.
-pub const NULL_PID: u16 = 0x1FFF;
-
 // How many MPEG packets there are.
 pub fn mpeg_count(sub: &[u8]) -> usize
     requires { ⌜ headerLength ≤ length (now sub) ⌝ }

@@ -187,7 +187,7 @@ accepted-sound false k f heard fits bare = simp (heard, le-ltb longest (f .held)
 accepted-sound true k f heard fits bare =
     simp (heard, le-ltb longest (f .held) fits, eq-eqb k 0 (bare refl .0), eq-eqb (f .held) 0 (bare refl .1))
 
--- what a flow that took a number is put back as
+-- what a flow that accepted a number is put back as
 pub accepted-keeps : (t : Table) (i k : ℕ) (f : Flow) → broken t ≡ false → i < rows → isClosed (rowAt t i .kind) ≡ false →
     f .heard ≡ true → f .held ≤ longest → (isDmpt (rowAt t i .kind) ≡ true → (k ≡ 0) × (f .held ≡ 0)) →
     broken (withFlow t i k f) ≡ false
