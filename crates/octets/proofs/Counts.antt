@@ -1,14 +1,14 @@
 -- The laws of `any`, `least`, `sumTo` and `upTo`: what they mean, and one turn more, at the code's `k + 1`. The invariants of
 -- the loops that compute them stand here too, as records: `Gathered` for a loop that gathers faults, `Sought` for one that
 -- looks for the first number that passes. A loop's own proof then only cites a begin, a turn and an end.
-use Prim.Native.Nat.{ℕ, zero, suc, _+_, _<_, _≤_}
+use Prim.Native.Nat.{ℕ, zero, suc, _+_, _*_, _<_, _≤_}
 use mathlib.Core.Path.{_≡_, refl, ap, _∙_, sym}
 use mathlib.Core.Bool.{Bool, true, false, _||_, or-true, or-false, or-assoc, true≢false}
 use mathlib.Core.Logic.{_⊎_, inl, inr, ⊎-elim}
 use mathlib.Core.List.{[], _∷_, _++_}
 use native.Mathlib.Numerals.{add-one}
 use native.Mathlib.Omega.{arith}
-use native.Mathlib.Nat.{not-suc-le-zero, eq-or-lt-of-le, le-of-suc-le-suc, le-refl, le-trans, le-add-right}
+use native.Mathlib.Nat.{mul-zero, mul-suc, not-suc-le-zero, eq-or-lt-of-le, le-of-suc-le-suc, le-refl, le-trans, le-add-right}
 use lib.ListN.{length, length-append}
 use Rattle.octets.specs.Count.{any, least, sumTo, upTo}
 
@@ -140,6 +140,17 @@ unfolding sumTo
 sum-within f k zero h = absurd (not-suc-le-zero h)
 sum-within f k (suc n) h =
     ⊎-elim (λ e. rw e (le-refl (sumTo f n + f n))) (λ l. le-trans (sum-within f k n l) (le-add-right (sumTo f n) (f n))) (eq-or-lt-of-le (le-of-suc-le-suc h))
+
+-- a part of the sum is no more than all of it
+pub sum-below : (f : ℕ → ℕ) (k n : ℕ) → k ≤ n → sumTo f k ≤ sumTo f n
+sum-below f k n h =
+    ⊎-elim (λ e. rw e (le-refl (sumTo f n))) (λ l. le-trans (le-add-right (sumTo f k) (f k)) (sum-within f k n l)) (eq-or-lt-of-le h)
+
+-- n times the same
+pub sum-same : (a n : ℕ) → sumTo (λ k. a) n ≡ a * n
+unfolding sumTo
+sum-same a zero = sym (mul-zero a)
+sum-same a (suc n) = ap (λ (m : ℕ). m + a) (sum-same a n) ∙ sym (mul-suc a n)
 
 pub up-to-more : {A : Type 0} (f : ℕ → A) (n : ℕ) → upTo f (n + 1) ≡ upTo f n ++ (f n ∷ [])
 unfolding upTo

@@ -4,9 +4,10 @@ use Prim.Native.Nat.{ℕ, suc, _+_, _-_, _≤_, _<_}
 use native.Mathlib.Nat.{add-zero, add-assoc}
 use native.Mathlib.Numerals.{add-one}
 use native.Mathlib.Omega.{arith}
+use mathlib.Core.Logic.{_⊎_, inl, inr, ⊎-elim}
 use mathlib.Core.List.{List, [], _∷_, _++_, append-assoc, append-nil}
-use lib.ListN.{length, take, drop, set, length-append, length-drop, take-append-drop}
-use lib.Seq.{length-take-le, take-at, take-all, drop-at, drop-drop, set-split, append-snoc, take-add, take-append-seam, drop-append-seam, getD-drop, getD-take}
+use lib.ListN.{length, take, drop, set, length-append, length-drop, take-append-drop, List·getD-append}
+use lib.Seq.{length-take-le, take-at, take-all, drop-at, drop-drop, set-split, append-snoc, take-add, take-append-seam, drop-append-seam, getD-drop, getD-take, getD-append-add, ext-getD}
 use Rattle.octets.specs.Bytes.{byteAt}
 use Rattle.octets.specs.Stretch.{part, rest, put, joined, lengths, cutBy}
 
@@ -96,6 +97,46 @@ put-behind d at n y h =
     let k : at + length (part d at n) ≤ length d = omega arith in
     let e = put-put d at (part d at n) y k in
     rw (put-same d at n h, f) at e
+
+-- every other element is as it was
+pub byte-put : (d : List ℕ) (at : ℕ) (x : List ℕ) (i : ℕ) → at + length x ≤ length d → (i < at) ⊎ (at + length x ≤ i) →
+    byteAt (put d at x) i ≡ byteAt d i
+unfolding put
+byte-put d at x i h (inl before) =
+    let inside : i < length (take at d) = omega (arith, length-take-le at d (let k : at ≤ length d = omega arith in k)) in
+    rw (append-assoc (take at d) x (drop (at + length x) d))
+    (List·getD-append (take at d) (x ++ drop (at + length x) d) 0 i inside ∙ getD-take at d i 0 before)
+byte-put d at x i h (inr behind) =
+    let k : at ≤ length d = omega arith in
+    let n = at + length x in
+    let split : i ≡ n + (i - n) = omega arith in
+    rw split
+    (ap (λ (m : ℕ). byteAt (take at d ++ x ++ drop n d) (m + (i - n))) (sym (head-length d at x k))
+    ∙ getD-append-add (take at d ++ x) (drop n d) (i - n) 0 ∙ getD-drop n d (i - n) 0)
+
+-- stretches are the same where their elements are
+pub part-same : (d e : List ℕ) (from n : ℕ) → from + n ≤ length d → from + n ≤ length e →
+    ((i : ℕ) → from ≤ i → i < from + n → byteAt d i ≡ byteAt e i) → part d from n ≡ part e from n
+part-same d e from n h g same =
+    let a = length-part d from n h in
+    let b = length-part e from n g in
+    ext-getD 0 (part d from n) (part e from n) (a ∙ sym b)
+    (λ i l.
+    let below : i < n = omega arith in
+    byte-part d from n i below ∙ same (from + i) (omega arith) (omega arith) ∙ sym (byte-part e from n i below))
+
+-- so a stretch beside the replaced one is as it was
+pub part-put-apart : (d : List ℕ) (at : ℕ) (x : List ℕ) (from n : ℕ) → at + length x ≤ length d → from + n ≤ length d →
+    (from + n ≤ at) ⊎ (at + length x ≤ from) → part (put d at x) from n ≡ part d from n
+part-put-apart d at x from n h g apart =
+    let long = length-put d at x h in
+    part-same (put d at x) d from n (omega arith) g
+    (λ i l m. byte-put d at x i h (⊎-elim (λ a. inl (let k : i < at = omega arith in k)) (λ b. inr (let k : at + length x ≤ i = omega arith in k)) apart))
+
+-- put at the front, the rest follows
+pub put-front : (d x : List ℕ) → put d 0 x ≡ x ++ rest d (0 + length x)
+unfolding put rest
+put-front d x = refl
 
 -- one element stored is a put
 pub set-put : (d : List ℕ) (i v : ℕ) → i < length d → set d i v ≡ put d i (v ∷ [])

@@ -2,22 +2,22 @@
 -- take their bounds from here: a packet that passes is as long as its parts, so every segment lies in it.
 use Prim.Native.Nat.{ℕ, _+_, _-_, _*_, _%_, _<_, _≤_}
 use mathlib.Core.Path.{_≡_, refl}
-use mathlib.Core.Bool.{true, false, not}
+use mathlib.Core.Bool.{true, false, not, _&&_, _||_}
 use mathlib.Core.List.{List, [], _∷_}
 use native.Mathlib.Omega.{arith}
 use native.Mathlib.Nat.{mul-le-mul}
 use lib.Dec.{eqb, leb}
 use lib.ListN.{length}
-use borrow.Author.Tests.{ltb-false, leb-false, eqb-true, eqb-false, not-false}
+use borrow.Author.Tests.{ltb-false, leb-false, eqb-true, eqb-false, ne-eqb, not-false}
 use Rattle.refusal.specs.Refusal.{_when_, first}
 use Rattle.refusal.proofs.Laws.{NoneApplies, none-applies, none-first, none-apart}
 use Rattle.octets.specs.Bytes.{byteAt}
 use Rattle.octets.specs.Count.{any}
-use Rattle.octets.proofs.Counts.{none-at, or-false-left, sum-within}
+use Rattle.octets.proofs.Counts.{none-at, or-false-left, or-false-right, sum-within}
 use Rattle.octets.proofs.Stretches.{length-rest}
 use Rattle.flow.specs.Flow.{topFlow}
 use Rattle.packet.specs.Header.{idLength, sessionId, sub, headerLength, sSet, flowId, segmentCount, notPlain, shortestPacket, longestPacket, beforeSession}
-use Rattle.packet.specs.Segments.{entryWidth, lengthAt, bodyAt}
+use Rattle.packet.specs.Segments.{entryWidth, entryAt, beginsIn, endsIn, lengthIn, lengthAt, bodyAt}
 use Rattle.packet.specs.Psp.{wanted, badAt, pspRefusals}
 use Rattle.packet.specs.Dmpt.{mpegLength, syncByte, carried, mpegCount, mpegAt, dmptRefusals}
 use Rattle.packet.specs.Check.{kindPsp, checkRefusals, check, causeRefusals, segmentCause}
@@ -83,6 +83,14 @@ module _ (width : ℕ) (sub : List ℕ) (p : PspPassed width sub) where
     -- no segment is empty
     pub body-some : lengthAt width sub k ≡ 0 → ⊥
     body-some = eqb-false _ _ (or-false-left _ _ (or-false-left _ _ entry-good))
+
+    -- every segment but the last has E
+    pub ends-early : (k + 1 ≡ segmentCount sub → ⊥) → endsIn (entryAt width sub k) ≡ true
+    ends-early more =
+        let e = entryAt width sub k in
+        let last : (not (eqb (k + 1) (segmentCount sub)) && not (endsIn e)) ≡ false =
+        or-false-right (eqb (lengthIn e) 0 || (not (eqb k 0) && not (beginsIn e))) (not (eqb (k + 1) (segmentCount sub)) && not (endsIn e)) entry-good in
+        not-false (endsIn e) (simp (ne-eqb (k + 1) (segmentCount sub) more) at last)
 
 -- Refusals 6 to 11 passed, D-MPT.
 pub record DmptPassed (sub : List ℕ) : Type 0 where

@@ -1,6 +1,6 @@
 -- The segments of a PSP packet (document 01, "Packet layout"; DEPI I05, section 8.3). Behind the sub-layer header comes one entry
 -- for each segment, with B in its top bit, E in the next and the length in the low 14; then the segment bodies in the same order, to
--- the end of the packet. Read, such a packet is a list of segments, and nothing above this crate knows of entries. How many bytes
+-- the end of the packet. Read, such a packet is a list of segments, and no rule above this crate looks into an entry. How many bytes
 -- an entry has is a parameter, `width`: 2 in this edition of the header. Its marks and its length stand in the first two.
 use Prim.Native.Nat.{ℕ, _+_, _*_, _/_, _%_}
 use mathlib.Core.Bool.{Bool}

@@ -13,6 +13,9 @@ use crate::header;
 
 pub const MPEG_LENGTH: usize = 188;
 
+// The PID of an MPEG packet that carries nothing.
+pub const NULL_PID: u16 = 0x1FFF;
+
 // Every MPEG packet starts with it.
 const SYNC: u8 = 0x47;
 

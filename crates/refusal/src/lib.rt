@@ -4,12 +4,17 @@
 
 pub const NONE: u32 = 0;
 
+// The slices that are lent with a data call.
+pub const SLICE_TOO_SMALL: u32 = 1;
+
 // A packet, whatever its session.
 pub const PACKET_TOO_SHORT: u32 = 2;
 
 pub const PACKET_TOO_LONG: u32 = 3;
 
 pub const CONTROL_MESSAGE: u32 = 4;
+
+pub const SESSION_NOT_OPEN: u32 = 5;
 
 // What follows the session ID.
 pub const HEADER_NOT_PLAIN: u32 = 6;
@@ -23,6 +28,9 @@ pub const NOTHING_CARRIED: u32 = 9;
 pub const LENGTHS_DISAGREE: u32 = 10;
 
 pub const CONTENT_SPOILT: u32 = 11;
+
+// The sequence number.
+pub const LATE: u32 = 12;
 
 // The table.
 pub const TABLE_BROKEN: u32 = 13;

@@ -21,7 +21,7 @@ use Rattle.table.specs.declared.Mode.{Mode}
 use Rattle.table.specs.declared.Mode.the-variants as mode
 use Rattle.table.specs.declared.Row.{Row}
 use Rattle.table.specs.declared.Table.{Table}
-use Rattle.table.specs.Rows.{rows, isClosed, isDmpt, rowAt, closedRow, empty, openIn, find, freeIn, lowestFree, withRow, withFlow}
+use Rattle.table.specs.Rows.{rows, isClosed, isDmpt, rowAt, flowAt, closedRow, empty, openIn, find, freeIn, lowestFree, withRow, withFlow}
 use Rattle.table.specs.Broken.{notZero, flowBroken, idBroken, flowBrokenIn, rowBroken, sameOpen, openTwice, broken}
 use Rattle.table.specs.Calls.{isOpen, freshRow, openRefusals, openedBy, opened, closeRefusals, closedBy, closed}
 
@@ -408,3 +408,11 @@ module _ (closed dmpt : Bool) (k : ℕ) (f : Flow) (whole : flowBroken closed dm
         one-flow = λ e other.
             and-rest (notZero k) (f .heard) (or-false-right (notZero (f .held)) (notZero k && f .heard) (plain e)) (ap not (ne-eqb k 0 other));
       }
+
+-- .. and so each flow of a table that is not broken
+pub flows-whole : (t : Table) → broken t ≡ false → (i k : ℕ) → i < rows → k < flows →
+    FlowWhole (isClosed (rowAt t i .kind)) (isDmpt (rowAt t i .kind)) k (flowAt (rowAt t i) k)
+flows-whole t whole i k l m =
+    flow-whole (isClosed (rowAt t i .kind)) (isDmpt (rowAt t i .kind)) k (flowAt (rowAt t i) k)
+    (none-at (flowBrokenIn (rowAt t i)) flows k
+    (or-false-right (idBroken (rowAt t i)) (any (flowBrokenIn (rowAt t i)) flows) (rows-sound t whole i l)) m)

@@ -27,7 +27,8 @@ isDmpt kind.Closed = false
 isDmpt kind.Psp = false
 isDmpt kind.Dmpt = true
 
--- Row i of a table, flow k of a row. (Past the end of a list stands a closed row, or a fresh flow; a table of six by four never gets there.)
+-- Row i of a table, flow k of a row. Past the end of a list stands a closed row, or a fresh flow. No rule is decided by it: where a
+-- session has no row, or a packet names a flow that no row has, an earlier rule has refused.
 abbrev pub rowAt : Table → ℕ → Row
 rowAt t i = getD (t .rows) i (record { id = 0; kind = kind.Closed; flows = [] })
 
