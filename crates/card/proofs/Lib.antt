@@ -1,0 +1,12 @@
+pub mod Placing
+pub mod Account
+pub mod Walking
+pub mod Carrying
+pub mod Hearing
+pub mod Receiving
+pub mod Unique
+pub mod Accepted
+pub mod Limits
+pub mod Step
+pub mod Keeping
+pub mod Examples

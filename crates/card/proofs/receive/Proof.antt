@@ -1,0 +1,119 @@
+-- `card::receive` is right since it asks the refusals of `dataRefusals` in their order, and then hands the packet to its flow.
+use Prim.Native.Nat.{_+_, _≤_}
+use mathlib.Core.Path.{_≡_, sym, _∙_}
+use mathlib.Core.Bool.{false}
+use native.Mathlib.Omega.{arith}
+use lib.ListN.{length}
+use Rattle.packet.specs.Header.{overIp, idLength}
+use Rattle.card.specs.Receive.{Slices, tooSmall}
+use Rattle.card.proofs.Receiving.{permits, early-over, ready, receive-small, receive-early, receive-closed, receive-heard}
+use borrow.Author.Needs.{needs}
+use Rattle.card.proofs.receive.Statement.{statement}
+use Rattle.card.proofs.receive.Tie as tie
+
+-- from where the code has asked about the sizes back to its start, and the slices as they were lent
+abbrev start : tie.After-too-small → tie.Start
+start w = w .before .before .before .before .before
+
+abbrev lent : tie.Start → Slices
+lent s = record { holding = s .args .holding .now; output = s .args .output .now; lengths = s .args .lengths .now }
+
+large : (w : tie.After-too-small) → w .too-small .result ≡ false → tooSmall (lent (start w)) ≡ false
+large w left = sym (w .too-small .ensures) ∙ left
+
+-- the packet passed 2 to 4, so its session ID lies in it
+id-inside : (e : tie.Else2) → overIp + idLength ≤ length (start (e .before .before .before) .args .packet .now)
+id-inside e =
+    let a = start (e .before .before .before) .args in
+    let over = early-over overIp (a .table) (a .packet .now) (sym (e .before .refuse-before-session .ensures) ∙ e .if2 .left) in
+    omega (arith, over .passed .not-short)
+
+too-small-requires : tie.Need-too-small-requires
+too-small-requires c κs = search needs
+
+refuse-requires : tie.Need-refuse-requires
+refuse-requires c κs = search needs
+
+returns : tie.Need-returns
+returns c =
+    let w = c .before .before in
+    let s = start w in
+    permits (receive-small overIp (s .args .table) (s .args .packet .now) (lent s) _ (sym (w .too-small .ensures) ∙ c .before .if1 .taken) (c .refuse .ensures))
+
+refuse-before-session-requires : tie.Need-refuse-before-session-requires
+refuse-before-session-requires c κs = search needs
+
+refuse-requires-2 : tie.Need-refuse-requires-2
+refuse-requires-2 c κs = search needs
+
+returns-2 : tie.Need-returns-2
+returns-2 c =
+    let w = c .before .before .before .before in
+    let s = start w in
+    permits (receive-early overIp (s .args .table) (s .args .packet .now) (lent s) (large w (c .before .before .before .if1 .left)) _ (c .before .before .refuse-before-session .ensures) _ (c .before .if2 .taken) (c .refuse2 .ensures))
+
+session-id-requires : tie.Need-session-id-requires
+session-id-requires c κs = id-inside c
+
+find-row-requires : tie.Need-find-row-requires
+find-row-requires c κs = search needs
+
+refuse-requires-3 : tie.Need-refuse-requires-3
+refuse-requires-3 c κs = search needs
+
+returns-3 : tie.Need-returns-3
+returns-3 c =
+    let w = c .before .before .before .before .before .before .before in
+    let s = start w in
+    permits
+    (receive-closed overIp (s .args .table) (s .args .packet .now) (lent s) (large w (c .before .before .before .before .before .before .if1 .left)) _ (c .before .before .before .before .before .refuse-before-session .ensures) (c .before .before .before .before .if2 .left) _ _
+    (c .before .before .before .session-id .ensures) (c .before .before .find-row .ensures) _ (c .before .if3 .taken) (c .refuse3 .ensures))
+
+sub-of-requires : tie.Need-sub-of-requires
+sub-of-requires c κs = id-inside (c .before .before .before)
+
+hear-requires : tie.Need-hear-requires
+hear-requires c κs =
+    let e = c .before .before .before .before .before .before .before in
+    let w = e .before .before .before in
+    let s = start w in
+    ready overIp (s .args .table) (s .args .packet .now) (lent s) _ _ (large w (e .before .before .if1 .left)) (sym (e .before .refuse-before-session .ensures) ∙ e .if2 .left) (c .before .before .before .before .if3 .left) (c .before .before .before .sub-of .ensures)
+
+same-length : tie.Need-same-length
+same-length c = search needs
+
+same-length-2 : tie.Need-same-length-2
+same-length-2 c = search needs
+
+same-length-3 : tie.Need-same-length-3
+same-length-3 c = search needs
+
+returns-4 : tie.Need-returns-4
+returns-4 c =
+    let e = c .before .before .before .before .before .before .before .before .before .before .before .before .before .before in
+    let w = e .before .before .before in
+    let s = start w in
+    permits
+    (receive-heard overIp (s .args .table) (s .args .packet .now) (lent s) (large w (e .before .before .if1 .left)) _ (e .before .refuse-before-session .ensures) (e .if2 .left) _ _
+    (c .before .before .before .before .before .before .before .before .before .before .before .before .before .session-id .ensures) (c .before .before .before .before .before .before .before .before .before .before .before .before .find-row .ensures) _ _ (c .before .before .before .before .before .before .before .before .before .before .before .if3 .left) (c .before .before .before .before .before .before .before .before .before .before .sub-of .ensures) (c .before .before .before .before .before .before .hear .ensures))
+
+pub receive-spec : {M : Type 1} → statement M
+receive-spec =
+    tie.close
+    (tie.spec
+    too-small-requires
+    refuse-requires
+    returns
+    refuse-before-session-requires
+    refuse-requires-2
+    returns-2
+    session-id-requires
+    find-row-requires
+    refuse-requires-3
+    returns-3
+    sub-of-requires
+    hear-requires
+    same-length
+    same-length-2
+    same-length-3
+    returns-4)

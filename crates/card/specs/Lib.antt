@@ -1,0 +1,4 @@
+pub mod Join
+pub mod Hear
+pub mod Receive
+pub mod Placed

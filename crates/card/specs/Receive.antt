@@ -1,0 +1,139 @@
+-- The data call, whole (document 01, "The card in numbers", "Opening, closing, listening" and "Refusal numbers"). It is given the table,
+-- a packet, and three slices: the holding slice, and two for what comes out, the frames back to back and their lengths. Either it is
+-- refused, with the first number of the order that applies, all counts 0 and everything as it was; or the packet's flow hears it, and
+-- that flow's record, its place and what is delivered are all that changes.
+use Prim.Native.Nat.{ℕ, zero, suc, _+_, _*_}
+use mathlib.Core.Path.{_≡_}
+use mathlib.Core.Bool.{Bool, cond, not, _||_}
+use mathlib.Core.List.{List, [], _∷_, _++_}
+use lib.Dec.{ltb}
+use lib.ListN.{length}
+use Rattle.refusal.specs.Refusal.{Refusal, _when_, first}
+use Rattle.octets.specs.Stretch.{part, put, joined, lengths}
+use Rattle.flow.specs.declared.Flow.{Flow}
+use Rattle.flow.specs.Flow.{longest, flows}
+use Rattle.packet.specs.Header.{overIp, sub, sessionId, flowId, beforeSession}
+use Rattle.packet.specs.Segments.{entryWidth}
+use Rattle.packet.specs.Psp.{pspRefusals}
+use Rattle.packet.specs.Dmpt.{dmptRefusals}
+use Rattle.table.specs.declared.Table.{Table}
+use Rattle.table.specs.Rows.{rows, isDmpt, rowAt, flowAt, find, withFlow}
+use Rattle.table.specs.Broken.{broken}
+use Rattle.table.specs.Calls.{isOpen}
+use Rattle.card.specs.declared.Received.{Received}
+use Rattle.card.specs.Hear.{Heard, judgedOf, hear, recordAfter}
+
+-- A place of 2,048 bytes for each flow of each row, row by row: 49,152 bytes, and the place of row r, flow k starts at (4r + k) x 2,048.
+abbrev pub holdingSize : ℕ
+holdingSize = rows * flows * longest
+
+abbrev pub placeOf : ℕ → ℕ → ℕ
+placeOf r k = (flows * r + k) * longest
+
+-- The room that a call asks for in the two slices for what comes out. No packet fills more (`within-limits`).
+abbrev pub mostFrames : ℕ
+mostFrames = 127
+
+abbrev pub mostBytes : ℕ
+mostBytes = 6144
+
+-- The slices, as they are lent or as they are left. And everything that a call answers and leaves: the table afterwards is in the answer.
+pub record Slices : Type 0 where
+  pub holding : List ℕ
+  pub output : List ℕ
+  pub lengths : List ℕ
+
+abbrev pub asSlices : List ℕ → List ℕ → List ℕ → Slices
+asSlices holding output lens = record { holding = holding; output = output; lengths = lens }
+
+pub record Outcome : Type 0 where
+  pub answer : Received
+  pub slices : Slices
+
+-- Where a packet goes. Its session's row is r (6, where the session is not open), and whether that row is D-MPT; its flow there has
+-- a record, and the bytes that this flow holds are the first ones of its place; and so the flow hears the packet.
+abbrev pub rowOf : ℕ → Table → List ℕ → ℕ
+rowOf lead t packet = find t (sessionId lead packet)
+
+abbrev pub toDmpt : Table → ℕ → Bool
+toDmpt t r = isDmpt ((rowAt t r) .kind)
+
+abbrev pub flowOf : Table → ℕ → List ℕ → Flow
+flowOf t r sub = flowAt (rowAt t r) (flowId sub)
+
+abbrev pub heldBy : Table → ℕ → List ℕ → Slices → List ℕ
+heldBy t r sub s = part (s .holding) (placeOf r (flowId sub)) ((flowOf t r sub) .held)
+
+abbrev pub heardBy : Table → ℕ → List ℕ → Slices → Heard
+heardBy t r sub s = hear (toDmpt t r) (flowOf t r sub) (heldBy t r sub s) sub
+
+-- The refusals, in order: 1, 13, 2 to 4, 5, 6 to 11 by the kind of the session, 12.
+abbrev pub tooSmall : Slices → Bool
+tooSmall s = ltb (length (s .holding)) holdingSize || ltb (length (s .output)) mostBytes || ltb (length (s .lengths)) mostFrames
+
+-- 13, then 2 to 4, which need no session
+abbrev pub earlyRefusals : ℕ → Table → List ℕ → List Refusal
+earlyRefusals lead t packet = 13 when broken t ∷ beforeSession lead packet
+
+-- 6 to 11, by whether the session is D-MPT
+abbrev pub packetRefusals : Bool → List ℕ → List Refusal
+packetRefusals dmpt sub = cond dmpt (dmptRefusals sub) (pspRefusals entryWidth sub)
+
+-- those that need the session's row: 6 to 11, and 12
+abbrev pub flowRefusals : Table → ℕ → List ℕ → List Refusal
+flowRefusals t r sub = packetRefusals (toDmpt t r) sub ++ (12 when (judgedOf (flowOf t r sub) sub) .late ∷ [])
+
+abbrev pub dataRefusals : ℕ → Table → List ℕ → Slices → List Refusal
+dataRefusals lead t packet s =
+    1 when tooSmall s
+    ∷ earlyRefusals lead t packet
+    ++ (5 when not (isOpen t (sessionId lead packet)) ∷ [])
+    ++ flowRefusals t (rowOf lead t packet) (sub lead packet)
+
+-- What is heard, carried out for row r, flow k: the counts; the flow's next record; the held bytes at the start of the flow's place;
+-- and the frames and their lengths at the start of the other two slices. `put` leaves every other element as it was, so of the place no
+-- byte behind the held ones changes, and none at all where nothing is held.
+unfoldable pub carriedOut : ℕ → ℕ → Heard → Table → Slices → Outcome
+carriedOut r k h t s =
+    record {
+      answer = record {
+        code = 0;
+        frames = length (h .fate .delivered);
+        bytes = length (joined (h .fate .delivered));
+        dropped = length (h .fate .dropped);
+        gap = h .judged .gap;
+        table = withFlow t r k (recordAfter h);
+      };
+      slices = record {
+        holding = put (s .holding) (placeOf r k) (h .fate .held);
+        output = put (s .output) 0 (joined (h .fate .delivered));
+        lengths = put (s .lengths) 0 (lengths (h .fate .delivered));
+      };
+    }
+
+-- A refusal: its number, all counts 0, and table and slices as they were.
+abbrev pub refusedAnswer : ℕ → Table → Received
+refusedAnswer number t = record { code = number; frames = 0; bytes = 0; dropped = 0; gap = 0; table = t }
+
+unfoldable pub refused : ℕ → Table → Slices → Outcome
+refused number t s = record { answer = refusedAnswer number t; slices = s }
+
+-- by the number of the first refusal that applies
+unfoldable pub receivedBy : ℕ → Table → ℕ → List ℕ → Slices → Outcome
+receivedBy zero t r sub s = carriedOut r (flowId sub) (heardBy t r sub s) t s
+receivedBy (suc c) t r sub s = refused (suc c) t s
+
+unfoldable pub received : ℕ → Table → List ℕ → Slices → Outcome
+received lead t packet s = receivedBy (first (dataRefusals lead t packet s)) t (rowOf lead t packet) (sub lead packet) s
+
+-- What the call permits, whole, over IP: t and s are the table and the slices when it is called, and o has both when it returns.
+pub record PermitsReceive (t : Table) (packet : List ℕ) (s : Slices) (o : Outcome) : Type 0 where
+  pub its-number : o .answer .code ≡ (received overIp t packet s) .answer .code
+  pub its-frames : o .answer .frames ≡ (received overIp t packet s) .answer .frames
+  pub its-bytes : o .answer .bytes ≡ (received overIp t packet s) .answer .bytes
+  pub its-dropped : o .answer .dropped ≡ (received overIp t packet s) .answer .dropped
+  pub its-gap : o .answer .gap ≡ (received overIp t packet s) .answer .gap
+  pub its-table : o .answer .table ≡ (received overIp t packet s) .answer .table
+  pub its-holding : o .slices .holding ≡ (received overIp t packet s) .slices .holding
+  pub its-output : o .slices .output ≡ (received overIp t packet s) .slices .output
+  pub its-lengths : o .slices .lengths ≡ (received overIp t packet s) .slices .lengths
