@@ -3,8 +3,8 @@
 //
 // All of a packet is judged before anything is written. Each segment entry is read when it is needed, so no copy of the segment table is
 // made, and the call keeps nothing from one packet to the next but what stands in the table and in the holding slice.
-pub mod join;
-pub mod mpegs;
+mod join;
+mod mpegs;
 
 ghost use mathlib.Core.Path.{_≡_};
 ghost use mathlib.Core.Bool.{true, _||_};
