@@ -1,5 +1,5 @@
--- What one call can come to: its byte account, at most 127 frames and 6,144 bytes delivered, a gap of 32,767 at most, and a table that is
--- no more broken than before. None of these is asked for by the definition; they follow from the refusals and the segment rules.
+-- What one call can come to: its byte account, at most 127 frames and 6,144 bytes delivered, and a gap of 32,767 at most. None of these is
+-- asked for by the definition; they follow from the refusals and the segment rules.
 use Prim.Native.Nat.{ℕ, zero, suc, _+_, _<_, _≤_}
 use mathlib.Core.Path.{_≡_, refl, ap, _∙_}
 use mathlib.Core.Bool.{Bool, true, false, cond}
