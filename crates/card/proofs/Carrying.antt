@@ -21,7 +21,7 @@ use Rattle.packet.proofs.Passing.{dmpt-passed, mpeg-inside}
 use Rattle.card.specs.declared.join.Tally.{Tally}
 use Rattle.card.specs.Join.{Fate, delivering, dropping, keeping, mpegFate, inOrder}
 use Rattle.card.specs.Hear.{pspFate, dmptFate, fateOf}
-use Rattle.card.specs.Receive.{Slices, mostBytes, mostFrames, packetRefusals}
+use Rattle.card.specs.Receive.{asSlices, Slices, mostBytes, mostFrames, packetRefusals}
 use Rattle.card.specs.Placed.{nothingYet, Placed, Fits, Within}
 use Rattle.card.proofs.Account.{Accounts, mpeg-accounts, in-order-accounts}
 use Rattle.card.proofs.Placing.{placed-keeping, placed-counted, output-long, lengths-long, placed-next}
@@ -66,7 +66,7 @@ module _ (sub : List ℕ) (header : headerLength ≤ length sub) where
 
 -- The loop's invariant.
 abbrev pub without : List ℕ → List ℕ → Slices
-without out lens = record { holding = []; output = out; lengths = lens }
+without out lens = asSlices [] out lens
 
 pub record Carrying (sub out lens out′ lens′ : List ℕ) (tally : Tally) (k : ℕ) : Type 0 where
   pub within : k ≤ mpegCount sub
@@ -118,7 +118,7 @@ module _ (sub out lens : List ℕ) (header : headerLength ≤ length sub) (short
 -- A fate that holds nothing leaves any holding slice as it was.
 pub placed-anywhere : {f : Fate} {out lens out′ lens′ : List ℕ} {a b : Tally} → Placed f 0 a (without out lens) b (without out′ lens′) → f .held ≡ [] →
     (hold : List ℕ) (place : ℕ) →
-    Placed f place a (record { holding = hold; output = out; lengths = lens }) b (record { holding = hold; output = out′; lengths = lens′ })
+    Placed f place a (asSlices hold out lens) b (asSlices hold out′ lens′)
 placed-anywhere {f} p none hold place =
     record {
       held-now = p .held-now;

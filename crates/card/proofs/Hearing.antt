@@ -25,7 +25,7 @@ use Rattle.card.specs.declared.Received.{Received}
 use Rattle.card.specs.declared.join.Tally.{Tally}
 use Rattle.card.specs.Join.{Fate}
 use Rattle.card.specs.Hear.{judgedOf, fateOf, hear}
-use Rattle.card.specs.Receive.{holdingSize, placeOf, mostFrames, mostBytes, Slices, Outcome, toDmpt, flowOf, heardBy, tooSmall, packetRefusals, flowRefusals, carriedOut, refusedAnswer, refused, receivedBy}
+use Rattle.card.specs.Receive.{asSlices, holdingSize, placeOf, mostFrames, mostBytes, Slices, Outcome, toDmpt, flowOf, heardBy, tooSmall, packetRefusals, flowRefusals, carriedOut, refusedAnswer, refused, receivedBy}
 use Rattle.card.specs.Placed.{nothingYet, Placed, answered, Roomy}
 
 -- What is not refused for its size is large enough.
@@ -67,11 +67,11 @@ dmpt-bare t r k whole l m d = flows-whole t whole r k l m .holds-none d
 
 -- What is heard, carried out, is what counts and slices show.
 pub carried-out : (r k : ℕ) (j : Judged) (f : Fate) (t : Table) (s : Slices) (tally : Tally) (hold out lens : List ℕ) →
-    Placed f (placeOf r k) nothingYet s tally (record { holding = hold; output = out; lengths = lens }) →
+    Placed f (placeOf r k) nothingYet s tally (asSlices hold out lens) →
     _≡_ {A = Outcome}
     (record {
       answer = answered t r k j tally;
-      slices = record { holding = hold; output = out; lengths = lens };
+      slices = asSlices hold out lens;
     })
     (carriedOut r k (record { judged = j; fate = f }) t s)
 unfolding carriedOut
@@ -121,12 +121,12 @@ module _ (t : Table) (r : ℕ) (sub : List ℕ) (s : Slices) (dmpt : Bool) (kind
     hear-late answer late e = rw (last-line, late) (refused-answer 12 t s answer e ∙ sym (refused-by 12 t r sub s (λ z. omega arith)))
 
     pub hear-accepted : (place : ℕ) (tally : Tally) (answer : Received) (hold out lens : List ℕ) → j .late ≡ false → place ≡ placeOf r k →
-        Placed (fateOf dmpt (j .gap) (part (s .holding) place (flowAt (rowAt t r) k .held)) sub) place nothingYet s tally (record { holding = hold; output = out; lengths = lens }) →
+        Placed (fateOf dmpt (j .gap) (part (s .holding) place (flowAt (rowAt t r) k .held)) sub) place nothingYet s tally (asSlices hold out lens) →
         answer ≡ answered t r k j tally →
-        _≡_ {A = Outcome} (record { answer = answer; slices = record { holding = hold; output = out; lengths = lens } })
+        _≡_ {A = Outcome} (record { answer = answer; slices = asSlices hold out lens })
         (receivedBy (first (flowRefusals t r sub)) t r sub s)
     unfolding receivedBy hear
     hear-accepted place tally answer hold out lens intime at p e =
-        let q : Placed (heardBy t r sub s .fate) (placeOf r (flowId sub)) nothingYet s tally (record { holding = hold; output = out; lengths = lens }) =
+        let q : Placed (heardBy t r sub s .fate) (placeOf r (flowId sub)) nothingYet s tally (asSlices hold out lens) =
         rw (kind, at, flow, judged-is) at p in
         rw (last-line, intime, e, flow, judged-is) (carried-out r (flowId sub) (judgedOf (flowOf t r sub) sub) (heardBy t r sub s .fate) t s tally hold out lens q)

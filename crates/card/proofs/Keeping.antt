@@ -1,14 +1,16 @@
 -- A data call leaves a table that is not broken unbroken; and a D-MPT packet without a number leaves the table as it was.
 use Prim.Native.Nat.{ℕ, zero, suc}
 use mathlib.Core.Path.{_≡_, refl, sym, ap, _∙_}
-use mathlib.Core.Bool.{Bool, true, false, not, _&&_, true≢false}
+use mathlib.Core.Bool.{Bool, true, false, not, true≢false}
 use mathlib.Core.Logic.{⊎-elim}
 use mathlib.Core.List.{List, []}
 use lib.Dec.{eqb}
 use lib.ListN.{length, set}
 use lib.Seq.{set-getD}
+use borrow.Author.Tests.{not-true}
 use Rattle.octets.proofs.Counts.{true-or-false, least-passes}
 use Rattle.refusal.specs.Refusal.{first}
+use Rattle.refusal.proofs.Laws.{and-left}
 use Rattle.flow.specs.declared.Flow.{Flow}
 use Rattle.flow.specs.declared.Judged.{Judged}
 use Rattle.flow.specs.Flow.{flows, judge}
@@ -28,14 +30,6 @@ use Rattle.card.proofs.Hearing.{dmpt-bare}
 use Rattle.card.proofs.Accepted.{Accepted, accepted, flow-there, received-accepted, received-refused}
 use Rattle.card.proofs.Carrying.{dmpt-header, dmpt-holds-none}
 use Rattle.card.proofs.Limits.{accepted-bounded, held-none}
-
-and-left : (a b : Bool) → (a && b) ≡ true → a ≡ true
-and-left true b h = refl
-and-left false b h = absurd (true≢false (sym h))
-
-not-true : (b : Bool) → not b ≡ true → b ≡ false
-not-true false h = refl
-not-true true h = absurd (true≢false (sym h))
 
 module _ (lead : ℕ) (t : Table) (packet : List ℕ) (s : Slices) (a : Accepted lead t packet s) where
   abbrev row : ℕ

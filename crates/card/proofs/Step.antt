@@ -1,5 +1,5 @@
 -- An accepted data call is the step of one flow, on its row and in its place, and no other row, flow, place or byte changes. Everything
--- that is said of histories rests on this. A refused call changes nothing at all.
+-- that is said of histories rests on this. (That a refused call changes nothing at all is `received-refused`.)
 use Prim.Native.Nat.{ℕ, _+_, _*_, _<_, _≤_}
 use mathlib.Core.Path.{_≡_, refl, sym, ap, _∙_}
 use mathlib.Core.Logic.{_⊎_, inl, inr, ⊎-elim}

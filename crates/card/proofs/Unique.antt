@@ -4,7 +4,7 @@ use mathlib.Core.Path.{_≡_, refl, sym, _∙_}
 use mathlib.Core.List.{List}
 use Rattle.packet.specs.Header.{overIp}
 use Rattle.table.specs.declared.Table.{Table}
-use Rattle.card.specs.Receive.{Slices, Outcome, received, PermitsReceive}
+use Rattle.card.specs.Receive.{asSlices, Slices, Outcome, received, PermitsReceive}
 use Rattle.card.proofs.Receiving.{permits}
 
 pub receive-permitted : (t : Table) (packet : List ℕ) (s : Slices) → PermitsReceive t packet s (received overIp t packet s)
@@ -17,11 +17,11 @@ same : {code code′ frames frames′ bytes bytes′ dropped dropped′ gap gap�
     _≡_ {A = Outcome}
     (record {
       answer = record { code = code; frames = frames; bytes = bytes; dropped = dropped; gap = gap; table = table };
-      slices = record { holding = holding; output = output; lengths = lens };
+      slices = asSlices holding output lens;
     })
     (record {
       answer = record { code = code′; frames = frames′; bytes = bytes′; dropped = dropped′; gap = gap′; table = table′ };
-      slices = record { holding = holding′; output = output′; lengths = lens′ };
+      slices = asSlices holding′ output′ lens′;
     })
 same c f b d g t h o l = rw (c, f, b, d, g, t, h, o, l) refl
 

@@ -60,22 +60,22 @@ pub fn receive(
         (record { answer = r; slices = asSlices (now (holding .exit)) (now (output .exit)) (now (lengths .exit)) }) ⌝ }
 {
     if too_small(holding.len(), output.len(), lengths.len()) {
-        return refuse(refusal::SLICE_TOO_SMALL, table);
+        return refused_answer(refusal::SLICE_TOO_SMALL, table);
     }
     let early = refuse_before_session(table, packet, header::OVER_IP);
     if early != refusal::NONE {
-        return refuse(early, table);
+        return refused_answer(early, table);
     }
     let row = table::find_row(table, header::session_id(packet, header::OVER_IP));
     if ROWS <= row {
-        return refuse(refusal::SESSION_NOT_OPEN, table);
+        return refused_answer(refusal::SESSION_NOT_OPEN, table);
     }
     let sub = header::sub_of(packet, header::OVER_IP);
     hear(table, row, holding, sub, output, lengths)
 }
 
 // The answer of a refused call.
-fn refuse(code: u32, table: Table) -> Received
+fn refused_answer(code: u32, table: Table) -> Received
     ensures { λ r. ⌜ r ≡ refusedAnswer code table ⌝ }
 {
     Received {
@@ -219,13 +219,13 @@ fn hear(
     let dmpt = table::is_dmpt(kind);
     let code = refuse_packet(dmpt, sub);
     if code != refusal::NONE {
-        return refuse(code, table);
+        return refused_answer(code, table);
     }
     let k = header::flow_id(sub);
     let flow = session.flows[k];
     let judged = judge_packet(flow, sub);
     if judged.late {
-        return refuse(refusal::LATE, table);
+        return refused_answer(refusal::LATE, table);
     }
     let held = flow.held as usize;
     let tally = place_packet(

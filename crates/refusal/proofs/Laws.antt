@@ -13,7 +13,7 @@ abbrev pub numbered : List Refusal → Bool
 numbered [] = true
 numbered (r ∷ rest) = not (eqb (r .number) 0) && numbered rest
 
-and-left : (a b : Bool) → (a && b) ≡ true → a ≡ true
+pub and-left : (a b : Bool) → (a && b) ≡ true → a ≡ true
 and-left true b h = refl
 and-left false b h = h
 

@@ -3,7 +3,7 @@ use Prim.Native.Nat.{ℕ, _<_}
 use mathlib.Core.Path.{_≡_, sym, _∙_}
 use native.Mathlib.Omega.{arith}
 use Rattle.flow.specs.Flow.{flows}
-use Rattle.card.specs.Receive.{placeOf, Slices}
+use Rattle.card.specs.Receive.{asSlices, placeOf, Slices}
 use Rattle.card.specs.Placed.{Roomy}
 use Rattle.card.proofs.Hearing.{place-roomy, flow-in-row, held-fits, dmpt-bare, hear-refused, hear-late, hear-accepted}
 use borrow.Author.Needs.{needs}
@@ -15,7 +15,7 @@ abbrev start : tie.After-refuse-packet → tie.Start
 start p = p .before .before .before .before .before .before .before
 
 abbrev lent : tie.Start → Slices
-lent s = record { holding = s .args .holding .now; output = s .args .output .now; lengths = s .args .lengths .now }
+lent s = asSlices (s .args .holding .now) (s .args .output .now) (s .args .lengths .now)
 
 -- the packet passed, so its flow is one of the row's, and the flow's place is there
 in-row : (k : tie.After-flow-id) → k .flow-id .result < flows
@@ -41,14 +41,14 @@ is-dmpt-requires c κs = search needs
 refuse-packet-requires : tie.Need-refuse-packet-requires
 refuse-packet-requires c κs = search needs
 
-refuse-requires : tie.Need-refuse-requires
-refuse-requires c κs = search needs
+refused-answer-requires : tie.Need-refused-answer-requires
+refused-answer-requires c κs = search needs
 
 returns : tie.Need-returns
 returns c =
     let p = c .before .before in
     let s = start p in
-    hear-refused (s .args .t1) (s .args .row) (s .args .sub .now) (lent s) _ (p .before .is-dmpt .ensures) _ (p .refuse-packet .ensures) _ (c .before .if1 .taken) (c .refuse .ensures)
+    hear-refused (s .args .t1) (s .args .row) (s .args .sub .now) (lent s) _ (p .before .is-dmpt .ensures) _ (p .refuse-packet .ensures) _ (c .before .if1 .taken) (c .refused-answer .ensures)
 
 flow-id-requires : tie.Need-flow-id-requires
 flow-id-requires c κs = search needs
@@ -62,15 +62,15 @@ element-copy-out-flow c = in-row c
 judge-packet-requires : tie.Need-judge-packet-requires
 judge-packet-requires c κs = search needs
 
-refuse-requires-2 : tie.Need-refuse-requires-2
-refuse-requires-2 c κs = search needs
+refused-answer-requires-2 : tie.Need-refused-answer-requires-2
+refused-answer-requires-2 c κs = search needs
 
 returns-2 : tie.Need-returns-2
 returns-2 c =
     let k = c .before .before .before .before in
     let p = k .before .before in
     let s = start p in
-    hear-late (s .args .t1) (s .args .row) (s .args .sub .now) (lent s) _ (p .before .is-dmpt .ensures) _ (p .refuse-packet .ensures) (k .before .if1 .left) _ (k .flow-id .ensures .0) _ (c .before .before .judge-packet .ensures) _ (c .before .if2 .taken) (c .refuse2 .ensures)
+    hear-late (s .args .t1) (s .args .row) (s .args .sub .now) (lent s) _ (p .before .is-dmpt .ensures) _ (p .refuse-packet .ensures) (k .before .if1 .left) _ (k .flow-id .ensures .0) _ (c .before .before .judge-packet .ensures) _ (c .before .if2 .taken) (c .refused-answer2 .ensures)
 
 cast-held : tie.Need-cast-held
 cast-held c = search needs
@@ -125,13 +125,13 @@ hear-spec =
     element-copy-out-session
     is-dmpt-requires
     refuse-packet-requires
-    refuse-requires
+    refused-answer-requires
     returns
     flow-id-requires
     mul-flow
     element-copy-out-flow
     judge-packet-requires
-    refuse-requires-2
+    refused-answer-requires-2
     returns-2
     cast-held
     place-of-requires

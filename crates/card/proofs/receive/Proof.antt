@@ -5,7 +5,7 @@ use mathlib.Core.Bool.{false}
 use native.Mathlib.Omega.{arith}
 use lib.ListN.{length}
 use Rattle.packet.specs.Header.{overIp, idLength}
-use Rattle.card.specs.Receive.{Slices, tooSmall}
+use Rattle.card.specs.Receive.{asSlices, Slices, tooSmall}
 use Rattle.card.proofs.Receiving.{permits, early-over, ready, receive-small, receive-early, receive-closed, receive-heard}
 use borrow.Author.Needs.{needs}
 use Rattle.card.proofs.receive.Statement.{statement}
@@ -16,7 +16,7 @@ abbrev start : tie.After-too-small → tie.Start
 start w = w .before .before .before .before .before
 
 abbrev lent : tie.Start → Slices
-lent s = record { holding = s .args .holding .now; output = s .args .output .now; lengths = s .args .lengths .now }
+lent s = asSlices (s .args .holding .now) (s .args .output .now) (s .args .lengths .now)
 
 large : (w : tie.After-too-small) → w .too-small .result ≡ false → tooSmall (lent (start w)) ≡ false
 large w left = sym (w .too-small .ensures) ∙ left
@@ -31,26 +31,26 @@ id-inside e =
 too-small-requires : tie.Need-too-small-requires
 too-small-requires c κs = search needs
 
-refuse-requires : tie.Need-refuse-requires
-refuse-requires c κs = search needs
+refused-answer-requires : tie.Need-refused-answer-requires
+refused-answer-requires c κs = search needs
 
 returns : tie.Need-returns
 returns c =
     let w = c .before .before in
     let s = start w in
-    permits (receive-small overIp (s .args .table) (s .args .packet .now) (lent s) _ (sym (w .too-small .ensures) ∙ c .before .if1 .taken) (c .refuse .ensures))
+    permits (receive-small overIp (s .args .table) (s .args .packet .now) (lent s) _ (sym (w .too-small .ensures) ∙ c .before .if1 .taken) (c .refused-answer .ensures))
 
 refuse-before-session-requires : tie.Need-refuse-before-session-requires
 refuse-before-session-requires c κs = search needs
 
-refuse-requires-2 : tie.Need-refuse-requires-2
-refuse-requires-2 c κs = search needs
+refused-answer-requires-2 : tie.Need-refused-answer-requires-2
+refused-answer-requires-2 c κs = search needs
 
 returns-2 : tie.Need-returns-2
 returns-2 c =
     let w = c .before .before .before .before in
     let s = start w in
-    permits (receive-early overIp (s .args .table) (s .args .packet .now) (lent s) (large w (c .before .before .before .if1 .left)) _ (c .before .before .refuse-before-session .ensures) _ (c .before .if2 .taken) (c .refuse2 .ensures))
+    permits (receive-early overIp (s .args .table) (s .args .packet .now) (lent s) (large w (c .before .before .before .if1 .left)) _ (c .before .before .refuse-before-session .ensures) _ (c .before .if2 .taken) (c .refused-answer2 .ensures))
 
 session-id-requires : tie.Need-session-id-requires
 session-id-requires c κs = id-inside c
@@ -58,8 +58,8 @@ session-id-requires c κs = id-inside c
 find-row-requires : tie.Need-find-row-requires
 find-row-requires c κs = search needs
 
-refuse-requires-3 : tie.Need-refuse-requires-3
-refuse-requires-3 c κs = search needs
+refused-answer-requires-3 : tie.Need-refused-answer-requires-3
+refused-answer-requires-3 c κs = search needs
 
 returns-3 : tie.Need-returns-3
 returns-3 c =
@@ -67,7 +67,7 @@ returns-3 c =
     let s = start w in
     permits
     (receive-closed overIp (s .args .table) (s .args .packet .now) (lent s) (large w (c .before .before .before .before .before .before .if1 .left)) _ (c .before .before .before .before .before .refuse-before-session .ensures) (c .before .before .before .before .if2 .left) _ _
-    (c .before .before .before .session-id .ensures) (c .before .before .find-row .ensures) _ (c .before .if3 .taken) (c .refuse3 .ensures))
+    (c .before .before .before .session-id .ensures) (c .before .before .find-row .ensures) _ (c .before .if3 .taken) (c .refused-answer3 .ensures))
 
 sub-of-requires : tie.Need-sub-of-requires
 sub-of-requires c κs = id-inside (c .before .before .before)
@@ -102,14 +102,14 @@ receive-spec =
     tie.close
     (tie.spec
     too-small-requires
-    refuse-requires
+    refused-answer-requires
     returns
     refuse-before-session-requires
-    refuse-requires-2
+    refused-answer-requires-2
     returns-2
     session-id-requires
     find-row-requires
-    refuse-requires-3
+    refused-answer-requires-3
     returns-3
     sub-of-requires
     hear-requires

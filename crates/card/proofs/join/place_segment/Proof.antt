@@ -3,7 +3,7 @@ use Prim.Native.Nat.{_+_, _≤_}
 use mathlib.Core.Path.{refl, sym, _∙_}
 use lib.ListN.{length}
 use native.Mathlib.Omega.{arith}
-use Rattle.card.specs.Receive.{Slices}
+use Rattle.card.specs.Receive.{asSlices, Slices}
 use Rattle.card.proofs.Placing.{segment-begins, segment-orphan, segment-joins}
 use borrow.Author.Needs.{needs}
 use Rattle.card.proofs.join.place_segment.Statement.{statement}
@@ -14,7 +14,7 @@ abbrev start : tie.After-begins → tie.Start
 start b = b .before .before .before .before .before .before .before
 
 abbrev lent : tie.After-begins → Slices
-lent b = record { holding = start b .args .holding .now; output = start b .args .output .now; lengths = start b .args .lengths .now }
+lent b = asSlices (start b .args .holding .now) (start b .args .output .now) (start b .args .lengths .now)
 
 -- what is held lies in the holding slice, and what was delivered in the other two
 inside : (b : tie.After-begins) → start b .args .place + start b .args .tally .held ≤ length (lent b .holding)

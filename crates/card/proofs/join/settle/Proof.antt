@@ -7,7 +7,7 @@ use lib.ListN.{length, length-append}
 use Rattle.octets.specs.Stretch.{part, put}
 use Rattle.octets.proofs.Stretches.{length-part, put-put, put-behind, set-put}
 use Rattle.flow.specs.Flow.{longest}
-use Rattle.card.specs.Receive.{Slices}
+use Rattle.card.specs.Receive.{asSlices, Slices}
 use Rattle.card.proofs.Placing.{placed-dropping, placed-delivering, placed-keeping, settled-long, settled-whole, settled-open}
 use borrow.Author.Needs.{needs}
 use Rattle.card.proofs.join.settle.Statement.{statement}
@@ -15,7 +15,7 @@ use Rattle.card.proofs.join.settle.Tie as tie
 
 -- the slices as they were lent, what is held, the segment's body, and both joined
 abbrev lent : tie.Start → Slices
-lent s = record { holding = s .args .holding .now; output = s .args .output .now; lengths = s .args .lengths .now }
+lent s = asSlices (s .args .holding .now) (s .args .output .now) (s .args .lengths .now)
 
 abbrev held : tie.Start → List ℕ
 held s = part (s .args .holding .now) (s .args .place) (s .args .tally .held)

@@ -7,7 +7,7 @@ use Rattle.packet.specs.Header.{headerLength, segmentCount}
 use Rattle.packet.specs.Segments.{lengthIn, lengthAt}
 use Rattle.packet.proofs.Entries.{entry-within}
 use Rattle.packet.proofs.Passing.{PspPassed, psp-passed, entries-inside, table-small}
-use Rattle.card.specs.Receive.{Slices}
+use Rattle.card.specs.Receive.{asSlices, Slices}
 use Rattle.card.specs.Placed.{Fits}
 use Rattle.card.proofs.Walking.{Walking, walk-begin, walk-lengths, walk-roomy, walk-body, walk-fits, walk-turn, walk-within, walk-end}
 use borrow.Author.Needs.{needs}
@@ -16,7 +16,7 @@ use Rattle.card.proofs.join.walk.Tie as tie
 
 abbrev Inv-loop : tie.InvT-loop
 Inv-loop holding₀ place output₀ lengths₀ sub width gap held count tally₀ from₀ k₀ holding output lengths tally from k =
-    (count ≡ segmentCount sub) × Walking width gap held place sub (record { holding = holding₀; output = output₀; lengths = lengths₀ }) (record { holding = holding; output = output; lengths = lengths }) tally from k
+    (count ≡ segmentCount sub) × Walking width gap held place sub (asSlices holding₀ output₀ lengths₀) (asSlices holding output lengths) tally from k
 
 abbrev μ-loop : tie.MeasureT-loop
 μ-loop holding₀ place output₀ lengths₀ sub width gap held count tally₀ from₀ k₀ holding output lengths tally from k = count - k
@@ -32,10 +32,10 @@ abbrev start : Turn → Start
 start c = c .before .before .before .before .before .before .before .before
 
 abbrev lent : Start → Slices
-lent s = record { holding = s .args .holding .now; output = s .args .output .now; lengths = s .args .lengths .now }
+lent s = asSlices (s .args .holding .now) (s .args .output .now) (s .args .lengths .now)
 
 abbrev now : Turn → Slices
-now c = record { holding = c .before .loop .holding; output = c .before .loop .output; lengths = c .before .loop .lengths }
+now c = asSlices (c .before .loop .holding) (c .before .loop .output) (c .before .loop .lengths)
 
 passes : (s : Start) → PspPassed (s .args .width) (s .args .sub .now)
 passes s = psp-passed (s .args .width) (s .args .sub .now) (s .pre .1 .4)
