@@ -7,7 +7,7 @@ use native.Mathlib.Omega.{arith}
 use mathlib.Core.Logic.{_⊎_, inl, inr, ⊎-elim}
 use mathlib.Core.List.{List, [], _∷_, _++_, append-assoc, append-nil}
 use lib.ListN.{length, take, drop, set, length-append, length-drop, take-append-drop, List·getD-append}
-use lib.Seq.{length-take-le, take-at, take-all, drop-at, drop-drop, set-split, append-snoc, take-add, take-append-seam, drop-append-seam, getD-drop, getD-take, getD-append-add, ext-getD}
+use lib.Seq.{length-take-le, take-take, take-append-le, take-at, take-all, drop-at, drop-drop, set-split, append-snoc, take-add, take-append-seam, drop-append-seam, getD-drop, getD-take, getD-append-add, ext-getD}
 use Rattle.octets.specs.Bytes.{byteAt}
 use Rattle.octets.specs.Stretch.{part, rest, put, joined, lengths, cutBy}
 
@@ -33,6 +33,17 @@ length-rest l from = length-drop from l
 pub byte-rest : (l : List ℕ) (from i : ℕ) → byteAt (rest l from) i ≡ byteAt l (from + i)
 unfolding rest
 byte-rest l from i = getD-drop from l i 0
+
+-- two stretches, one behind the other, are one
+pub part-part : (l : List ℕ) (from n m : ℕ) → part l from n ++ part l (from + n) m ≡ part l from (n + m)
+unfolding part
+part-part l from n m = rw (← drop-drop n from l) (sym (take-add n m (drop from l)))
+
+-- a stretch of bytes that were laid back to back
+pub part-between : (before x behind : List ℕ) → part (before ++ x ++ behind) (length before) (length x) ≡ x
+unfolding part
+part-between before x behind =
+    rw (append-assoc before x behind, drop-append-seam before (x ++ behind)) (take-append-seam x behind)
 
 -- a stretch of the rest is a stretch of the whole, further on
 pub part-rest : (l : List ℕ) (from at n : ℕ) → part (rest l from) at n ≡ part l (from + at) n
@@ -74,6 +85,20 @@ put-put d at x y h =
     let r : drop (n + length y) (take at d ++ x ++ drop n d) ≡ drop (n + length y) d =
     sym (drop-drop (length y) n (take at d ++ x ++ drop n d)) ∙ ap (drop (length y)) (drop-at (take at d ++ x) (drop n d) n e) ∙ drop-drop (length y) n d in
     rw (t, r, length-append x y, append-assoc (take at d) x y, add-assoc at (length x) (length y)) refl
+
+-- .. in whichever order they are made
+pub put-before : (d : List ℕ) (at : ℕ) (x y : List ℕ) → at + length x ≤ length d → put (put d (at + length x) y) at x ≡ put d at (x ++ y)
+unfolding put
+put-before d at x y h =
+    let n = at + length x in
+    let k : at ≤ length d = omega arith in
+    let e : length (take n d) ≡ n = length-take-le n d h in
+    let whole : take n d ++ y ++ drop (n + length y) d ≡ take n d ++ (y ++ drop (n + length y) d) = append-assoc (take n d) y (drop (n + length y) d) in
+    let t : take at (take n d ++ y ++ drop (n + length y) d) ≡ take at d =
+    ap (take at) whole ∙ take-append-le at (take n d) (y ++ drop (n + length y) d) (omega arith) ∙ take-take at n d (omega arith) in
+    let r : drop n (take n d ++ y ++ drop (n + length y) d) ≡ y ++ drop (n + length y) d =
+    ap (drop n) whole ∙ drop-at (take n d) (y ++ drop (n + length y) d) n e in
+    rw (t, r, length-append x y, ← add-assoc at (length x) (length y), ← append-assoc (take at d) x y) (sym (append-assoc (take at d ++ x) y (drop (n + length y) d)))
 
 -- putting back what stands there
 pub put-same : (d : List ℕ) (at n : ℕ) → at + n ≤ length d → put d at (part d at n) ≡ d

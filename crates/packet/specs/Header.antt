@@ -37,8 +37,12 @@ headerLength = 4
 abbrev pub vSet : List ℕ → Bool
 vSet sub = eqb (byteAt sub 0 / 128 % 2) 1
 
+-- what S is worth in its byte
+abbrev pub sBit : ℕ
+sBit = 64
+
 abbrev pub sSet : List ℕ → Bool
-sSet sub = eqb (byteAt sub 0 / 64 % 2) 1
+sSet sub = eqb (byteAt sub 0 / sBit % 2) 1
 
 abbrev pub hBits : List ℕ → ℕ
 hBits sub = byteAt sub 0 / 16 % 4

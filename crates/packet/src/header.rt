@@ -12,6 +12,9 @@ pub const ID_LENGTH: usize = 4;
 
 pub const HEADER_LENGTH: usize = 4;
 
+// What S is worth in its byte.
+pub const S_BIT: u8 = 64;
+
 // A packet over IP has 8 to 4,100 bytes.
 const SHORTEST_PACKET: usize = 8;
 
@@ -53,7 +56,7 @@ pub fn s_set(sub: &[u8]) -> bool
     requires { ⌜ headerLength ≤ length (now sub) ⌝ }
     ensures { λ r. ⌜ r ≡ sSet (now (sub .entry)) ⌝ }
 {
-    sub[0] / 64 % 2 == 1
+    sub[0] / S_BIT % 2 == 1
 }
 
 pub fn h_bits(sub: &[u8]) -> u8

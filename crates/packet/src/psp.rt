@@ -15,9 +15,9 @@ use flow::Flow;
 pub const ENTRY_WIDTH: usize = 2;
 
 // What B and E are worth in an entry. The length is what stands below E.
-const B_BIT: u16 = 32768;
+pub const B_BIT: u16 = 32768;
 
-const E_BIT: u16 = 16384;
+pub const E_BIT: u16 = 16384;
 
 // Entry k, as the number in its first two bytes.
 pub fn entry(sub: &[u8], width: usize, k: usize) -> u16

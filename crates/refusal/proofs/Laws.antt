@@ -17,7 +17,7 @@ pub and-left : (a b : Bool) → (a && b) ≡ true → a ≡ true
 and-left true b h = refl
 and-left false b h = h
 
-and-right : (a b : Bool) → (a && b) ≡ true → b ≡ true
+pub and-right : (a b : Bool) → (a && b) ≡ true → b ≡ true
 and-right true b h = h
 and-right false b h = absurd (true≢false (sym h))
 

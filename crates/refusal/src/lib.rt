@@ -50,3 +50,16 @@ pub const KIND_UNKNOWN: u32 = 24;
 
 // A close.
 pub const CLOSE_OF_NONE: u32 = 25;
+
+// A send: to whom, how much, what, from where, into what.
+pub const ADDRESS_OUTSIDE: u32 = 31;
+
+pub const LIMIT_OUTSIDE: u32 = 32;
+
+pub const FRAMES_UNSOUND: u32 = 33;
+
+pub const POSITION_OUTSIDE: u32 = 34;
+
+pub const NOTHING_LEFT: u32 = 35;
+
+pub const OUTPUT_TOO_SMALL: u32 = 36;

@@ -1,0 +1,224 @@
+-- How a packet comes about in the output: the entries are put one behind the other while the frames are cut (`Writing`, the loop's
+-- invariant, with a begin, a turn and an end), then the bodies behind them in one put, then the header before them.
+use Prim.Native.Nat.{ℕ, zero, suc, _+_, _-_, _*_, _<_, _≤_, min}
+use mathlib.Core.Path.{_≡_, refl, sym, ap, _∙_}
+use mathlib.Core.Bool.{Bool, true, false, cond, _&&_}
+use mathlib.Core.List.{List, [], _∷_, _++_, map}
+use native.Mathlib.Omega.{arith}
+use lib.Dec.{eqb, ltb, leb}
+use lib.ListN.{length, set, length-append, length-set}
+use borrow.Author.Tests.{ltb-true, ltb-false}
+use Rattle.refusal.proofs.Laws.{and-left, and-right}
+use Rattle.octets.specs.Bytes.{two, four}
+use Rattle.octets.specs.Stretch.{part, put, joined}
+use Rattle.octets.proofs.Stretches.{length-put, put-nil, put-put, put-before, set-set-put}
+use Rattle.flow.specs.Flow.{longest}
+use Rattle.packet.specs.Header.{idLength, shortestPacket, sBit}
+use Rattle.packet.specs.Segments.{Segment, entryWidth}
+use Rattle.sender.specs.declared.Position.{Position}
+use Rattle.sender.specs.declared.Progress.{Progress}
+use Rattle.sender.specs.Cut.{frameLength, leftOf, indexOf, segmentFrom, Cut, leastRoom, goesOn, sizeOfNext, place, cut}
+use Rattle.sender.specs.Packet.{entryNumber, entryOf, bodyOf, headerOf}
+use Rattle.sender.specs.Send.{mostFrames, mostSegments, greatestLimit}
+use Rattle.sender.specs.Placed.{entriesAt, Placeable, sizeFor, positionAfter, placedNext, entryFor, withEntry, Ready, cutOf, Written}
+use Rattle.sender.proofs.Reading.{length-entries}
+use Rattle.sender.proofs.Positions.{Framed, framed, Inside, inside, place-within, carried-place, carried-bytes}
+use Rattle.sender.proofs.Cutting.{Cutting, cutting-start, frames-remain, room-enough, offset-below, size-room, body-length, place-keeps, cut-turn, cut-stops, cut-none, length-more, joined-more}
+
+-- The header.
+module _ (d : List ℕ) (session flow count number : ℕ) (long : shortestPacket ≤ length d) where
+  abbrev withId : List ℕ
+  withId = put d 0 (four session)
+
+  abbrev withMarks : List ℕ
+  withMarks = set (set withId idLength (sBit + flow)) (idLength + 1) count
+
+  id-long : length withId ≡ length d
+  id-long = length-put d 0 (four session) (omega arith)
+
+  second-inside : idLength + 1 < length (set withId idLength (sBit + flow))
+  second-inside = omega (arith, id-long, length-set withId idLength (sBit + flow))
+
+  marks-put : withMarks ≡ put d 0 (four session ++ ((sBit + flow) ∷ count ∷ []))
+  marks-put =
+      set-set-put withId idLength (sBit + flow) count (omega (arith, id-long))
+      ∙ put-put d 0 (four session) ((sBit + flow) ∷ count ∷ []) (omega arith)
+
+  marks-long : length withMarks ≡ length d
+  marks-long = ap length marks-put ∙ length-put d 0 (four session ++ ((sBit + flow) ∷ count ∷ [])) (omega arith)
+
+  header-put : put withMarks (idLength + 2) (two number) ≡ put d 0 (headerOf session flow count number)
+  header-put =
+      ap (λ (l : List ℕ). put l (idLength + 2) (two number)) marks-put
+      ∙ put-put d 0 (four session ++ ((sBit + flow) ∷ count ∷ [])) (two number) (omega arith)
+
+  -- `first` and `last` are what the code finds behind its two writes
+  module _ (first : List ℕ) (id-written : first ≡ put d 0 (four session)) where
+    pub mark-inside : idLength + 1 < length (set first idLength (sBit + flow))
+    mark-inside = rw id-written second-inside
+
+    pub number-inside : idLength + 2 + 1 < length (set (set first idLength (sBit + flow)) (idLength + 1) count)
+    number-inside = rw id-written (omega (arith, marks-long))
+
+    module _ (last : List ℕ) (written : last ≡ put (set (set first idLength (sBit + flow)) (idLength + 1) count) (idLength + 2) (two number)) where
+      pub header-written : last ≡ put d 0 (headerOf session flow count number)
+      header-written = written ∙ ap (λ (l : List ℕ). put (set (set l idLength (sBit + flow)) (idLength + 1) count) (idLength + 2) (two number)) id-written ∙ header-put
+
+      pub header-long : length last ≡ length d
+      header-long = ap length header-written ∙ length-put d 0 (headerOf session flow count number) (omega arith)
+
+-- One segment. `size` and `left` are what the code has found.
+pub placed-next : (lens : List ℕ) (p : Progress) (long size : ℕ) (behind : Position) → long ≡ frameLength lens (p .position .frame) →
+    size ≡ min (long - p .position .offset) (p .room - entryWidth) →
+    behind ≡ positionAfter (p .position) size (eqb size (long - p .position .offset)) →
+    _≡_ {A = Progress} (record { room = p .room - (entryWidth + size); position = behind; count = p .count + 1; bytes = p .bytes + size }) (placedNext lens p)
+placed-next lens p long size behind e s b = rw (b, s, e) refl
+
+pub placed-entry : (lens : List ℕ) (p : Progress) (long size entry : ℕ) → long ≡ frameLength lens (p .position .frame) →
+    size ≡ min (long - p .position .offset) (p .room - entryWidth) →
+    entry ≡ entryNumber (eqb (p .position .offset) 0) (eqb size (long - p .position .offset)) size → two entry ≡ entryFor lens p
+placed-entry lens p long size entry e s n = rw (n, s, e) refl
+
+-- The loop that cuts.
+module _ (bytes lens : List ℕ) (room : ℕ) (from : Position) (output : List ℕ) (ready : Ready (length bytes) lens from room (length output)) where
+  abbrev frames : Framed (length bytes) lens
+  frames = framed (length bytes) lens (ready .frames-sound)
+
+  abbrev cutAt : Progress → List Segment → Cut
+  cutAt p segs = record { room = p .room; position = p .position; segments = segs }
+
+  pub record Writing (output′ : List ℕ) (p : Progress) : Type 0 where
+    pub placed : List Segment
+    pub cutting : Cutting entryWidth bytes lens frames room from (cutAt p placed)
+    pub on-the-way : cut (mostSegments - p .count) entryWidth bytes lens (cutAt p placed) ≡ cutOf bytes lens room from
+    pub counted : p .count ≡ length placed
+    pub few : p .count ≤ mostSegments
+    pub bytes-counted : p .bytes ≡ length (joined (map bodyOf placed))
+    pub output-now : output′ ≡ put output entriesAt (joined (map entryOf placed))
+
+  pub writing-begin : Writing output (record { room = room; position = from; count = 0; bytes = 0 })
+  unfolding joined
+  writing-begin =
+      record {
+        placed = [];
+        cutting = cutting-start entryWidth bytes lens frames room from (inside lens from (ready .position-inside));
+        on-the-way = refl;
+        counted = refl;
+        few = omega arith;
+        bytes-counted = refl;
+        output-now = sym (put-nil output entriesAt);
+      }
+
+  module _ {output′ : List ℕ} {p : Progress} (w : Writing output′ p) where
+    entries-long : length (joined (map entryOf (w .placed))) ≡ entryWidth * p .count
+    entries-long = length-entries (w .placed) ∙ ap (λ (n : ℕ). entryWidth * n) (sym (w .counted))
+
+    in-room : p .room + entryWidth * p .count + p .bytes ≡ room
+    in-room = rw (w .counted, w .bytes-counted) (w .cutting .in-room)
+
+    pub output-long : length output′ ≡ length output
+    output-long = ap length (w .output-now) ∙ length-put output entriesAt (joined (map entryOf (w .placed))) (omega (arith, entries-long, in-room, ready .output-long))
+
+    -- another segment
+    module _ (goes : (ltb (p .count) mostSegments && goesOn entryWidth lens (cutAt p (w .placed))) ≡ true) where
+      pub one-more : p .count < mostSegments
+      one-more = ltb-true (p .count) mostSegments (and-left (ltb (p .count) mostSegments) (goesOn entryWidth lens (cutAt p (w .placed))) goes)
+
+      cut-goes : goesOn entryWidth lens (cutAt p (w .placed)) ≡ true
+      cut-goes = and-right (ltb (p .count) mostSegments) (goesOn entryWidth lens (cutAt p (w .placed))) goes
+
+      pub writing-placeable : Placeable output′ lens p
+      writing-placeable =
+          let remains = frames-remain entryWidth bytes lens frames room from (cutAt p (w .placed)) (w .cutting) cut-goes in
+          let enough = room-enough entryWidth bytes lens frames room from (cutAt p (w .placed)) (w .cutting) cut-goes in
+          record {
+            few-frames = frames .few;
+            frame-remains = remains;
+            in-frame = offset-below entryWidth bytes lens frames room from (cutAt p (w .placed)) (w .cutting) cut-goes;
+            not-long = frames .not-long (p .position .frame) remains;
+            room-remains = enough;
+            one-more = one-more;
+            entry-inside = omega (arith, output-long, in-room, enough, ready .output-long);
+            few-bytes = omega (arith, in-room, ready .small);
+          }
+
+      pub writing-less : (q : Progress) → q ≡ placedNext lens p → mostSegments - q .count < mostSegments - p .count
+      writing-less q e = rw e (omega (arith, one-more))
+
+      pub writing-turn : (q : Progress) (output″ : List ℕ) → q ≡ placedNext lens p → output″ ≡ withEntry output′ lens p → Writing output″ q
+      writing-turn q output″ e f =
+          let c = cutAt p (w .placed) in
+          let s = segmentFrom bytes lens (p .position) (sizeFor lens p) in
+          let size = body-length entryWidth bytes lens frames room from c (w .cutting) cut-goes in
+          let long = length-more (w .placed) s in
+          let bodies = joined-more bodyOf (w .placed) s in
+          let entries = joined-more entryOf (w .placed) s in
+          let left : mostSegments - p .count ≡ suc (mostSegments - (p .count + 1)) = omega (arith, one-more) in
+          let entry : entryOf s ≡ entryFor lens p =
+          ap (λ (n : ℕ). two (entryNumber (s .begins) (s .ends) n)) size in
+          let base : Writing output″ (placedNext lens p) =
+          record {
+            placed = w .placed ++ (s ∷ []);
+            cutting = place-keeps entryWidth bytes lens frames room from c (w .cutting) cut-goes;
+            on-the-way =
+                sym (cut-turn entryWidth bytes lens (mostSegments - (p .count + 1)) c cut-goes)
+                ∙ ap (λ (n : ℕ). cut n entryWidth bytes lens c) (sym left) ∙ w .on-the-way;
+            counted = omega (arith, w .counted, long);
+            few = omega (arith, one-more);
+            bytes-counted = omega (arith, w .bytes-counted, ap length bodies, length-append (joined (map bodyOf (w .placed))) (s .body), size);
+            output-now =
+                f
+                ∙ ap (λ (l : List ℕ). put l (entriesAt + entryWidth * p .count) (entryFor lens p)) (w .output-now)
+                ∙ ap (λ (n : ℕ). put (put output entriesAt (joined (map entryOf (w .placed)))) (entriesAt + n) (entryFor lens p)) (sym entries-long)
+                ∙ put-put output entriesAt (joined (map entryOf (w .placed))) (entryFor lens p) (omega (arith, entries-long, in-room, ready .output-long))
+                ∙ ap (λ (l : List ℕ). put output entriesAt (joined (map entryOf (w .placed)) ++ l)) (sym entry)
+                ∙ ap (put output entriesAt) (sym entries);
+          } in
+          rw e base
+
+    -- no more segments
+    module _ (stops : (ltb (p .count) mostSegments && goesOn entryWidth lens (cutAt p (w .placed))) ≡ false) where
+      whole : cutOf bytes lens room from ≡ cutAt p (w .placed)
+      whole = sym (w .on-the-way) ∙ by (ltb (p .count) mostSegments) refl
+        where
+          by : (t : Bool) → ltb (p .count) mostSegments ≡ t → cut (mostSegments - p .count) entryWidth bytes lens (cutAt p (w .placed)) ≡ cutAt p (w .placed)
+          by true e = cut-stops entryWidth bytes lens (mostSegments - p .count) (cutAt p (w .placed)) (sym (ap (λ (b : Bool). b && goesOn entryWidth lens (cutAt p (w .placed))) e) ∙ stops)
+          by false e =
+              let full : mostSegments - p .count ≡ 0 = omega (arith, ltb-false (p .count) mostSegments e) in
+              ap (λ (n : ℕ). cut n entryWidth bytes lens (cutAt p (w .placed))) full ∙ cut-none entryWidth bytes lens (cutAt p (w .placed))
+
+      -- the bodies are one stretch of the frames, ..
+      pub bodies-from : indexOf lens from + p .bytes ≤ length bytes
+      bodies-from =
+          let carried = carried-place bytes lens from (p .position) (w .placed) (w .cutting .carried) in
+          omega (arith, w .bytes-counted, carried, place-within frames (p .position) (w .cutting .inside))
+
+      -- .. and there is room for them
+      pub bodies-to : entriesAt + entryWidth * p .count + p .bytes ≤ length output′
+      bodies-to = omega (arith, output-long, in-room, ready .output-long)
+
+      pub writing-end : (index : ℕ) (output″ : List ℕ) → index ≡ indexOf lens from →
+          output″ ≡ put output′ (entriesAt + entryWidth * p .count) (part bytes index (p .bytes)) →
+          Written (cutOf bytes lens room from) output output″ room p
+      writing-end index output″ i e =
+          let E = joined (map entryOf (w .placed)) in
+          let B = joined (map bodyOf (w .placed)) in
+          let stretch : part bytes index (p .bytes) ≡ B =
+          ap (λ (n : ℕ). part bytes n (p .bytes)) i ∙ ap (part bytes (indexOf lens from)) (w .bytes-counted)
+          ∙ sym (carried-bytes bytes lens from (p .position) (w .placed) (w .cutting .carried)) in
+          let written : output″ ≡ put output entriesAt (E ++ B) =
+          e
+          ∙ ap (put output′ (entriesAt + entryWidth * p .count)) stretch
+          ∙ ap (λ (l : List ℕ). put l (entriesAt + entryWidth * p .count) B) (w .output-now)
+          ∙ ap (λ (n : ℕ). put (put output entriesAt E) (entriesAt + n) B) (sym entries-long)
+          ∙ put-put output entriesAt E B (omega (arith, entries-long, in-room, ready .output-long)) in
+          let base : Written (cutAt p (w .placed)) output output″ room p =
+          record {
+            position-now = refl;
+            counted = w .counted;
+            few = w .few;
+            in-room = omega (arith, in-room);
+            bytes-counted = w .bytes-counted;
+            output-now = written;
+          } in
+          rw whole base

@@ -1,0 +1,26 @@
+-- `sender::is_outside` is right since of the three cases of 34 the first two are judged where the frame is there, and the others where it is not.
+use mathlib.Core.Path.{_≡_, refl, sym, ap, _∙_}
+use native.Mathlib.Omega.{arith}
+use Rattle.sender.proofs.Judging.{outside-frame, outside-behind}
+use borrow.Author.Needs.{needs}
+use Rattle.sender.proofs.is_outside.Statement.{statement}
+use Rattle.sender.proofs.is_outside.Tie as tie
+
+mul-wide : tie.Need-mul-wide
+mul-wide c = search needs
+
+shared-slice-read-wide : tie.Need-shared-slice-read-wide
+shared-slice-read-wide c = search needs
+
+wide-requires : tie.Need-wide-requires
+wide-requires c κs = search needs
+
+returns : tie.Need-returns
+returns c = let a = c .before .before .before .before .before .args in outside-frame (a .lengths .now) (a .position) (c .before .before .before .if1 .taken) (c .before .wide .result) (c .before .wide .ensures .0)
+
+returns-2 : tie.Need-returns-2
+returns-2 c = let a = c .before .before .before .args in outside-behind (a .lengths .now) (a .position) (omega (arith, c .before .if1 .left))
+
+pub is-outside-spec : {M : Type 1} → statement M
+is-outside-spec =
+    tie.close (tie.spec mul-wide shared-slice-read-wide wide-requires returns returns-2)

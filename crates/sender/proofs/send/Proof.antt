@@ -1,0 +1,91 @@
+-- `sender::send` is right since it refuses as the order says, and else its header and its segments are put one behind the other (`send-done`).
+use Prim.Native.Nat.{ℕ, _+_, _*_}
+use mathlib.Core.Path.{_≡_, refl, sym, ap, _∙_}
+use native.Mathlib.Omega.{arith}
+use lib.ListN.{length}
+use Rattle.refusal.specs.Refusal.{first}
+use Rattle.sender.specs.Send.{Asked, sendRefusals}
+use Rattle.sender.proofs.Judging.{has-flow}
+use Rattle.sender.proofs.Sending.{permits, send-refused, room-there, header-there, ready, job, packet-small, send-done}
+use borrow.Author.Needs.{needs}
+use Rattle.sender.proofs.send.Statement.{statement}
+use Rattle.sender.proofs.send.Tie as tie
+
+-- what the call was given
+abbrev asked : tie.Start → Asked
+asked s =
+    record {
+      session = s .args .session;
+      flow = s .args .flow;
+      number = s .args .number;
+      limit = s .args .limit;
+      bytes = s .args .frames .now;
+      lens = s .args .lengths .now;
+      position = s .args .position;
+      output = s .args .output .now;
+    }
+
+-- refuse returned 0
+passed : (c : tie.Else1) → first (sendRefusals (asked (c .before .before .before .before .before))) ≡ 0
+passed c = sym (c .before .refuse .ensures) ∙ c .if1 .left
+
+refuse-requires : tie.Need-refuse-requires
+refuse-requires c κs = search needs
+
+returns : tie.Need-returns
+returns c = permits (send-refused (asked (c .before .before .before .before .before)) (c .before .refuse .result) (c .before .refuse .ensures) (c .if1 .taken))
+
+sub-room : tie.Need-sub-room
+sub-room c = room-there (asked (c .before .before .before .before .before)) (passed c)
+
+write-segments-requires : tie.Need-write-segments-requires
+write-segments-requires c κs = ready (asked (c .before .before .before .before .before .before)) (passed (c .before))
+
+write-header-requires : tie.Need-write-header-requires
+write-header-requires c κs =
+    let a = asked (c .before .before .before .before .before .before .before .before .before .before) in
+    let z = passed (c .before .before .before .before .before) in
+    let w = c .before .before .before .write-segments in
+    (rw (w .kept .0) (header-there a z), has-flow (a .session) (a .flow) (a .limit) (length (a .bytes)) (a .lens) (job a z), w .ensures .few)
+
+mul-length : tie.Need-mul-length
+mul-length c = search needs
+
+add-length : tie.Need-add-length
+add-length c = search needs
+
+add-length-2 : tie.Need-add-length-2
+add-length-2 c =
+    let a = asked (c .before .before .before .before .before .before .before .before .before .before .before .before .before .before .before .before) in
+    let z = passed (c .before .before .before .before .before .before .before .before .before .before .before) in
+    let w = c .before .before .before .before .before .before .before .before .before .write-segments in
+    omega (arith, packet-small a z (w .result .count) (w .result .bytes) (w .ensures .in-room))
+
+number-after-requires : tie.Need-number-after-requires
+number-after-requires c κs = search needs
+
+same-length : tie.Need-same-length
+same-length c = search needs
+
+returns-2 : tie.Need-returns-2
+returns-2 c =
+    let a = asked (c .before .before .before .before .before .before .before .before .before .before .before .before .before .before .before .before .before) in
+    let z = passed (c .before .before .before .before .before .before .before .before .before .before .before .before) in
+    let w = c .before .before .before .before .before .before .before .before .before .before .write-segments in
+    permits (rw (c .number-after .ensures) (send-done a z (w .result) _ _ (w .ensures) (c .before .before .before .before .before .before .write-header .ensures)))
+
+pub send-spec : {M : Type 1} → statement M
+send-spec =
+    tie.close
+    (tie.spec
+    refuse-requires
+    returns
+    sub-room
+    write-segments-requires
+    write-header-requires
+    mul-length
+    add-length
+    add-length-2
+    number-after-requires
+    same-length
+    returns-2)

@@ -1,0 +1,61 @@
+-- `sender::survey` is right since after k turns it has surveyed k lengths (`Surveying`).
+use Prim.Native.Nat.{_+_, _-_}
+use mathlib.Core.Path.{_≡_, refl, sym, ap, _∙_}
+use native.Mathlib.Omega.{arith}
+use Rattle.sender.proofs.Judging.{Surveying, survey-begin, survey-turn, survey-sum, survey-bad, survey-small}
+use borrow.Author.Needs.{needs}
+use Rattle.sender.proofs.survey.Statement.{statement}
+use Rattle.sender.proofs.survey.Tie as tie
+
+abbrev Inv-loop : tie.InvT-loop
+Inv-loop lengths n total₀ bad₀ k₀ total bad k = Surveying lengths n total bad k
+
+abbrev μ-loop : tie.MeasureT-loop
+μ-loop lengths n total₀ bad₀ k₀ total bad k = n - k
+
+loop-holds : tie.Need-loop-holds Inv-loop μ-loop
+loop-holds c = survey-begin (c .before .args .lengths .now) (c .before .args .n)
+
+mul-wide : tie.Need-mul-wide Inv-loop μ-loop
+mul-wide c = search needs
+
+shared-slice-read-wide : tie.Need-shared-slice-read-wide Inv-loop μ-loop
+shared-slice-read-wide c = search needs
+
+wide-requires : tie.Need-wide-requires Inv-loop μ-loop
+wide-requires c κs = search needs
+
+add-total : tie.Need-add-total Inv-loop μ-loop
+add-total c = omega (arith, c .before .before .before .loop .inv .small, c .before .before .loop-test .taken, c .wide .ensures .1, c .before .before .before .before .before .pre .1)
+
+bad-length-requires : tie.Need-bad-length-requires Inv-loop μ-loop
+bad-length-requires c κs = search needs
+
+add-k : tie.Need-add-k Inv-loop μ-loop
+add-k c = search needs
+
+loop-less : tie.Need-loop-less Inv-loop μ-loop
+loop-less c = search needs
+
+loop-again : tie.Need-loop-again Inv-loop μ-loop
+loop-again c = survey-turn (c .before .before .before .before .loop .inv) (c .before .before .before .loop-test .taken) (c .before .wide .ensures .0) (c .before .wide .ensures .1) (c .bad-length .ensures)
+
+returns : tie.Need-returns Inv-loop μ-loop
+returns c = let s = c .before .loop .inv in let l = c .loop-test .left in (survey-sum s (omega arith), (survey-bad s (omega arith), survey-small s (omega arith)))
+
+pub survey-spec : {M : Type 1} → statement M
+survey-spec =
+    tie.close
+    (tie.spec
+    Inv-loop
+    μ-loop
+    loop-holds
+    mul-wide
+    shared-slice-read-wide
+    wide-requires
+    add-total
+    bad-length-requires
+    add-k
+    loop-less
+    loop-again
+    returns)

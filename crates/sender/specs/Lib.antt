@@ -1,0 +1,6 @@
+pub mod Cut
+pub mod Packet
+pub mod Send
+pub mod Carried
+pub mod Series
+pub mod Placed

@@ -1,0 +1,51 @@
+-- Calls one after another, each from the position and the number that the one before gave back. Session, flow and frames are the same in
+-- all of them; the limit and the output may be others each time. The series stops at the first call that is refused.
+use Prim.Native.Nat.{ℕ}
+use mathlib.Core.Bool.{cond}
+use mathlib.Core.List.{List, [], _∷_}
+use lib.Dec.{eqb}
+use Rattle.octets.specs.Stretch.{part}
+use Rattle.sender.specs.declared.Position.{Position}
+use Rattle.sender.specs.Send.{Asked, SendOutcome, sent}
+
+-- what all calls of a series are given, and what each is given by itself
+pub record Job : Type 0 where
+  pub session : ℕ
+  pub flow : ℕ
+  pub bytes : List ℕ
+  pub lens : List ℕ
+
+pub record Turn : Type 0 where
+  pub limit : ℕ
+  pub output : List ℕ
+
+abbrev pub askedFor : Job → ℕ → Position → Turn → Asked
+askedFor job number at turn =
+    record {
+      session = job .session;
+      flow = job .flow;
+      number = number;
+      limit = turn .limit;
+      bytes = job .bytes;
+      lens = job .lens;
+      position = at;
+      output = turn .output;
+    }
+
+-- the packet that a call has written: so many bytes at the front of its output
+abbrev pub packetLeft : SendOutcome → List ℕ
+packetLeft o = part (o .output) 0 (o .answer .length)
+
+-- the packets of a series that starts with this number at this position
+unfoldable pub seriesPackets : Job → ℕ → Position → List Turn → List (List ℕ)
+seriesPackets job number at [] = []
+seriesPackets job number at (turn ∷ more) =
+    let o = sent (askedFor job number at turn) in
+    cond (eqb (o .answer .code) 0) (packetLeft o ∷ seriesPackets job (o .answer .number) (o .answer .position) more) []
+
+-- the position that it ends at
+unfoldable pub seriesEnd : Job → ℕ → Position → List Turn → Position
+seriesEnd job number at [] = at
+seriesEnd job number at (turn ∷ more) =
+    let o = sent (askedFor job number at turn) in
+    cond (eqb (o .answer .code) 0) (seriesEnd job (o .answer .number) (o .answer .position) more) at
