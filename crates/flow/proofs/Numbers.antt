@@ -42,6 +42,11 @@ pub numberAt-next : (s i : ℕ) → next (numberAt s i) ≡ numberAt s (i + 1)
 unfolding next numberAt
 numberAt-next s i = omega arith
 
+-- From its second packet on, it numbers as one that starts with the next number.
+pub numberAt-from-next : (s i : ℕ) → numberAt (next s) i ≡ numberAt s (i + 1)
+unfolding next numberAt
+numberAt-from-next s i = omega arith
+
 -- Within document 01's bound the distance on numbers is the distance on places: at most 32,767 ahead it is that distance, ..
 pub ahead-forward : (s m i : ℕ) → m ≤ i → i < m + half → ahead (numberAt s i) (numberAt s m) ≡ i - m
 unfolding ahead numberAt

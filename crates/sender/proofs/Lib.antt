@@ -4,3 +4,8 @@ pub mod Cutting
 pub mod Judging
 pub mod Writing
 pub mod Sending
+pub mod Keeping
+pub mod Frames
+pub mod Series
+pub mod Unique
+pub mod Examples

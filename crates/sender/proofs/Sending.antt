@@ -55,7 +55,7 @@ module _ (a : Asked) where
     pub standing : Standing (a .limit) (a .lens) (a .position) (length (a .output))
     standing = send-passed (a .session) (a .flow) (a .limit) (length (a .bytes)) (a .lens) (a .position) (length (a .output)) z .1
 
-    enough : 16 ≤ a .limit
+    pub enough : 16 ≤ a .limit
     enough = limit-enough (a .session) (a .flow) (a .limit) (length (a .bytes)) (a .lens) job
 
     pub small : a .limit ≤ 4096

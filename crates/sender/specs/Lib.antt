@@ -4,3 +4,4 @@ pub mod Send
 pub mod Carried
 pub mod Series
 pub mod Placed
+pub mod Rules

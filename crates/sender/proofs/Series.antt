@@ -1,0 +1,255 @@
+-- Calls one after another, each from where the one before ended. Whatever limits and outputs they are given, as long as 32 and 36 refuse
+-- none, their packets keep the rules that demand 3 supposes of any sender; and with as many calls as there are bytes to send the series
+-- has come to the end of the frames, with each byte sent once.
+use Prim.Native.Nat.{ℕ, zero, suc, _+_, _-_, _<_, _≤_}
+use mathlib.Core.Path.{_≡_, refl, sym, ap, _∙_}
+use mathlib.Core.Bool.{Bool, true, false, cond, not, _&&_, _||_}
+use mathlib.Core.Logic.{_⊎_, inl, inr, ⊎-elim}
+use mathlib.Core.List.{List, [], _∷_, _++_, map}
+use native.Mathlib.Omega.{arith}
+use native.Mathlib.Numerals.{add-one}
+use native.Mathlib.Nat.{not-suc-le-zero, le-of-suc-le-suc}
+use lib.Dec.{eqb, ltb}
+use lib.ListN.{length, getD, length-append}
+use borrow.Author.Tests.{eqb-true, eqb-false, eq-eqb, ne-eqb, ltb-true, ltb-false, le-ltb, lt-ltb}
+use Rattle.refusal.specs.Refusal.{first}
+use Rattle.octets.specs.Stretch.{part, joined, cutBy}
+use Rattle.octets.specs.Count.{sumTo}
+use Rattle.octets.proofs.Stretches.{part-none}
+use Rattle.octets.proofs.Counts.{sum-within}
+use Rattle.flow.specs.Numbers.{next, numberAt}
+use Rattle.flow.proofs.Numbers.{next-below, numberAt-first, numberAt-from-next}
+use Rattle.packet.specs.Header.{overIp, idLength, sub, number as number-in}
+use Rattle.packet.specs.Check.{kindPsp, check}
+use Rattle.sender.specs.declared.Position.{Position}
+use Rattle.sender.specs.Cut.{frameLength, frameStart, indexOf}
+use Rattle.sender.specs.Packet.{bodyOf}
+use Rattle.sender.specs.Send.{Asked, badAddress, badLimit, badFrames, outside, sendRefusals, written, refused, sentBy, sent, SendOutcome}
+use Rattle.sender.specs.Carried.{Carried}
+use Rattle.sender.specs.Series.{Job, Turn, askedFor, packetLeft, seriesPackets, seriesEnd}
+use Rattle.sender.specs.Rules.{Each, Pieces, Addressed, segmentsOf, allSegments, KeepsRules}
+use Rattle.sender.proofs.Positions.{Framed, framed, Inside, place-within, carried-append, carried-place, carried-bytes}
+use Rattle.sender.proofs.Frames.{Filled, Apart, carried-apart, framesFrom, all-frames}
+use Rattle.sender.proofs.Keeping.{Typed, sent-code, sent-number, sent-inside, sent-farther, sent-passes, sent-addressed, sent-numbered, sent-carries}
+
+never : (n : ℕ) → n < n → ⊥
+never n h = omega arith
+
+-- a position in the frames is not refused by 34
+pub not-outside : (lens : List ℕ) (at : Position) → Inside lens at → outside lens at ≡ false
+not-outside lens at i =
+    by (ltb (at .frame) (length lens)) (ltb (at .offset) (frameLength lens (at .frame))) (eqb (at .frame) (length lens)) (eqb (at .offset) 0)
+    (λ e. lt-ltb (at .offset) (frameLength lens (at .frame)) (i .in-frame (ltb-true (at .frame) (length lens) e)))
+    (λ e. eq-eqb (at .offset) 0 (i .at-end (eqb-true (at .frame) (length lens) e)))
+  where
+    by : (there below last none : Bool) → (there ≡ true → below ≡ true) → (last ≡ true → none ≡ true) →
+        (ltb (length lens) (at .frame) || (there && not below) || (last && not none)) ≡ false
+    by true below true none p q = rw (le-ltb (length lens) (at .frame) (i .among), p refl, q refl) refl
+    by true below false none p q = rw (le-ltb (length lens) (at .frame) (i .among), p refl) refl
+    by false below true none p q = rw (le-ltb (length lens) (at .frame) (i .among), q refl) refl
+    by false below false none p q = rw (le-ltb (length lens) (at .frame) (i .among)) refl
+
+-- what a call answers is the first refusal, or 0
+code-by : (a : Asked) (c : ℕ) → (sentBy c a) .answer .code ≡ c
+unfolding sentBy written refused
+code-by a zero = refl
+code-by a (suc c) = refl
+
+pub code-is : (a : Asked) → (sent a) .answer .code ≡ first (sendRefusals a)
+unfolding sent
+code-is a = code-by a (first (sendRefusals a))
+
+-- What a job and its calls must have so that nothing but the end of the frames refuses one.
+pub record Sound (job : Job) : Type 0 where
+  pub addressed : badAddress (job .session) (job .flow) ≡ false
+  pub four-bytes : job .session < 4294967296
+  pub frames-sound : badFrames (length (job .bytes)) (job .lens) ≡ false
+
+pub record Usable (turn : Turn) : Type 0 where
+  pub limited : badLimit (turn .limit) ≡ false
+  pub output-long : turn .limit + idLength ≤ length (turn .output)
+
+-- what is known of the packets of a series, and of where it ends
+pub record Kept (job : Job) (number : ℕ) (at : Position) (packets : List (List ℕ)) (end : Position) (turns : ℕ) : Type 0 where
+  pub passing : Each (λ p. check overIp kindPsp p ≡ 0) packets
+  pub addressed : Each (Addressed (job .session) (job .flow)) packets
+  pub numbered : (i : ℕ) → i < length packets → number-in (sub overIp (getD packets i [])) ≡ numberAt number i
+  pub carried : Carried (job .bytes) (job .lens) at (allSegments packets) end
+  pub farther : indexOf (job .lens) at + length packets ≤ indexOf (job .lens) end
+  pub ends-inside : Inside (job .lens) end
+  pub done : (end .frame ≡ length (job .lens)) ⊎ (length packets ≡ turns)
+
+abbrev pub startOfFrame : ℕ → Position
+startOfFrame i = record { frame = i; offset = 0 }
+
+module _ (job : Job) (sound : Sound job) where
+  inside-start : (i : ℕ) → i ≤ length (job .lens) → Inside (job .lens) (startOfFrame i)
+  inside-start i l =
+      record {
+        among = l;
+        in-frame = λ m. framed (length (job .bytes)) (job .lens) (sound .frames-sound) .some-bytes i m;
+        at-end = λ _. refl;
+      }
+
+  -- nothing is sent
+  kept-none : (number : ℕ) (at : Position) (turns : ℕ) → Inside (job .lens) at → (at .frame ≡ length (job .lens)) ⊎ (0 ≡ turns) → Kept job number at [] at turns
+  unfolding allSegments
+  kept-none number at turns i d =
+      record {
+        passing = tt;
+        addressed = tt;
+        numbered = λ k l. absurd (not-suc-le-zero l);
+        carried = refl;
+        farther = omega arith;
+        ends-inside = i;
+        done = d;
+      }
+
+  module _ (number : ℕ) (at : Position) (turn : Turn) (two-bytes : number < 65536) (i : Inside (job .lens) at) (u : Usable turn) where
+    abbrev asked : Asked
+    asked = askedFor job number at turn
+
+    -- nothing but the end refuses a call
+    pub only-end : first (sendRefusals asked) ≡ cond (eqb (at .frame) (length (job .lens))) 35 0
+    only-end = rw (sound .addressed, u .limited, sound .frames-sound, not-outside (job .lens) at i, le-ltb (length (turn .output)) (turn .limit + idLength) (u .output-long)) refl
+
+    abbrev typed : Typed asked
+    typed = record { four-bytes = sound .four-bytes; two-bytes = two-bytes }
+
+    -- one more packet, and the others behind it
+    kept-more : first (sendRefusals asked) ≡ 0 → (packets : List (List ℕ)) (end : Position) (turns : ℕ) →
+        Kept job ((sent asked) .answer .number) ((sent asked) .answer .position) packets end turns → Kept job number at (packetLeft (sent asked) ∷ packets) end (suc turns)
+    unfolding allSegments
+    kept-more z packets end turns k =
+        record {
+          passing = (sent-passes asked z typed, k .passing);
+          addressed = (sent-addressed asked z typed, k .addressed);
+          numbered = counts;
+          carried = carried-append (job .bytes) (job .lens) at ((sent asked) .answer .position) end (segmentsOf (packetLeft (sent asked))) (allSegments packets) (sent-carries asked z typed) (k .carried);
+          farther = omega (arith, k .farther, sent-farther asked z);
+          ends-inside = k .ends-inside;
+          done = ⊎-elim (λ e. inl e) (λ e. inr (ap suc e)) (k .done);
+        }
+      where
+        counts : (j : ℕ) → j < suc (length packets) → number-in (sub overIp (getD (packetLeft (sent asked) ∷ packets) j [])) ≡ numberAt number j
+        counts zero l = sent-numbered asked z typed ∙ sym (numberAt-first number two-bytes)
+        counts (suc j) l =
+            k .numbered j (le-of-suc-le-suc l) ∙ ap (λ (n : ℕ). numberAt n j) (sent-number asked z) ∙ numberAt-from-next number j ∙ ap (numberAt number) (add-one j)
+
+    kept-step : (packets : List (List ℕ)) (end : Position) (turns : ℕ) →
+        (first (sendRefusals asked) ≡ 0 → Kept job ((sent asked) .answer .number) ((sent asked) .answer .position) packets end turns) →
+        (t : Bool) → eqb ((sent asked) .answer .code) 0 ≡ t → Kept job number at (cond t (packetLeft (sent asked) ∷ packets) []) (cond t end at) (suc turns)
+    kept-step packets end turns others true e =
+        let z = sym (code-is asked) ∙ eqb-true ((sent asked) .answer .code) 0 e in
+        kept-more z packets end turns (others z)
+    kept-step packets end turns others false e = kept-none number at (suc turns) i (inl (at-end (eqb (at .frame) (length (job .lens))) refl))
+      where
+        at-end : (t : Bool) → eqb (at .frame) (length (job .lens)) ≡ t → at .frame ≡ length (job .lens)
+        at-end true q = eqb-true (at .frame) (length (job .lens)) q
+        at-end false q = absurd (eqb-false ((sent asked) .answer .code) 0 e (code-is asked ∙ only-end ∙ ap (λ (t : Bool). cond t 35 0) q))
+
+  -- The whole series.
+  pub series-kept : (turns : List Turn) (number : ℕ) (at : Position) → number < 65536 → Inside (job .lens) at → Each Usable turns →
+      Kept job number at (seriesPackets job number at turns) (seriesEnd job number at turns) (length turns)
+  unfolding seriesPackets seriesEnd
+  series-kept [] number at b i us = kept-none number at 0 i (inr refl)
+  series-kept (turn ∷ more) number at b i us =
+      let a = askedFor job number at turn in
+      let o = sent a in
+      kept-step number at turn b i (us .0) (seriesPackets job (o .answer .number) (o .answer .position) more) (seriesEnd job (o .answer .number) (o .answer .position) more) (length more)
+      (λ z. series-kept more (o .answer .number) (o .answer .position) (rw (sent-number a z) (next-below number)) (sent-inside a z) (us .1))
+      (eqb (o .answer .code) 0) refl
+
+  -- It keeps the rules, from the start of any frame: the frames that it finished, and the one that it has begun.
+  pub record Obeys (number i : ℕ) (turns : List Turn) : Type 0 where
+    pub apart : Apart (job .bytes) (job .lens) i (allSegments (seriesPackets job number (startOfFrame i) turns)) (seriesEnd job number (startOfFrame i) turns)
+    pub keeps : KeepsRules (job .session) (job .flow) number (apart .frames) (apart .begun) (seriesPackets job number (startOfFrame i) turns)
+
+  pub sender-keeps-rules : (turns : List Turn) (number i : ℕ) → number < 65536 → i ≤ length (job .lens) → Each Usable turns → Obeys number i turns
+  sender-keeps-rules turns number i b l us =
+      let k = series-kept turns number (startOfFrame i) b (inside-start i l) us in
+      let a = carried-apart (job .bytes) (job .lens) (framed (length (job .bytes)) (job .lens) (sound .frames-sound)) i (seriesEnd job number (startOfFrame i) turns)
+      (allSegments (seriesPackets job number (startOfFrame i) turns)) (k .carried) in
+      record {
+        apart = a;
+        keeps = record { sizes = a .sizes; passing = k .passing; addressed = k .addressed; numbered = k .numbered; in-order = a .in-order };
+      }
+
+  -- With as many calls as there are bytes left the series is at the end of the frames.
+  module _ (turns : List Turn) (number i : ℕ) (two-bytes : number < 65536) (l : i ≤ length (job .lens)) (us : Each Usable turns) where
+    abbrev frames : Framed (length (job .bytes)) (job .lens)
+    frames = framed (length (job .bytes)) (job .lens) (sound .frames-sound)
+
+    abbrev packets : List (List ℕ)
+    packets = seriesPackets job number (startOfFrame i) turns
+
+    abbrev end : Position
+    end = seriesEnd job number (startOfFrame i) turns
+
+    kept : Kept job number (startOfFrame i) packets end (length turns)
+    kept = series-kept turns number (startOfFrame i) two-bytes (inside-start i l) us
+
+    -- every call sends at least one byte
+    pub calls-few : indexOf (job .lens) (startOfFrame i) + length packets ≤ length (job .bytes)
+    calls-few = omega (arith, kept .farther, place-within frames end (kept .ends-inside))
+
+    module _ (enough : length (job .bytes) ≤ indexOf (job .lens) (startOfFrame i) + length turns) where
+      at-last : end .frame ≡ length (job .lens)
+      unfolding frameStart
+      at-last = ⊎-elim (λ e. e) (λ (e : length packets ≡ length turns). by e (ltb (end .frame) (length (job .lens))) refl) (kept .done)
+        where
+          by : length packets ≡ length turns → (t : Bool) → ltb (end .frame) (length (job .lens)) ≡ t → end .frame ≡ length (job .lens)
+          by e true q =
+              let m = ltb-true (end .frame) (length (job .lens)) q in
+              absurd (never (length (job .bytes)) (omega (arith, kept .farther, kept .ends-inside .in-frame m, sum-within (frameLength (job .lens)) (end .frame) (length (job .lens)) m, frames .all)))
+          by e false q = omega (arith, kept .ends-inside .among, ltb-false (end .frame) (length (job .lens)) q)
+
+      pub series-ends : end ≡ startOfFrame (length (job .lens))
+      series-ends = same end at-last (kept .ends-inside .at-end at-last)
+        where
+          same : (p : Position) → p .frame ≡ length (job .lens) → p .offset ≡ 0 → p ≡ startOfFrame (length (job .lens))
+          same p f o = rw (f, o) refl
+
+      -- nothing is left to send
+      pub then-35 : (n : ℕ) → n < 65536 → (turn : Turn) → Usable turn → (sent (askedFor job n end turn)) .answer .code ≡ 35
+      then-35 n b turn u =
+          code-is (askedFor job n end turn) ∙ only-end n end turn b (kept .ends-inside) u
+          ∙ ap (λ (t : Bool). cond t 35 0) (eq-eqb (end .frame) (length (job .lens)) at-last)
+
+      -- every byte from the start on has been sent, once and in order
+      pub bytes-once : joined (map bodyOf (allSegments packets)) ≡ part (job .bytes) (indexOf (job .lens) (startOfFrame i)) (length (job .bytes) - indexOf (job .lens) (startOfFrame i))
+      unfolding frameStart
+      bytes-once =
+          let index : indexOf (job .lens) end ≡ length (job .bytes) = rw series-ends (omega (arith, frames .all)) in
+          let place = carried-place (job .bytes) (job .lens) (startOfFrame i) end (allSegments packets) (kept .carried) in
+          let long : length (joined (map bodyOf (allSegments packets))) ≡ length (job .bytes) - indexOf (job .lens) (startOfFrame i) = omega arith in
+          carried-bytes (job .bytes) (job .lens) (startOfFrame i) end (allSegments packets) (kept .carried)
+          ∙ ap (part (job .bytes) (indexOf (job .lens) (startOfFrame i))) long
+
+      -- and no frame is left unfinished
+      pub all-finished : (o : Obeys number i turns) → (o .apart .begun ≡ []) × (i + length (o .apart .frames) ≡ length (job .lens))
+      unfolding joined
+      all-finished o =
+          let a = o .apart in
+          let none : joined (a .begun) ≡ [] =
+          a .begun-bytes ∙ ap (part (job .bytes) (frameStart (job .lens) (end .frame))) (ap (λ (p : Position). p .offset) series-ends) ∙ part-none (job .bytes) (frameStart (job .lens) (end .frame)) in
+          (empty (a .begun) (a .begun-some) none, sym (a .reaches) ∙ at-last)
+        where
+          empty : (ps : Pieces) → Each Filled ps → joined ps ≡ [] → ps ≡ []
+          empty [] filled e = refl
+          empty (p ∷ ps) filled e =
+              let n = length-append p (joined ps) in
+              let z : length (p ++ joined ps) ≡ 0 = ap length e in
+              absurd (never 0 (omega (arith, filled .0)))
+
+  -- From the first frame on: what was sent is every frame, whole and in order.
+  pub sends-all : (turns : List Turn) (number : ℕ) → number < 65536 → Each Usable turns → length (job .bytes) ≤ length turns →
+      (frames : List Pieces) × (map joined frames ≡ cutBy (job .lens) (job .bytes))
+      × KeepsRules (job .session) (job .flow) number frames [] (seriesPackets job number (startOfFrame 0) turns)
+  unfolding frameStart sumTo
+  sends-all turns number b us enough =
+      let o = sender-keeps-rules turns number 0 b (omega arith) us in
+      let finished = all-finished turns number 0 b (omega arith) us (omega arith) o in
+      let count : length (o .apart .frames) ≡ length (job .lens) = omega (arith, finished .1) in
+      let k : KeepsRules (job .session) (job .flow) number (o .apart .frames) [] (seriesPackets job number (startOfFrame 0) turns) = rw (finished .0) at (o .keeps) in
+      (o .apart .frames, o .apart .their-bytes ∙ ap (framesFrom (job .bytes) (job .lens) 0) count ∙ all-frames (job .bytes) (job .lens), k)

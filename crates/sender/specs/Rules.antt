@@ -1,0 +1,61 @@
+-- Any sender that keeps the published rules (document 01, from "Demand 3 and the next rule suppose" on; DEPI I05, section 8.3). Its frames
+-- have 1 to 2,048 bytes. Its packets go to one flow of one session, pass the PSP check and are numbered one up from any start. The
+-- segments of a frame follow one another in order, with no other frame's between them, B exactly on a frame's first segment and E exactly
+-- on its last. How it cuts its frames is its own affair, and it may be in the middle of one.
+use Prim.Native.Nat.{ℕ, _<_, _≤_}
+use mathlib.Core.Path.{_≡_}
+use mathlib.Core.Bool.{Bool, true, false}
+use mathlib.Core.List.{List, [], _∷_, _++_}
+use lib.ListN.{length, getD}
+use Rattle.octets.specs.Stretch.{joined}
+use Rattle.flow.specs.Numbers.{numberAt}
+use Rattle.flow.specs.Flow.{longest}
+use Rattle.packet.specs.Header.{overIp, sub, sessionId, flowId, number}
+use Rattle.packet.specs.Segments.{Segment, entryWidth, segments}
+use Rattle.packet.specs.Check.{kindPsp, check}
+
+-- all elements of a list have it
+abbrev pub Each : {A : Type 0} → (A → Type 0) → List A → Type 0
+Each P [] = Unit {0}
+Each P (x ∷ xs) = P x × Each P xs
+
+-- A frame as its sender cuts it: its pieces, in order. The frame is `joined pieces`.
+abbrev pub Pieces : Type 0
+Pieces = List (List ℕ)
+
+-- the pieces of one frame as segments: B on the first of them where `first` says so, E on the last
+unfoldable pub wholeFrame : Bool → Pieces → List Segment
+wholeFrame first [] = []
+wholeFrame first (p ∷ []) = record { begins = first; ends = true; body = p } ∷ []
+wholeFrame first (p ∷ q ∷ more) = record { begins = first; ends = false; body = p } ∷ wholeFrame false (q ∷ more)
+
+-- the pieces so far of a frame that is not finished: no E yet
+unfoldable pub begunFrame : Bool → Pieces → List Segment
+begunFrame first [] = []
+begunFrame first (p ∷ more) = record { begins = first; ends = false; body = p } ∷ begunFrame false more
+
+-- the segments of all frames, one frame after another
+unfoldable pub inTurn : List Pieces → List Segment
+inTurn [] = []
+inTurn (f ∷ more) = wholeFrame true f ++ inTurn more
+
+-- the segments of a packet, and of all packets in order
+abbrev pub segmentsOf : List ℕ → List Segment
+segmentsOf packet = segments entryWidth (sub overIp packet)
+
+unfoldable pub allSegments : List (List ℕ) → List Segment
+allSegments [] = []
+allSegments (p ∷ more) = segmentsOf p ++ allSegments more
+
+abbrev pub frameSized : Pieces → Type 0
+frameSized f = (1 ≤ length (joined f)) × (length (joined f) ≤ longest)
+
+abbrev pub Addressed : ℕ → ℕ → List ℕ → Type 0
+Addressed session flow packet = (sessionId overIp packet ≡ session) × (flowId (sub overIp packet) ≡ flow)
+
+pub record KeepsRules (session flow start : ℕ) (frames : List Pieces) (unfinished : Pieces) (packets : List (List ℕ)) : Type 0 where
+  pub sizes : Each frameSized frames
+  pub passing : Each (λ p. check overIp kindPsp p ≡ 0) packets
+  pub addressed : Each (Addressed session flow) packets
+  pub numbered : (i : ℕ) → i < length packets → number (sub overIp (getD packets i [])) ≡ numberAt start i
+  pub in-order : allSegments packets ≡ inTurn frames ++ begunFrame true unfinished
