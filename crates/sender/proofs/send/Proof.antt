@@ -36,7 +36,7 @@ returns : tie.Need-returns
 returns c = permits (send-refused (asked (c .before .before .before .before .before)) (c .before .refuse .result) (c .before .refuse .ensures) (c .if1 .taken))
 
 sub-room : tie.Need-sub-room
-sub-room c = room-there (asked (c .before .before .before .before .before)) (passed c)
+sub-room c = omega (arith, room-there (asked (c .before .before .before .before .before)) (passed c))
 
 write-segments-requires : tie.Need-write-segments-requires
 write-segments-requires c κs = ready (asked (c .before .before .before .before .before .before)) (passed (c .before))
