@@ -7,7 +7,7 @@ use native.Mathlib.Omega.{arith}
 use mathlib.Core.Logic.{_⊎_, inl, inr, ⊎-elim}
 use mathlib.Core.List.{List, [], _∷_, _++_, append-assoc, append-nil}
 use lib.ListN.{length, take, drop, set, length-append, length-drop, take-append-drop, List·getD-append}
-use lib.Seq.{length-take-le, take-take, take-append-le, take-at, take-all, drop-at, drop-drop, set-split, append-snoc, take-add, take-append-seam, drop-append-seam, getD-drop, getD-take, getD-append-add, ext-getD}
+use lib.Seq.{length-take-le, take-length, take-take, take-append-le, take-at, take-all, drop-at, drop-drop, set-split, append-snoc, take-add, take-append-seam, drop-append-seam, getD-drop, getD-take, getD-append-add, ext-getD}
 use Rattle.octets.specs.Bytes.{byteAt}
 use Rattle.octets.specs.Stretch.{part, rest, put, joined, lengths, cutBy}
 
@@ -33,6 +33,10 @@ length-rest l from = length-drop from l
 pub byte-rest : (l : List ℕ) (from i : ℕ) → byteAt (rest l from) i ≡ byteAt l (from + i)
 unfolding rest
 byte-rest l from i = getD-drop from l i 0
+
+pub part-all : (l : List ℕ) → part l 0 (length l) ≡ l
+unfolding part
+part-all l = take-length l
 
 -- two stretches, one behind the other, are one
 pub part-part : (l : List ℕ) (from n m : ℕ) → part l from n ++ part l (from + n) m ≡ part l from (n + m)

@@ -63,3 +63,8 @@ pub const POSITION_OUTSIDE: u32 = 34;
 pub const NOTHING_LEFT: u32 = 35;
 
 pub const OUTPUT_TOO_SMALL: u32 = 36;
+
+// A capture file.
+pub const FILE_TOO_LONG: u32 = 41;
+
+pub const TOO_MANY_ENTRIES: u32 = 43;

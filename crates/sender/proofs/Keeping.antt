@@ -95,6 +95,17 @@ module _ (a : Asked) (z : first (sendRefusals a) ≡ 0) where
       rw sent-position
       (omega (arith, carried-place (a .bytes) (a .lens) (a .position) ((cutFor a) .position) ((cutFor a) .segments) (cut-done .carried), some-bytes ((cutFor a) .segments) some-segment (cut-done .filled)))
 
+  -- the packet that is left in the output
+  pub sent-packet : packetLeft (sent a) ≡ packetFor a
+  unfolding written
+  sent-packet =
+      ap packetLeft (sym (sent-written a z))
+      ∙ part-put (a .output) 0 (packetFor a) (omega (arith, packet-fits, standing a z .output-long))
+
+  pub sent-length : (sent a) .answer .length ≤ a .limit + 4
+  unfolding written
+  sent-length = rw (ap (λ (o : SendOutcome). o .answer .length) (sym (sent-written a z))) packet-fits
+
   module _ (t : Typed a) where
     sendable : Sendable (a .session) (a .flow) (a .number) ((cutFor a) .segments)
     sendable =
@@ -111,13 +122,6 @@ module _ (a : Asked) (z : first (sendRefusals a) ≡ 0) where
           ended = cut-done .ended;
           not-long = omega (arith, packet-fits, small a z);
         }
-
-    -- the packet that is left in the output
-    pub sent-packet : packetLeft (sent a) ≡ packetFor a
-    unfolding written
-    sent-packet =
-        ap packetLeft (sym (sent-written a z))
-        ∙ part-put (a .output) 0 (packetFor a) (omega (arith, packet-fits, standing a z .output-long))
 
     pub sent-passes : check overIp kindPsp (packetLeft (sent a)) ≡ 0
     sent-passes = ap (check overIp kindPsp) sent-packet ∙ written-passes (a .session) (a .flow) (a .number) ((cutFor a) .segments) sendable

@@ -9,3 +9,4 @@ pub mod Frames
 pub mod Series
 pub mod Unique
 pub mod Examples
+pub mod Alike

@@ -1,0 +1,47 @@
+-- `capture::add` is right since it stores the entry exactly where `within` says that there is room.
+use mathlib.Core.Path.{_≡_, refl, sym, ap, _∙_}
+use Rattle.capture.proofs.Writing.{within-fits, stored, kept}
+use borrow.Author.Needs.{needs}
+use Rattle.capture.proofs.add.Statement.{statement}
+use Rattle.capture.proofs.add.Tie as tie
+
+add-entries : tie.Need-add-entries
+add-entries c = search needs
+
+add-bytes : tie.Need-add-bytes
+add-bytes c = search needs
+
+is-within-requires : tie.Need-is-within-requires
+is-within-requires c κs = search needs
+
+store-requires : tie.Need-store-requires
+store-requires c κs = let s = c .before .before .before .before .before .before .before .before .before in let a = s .args in within-fits (a .contents .now) (a .bodies .now) (a .writer) (a .body .now) (s .pre .0) (s .pre .1) (sym (c .before .before .before .is-within .ensures) ∙ c .before .before .if1 .taken)
+
+same-length : tie.Need-same-length
+same-length c = search needs
+
+same-length-2 : tie.Need-same-length-2
+same-length-2 c = search needs
+
+returns : tie.Need-returns
+returns c =
+    let is = sym (c .before .before .before .before .before .before .before .before .is-within .ensures) ∙ c .before .before .before .before .before .before .before .if1 .taken in
+    (refl, (stored _ _ _ _ is (c .before .before .before .before .store .ensures .0), stored _ _ _ _ is (c .before .before .before .before .store .ensures .1)))
+
+returns-2 : tie.Need-returns-2
+returns-2 c =
+    let is = sym (c .before .is-within .ensures) ∙ c .if1 .left in
+    (refl, (kept _ _ _ is, kept _ _ _ is))
+
+pub add-spec : {M : Type 1} → statement M
+add-spec =
+    tie.close
+    (tie.spec
+    add-entries
+    add-bytes
+    is-within-requires
+    store-requires
+    same-length
+    same-length-2
+    returns
+    returns-2)

@@ -1,0 +1,77 @@
+-- `pspsend::run` is safe since the frames lie in the room for them.
+use mathlib.Core.Path.{_≡_, refl, sym, ap, _∙_}
+use native.Mathlib.Omega.{arith}
+use lib.ListN.{length, length-take}
+use lib.Seq.{length-take-le}
+use borrow.Author.Needs.{needs}
+use Rattle.pspsend.proofs.run.Statement.{statement}
+use Rattle.pspsend.proofs.run.Tie as tie
+
+file-room-requires : tie.Need-file-room-requires
+file-room-requires c κs = search needs
+
+slice-aggregate-read-full : tie.Need-slice-aggregate-read-full
+slice-aggregate-read-full c = search needs
+
+read-full-requires : tie.Need-read-full-requires
+read-full-requires c κs = search needs
+
+file-room-requires-2 : tie.Need-file-room-requires-2
+file-room-requires-2 c κs = search needs
+
+lengths-room-requires : tie.Need-lengths-room-requires
+lengths-room-requires c κs = search needs
+
+array-share-prefix-file : tie.Need-array-share-prefix-file
+array-share-prefix-file c = search needs
+
+slice-aggregate-unpack : tie.Need-slice-aggregate-unpack
+slice-aggregate-unpack c = search needs
+
+slice-aggregate-unpack-2 : tie.Need-slice-aggregate-unpack-2
+slice-aggregate-unpack-2 c = search needs
+
+slice-aggregate-unpack-3 : tie.Need-slice-aggregate-unpack-3
+slice-aggregate-unpack-3 c = search needs
+
+unpack-requires : tie.Need-unpack-requires
+unpack-requires c κs = search needs
+
+array-share-prefix-bytes : tie.Need-array-share-prefix-bytes
+array-share-prefix-bytes c = search needs
+
+slice-aggregate-send : tie.Need-slice-aggregate-send
+slice-aggregate-send c = sym (length-take-le _ _ (array-share-prefix-bytes (c .before)))
+
+array-share-prefix-lengths : tie.Need-array-share-prefix-lengths
+array-share-prefix-lengths c = search needs
+
+slice-aggregate-send-2 : tie.Need-slice-aggregate-send-2
+slice-aggregate-send-2 c = sym (length-take-le _ _ (array-share-prefix-lengths (c .before)))
+
+send-requires : tie.Need-send-requires
+send-requires c κs = let u = c .before .before .before .before .unpack in omega (arith, length-take (u .result .bytes) (u .last .1 .0), u .kept .1 .0, c .before .before .before .before .before .before .before .before .before .file-room2 .ensures)
+
+returns : tie.Need-returns
+returns c = search needs
+
+pub run-spec : {M : Type 1} → statement M
+run-spec =
+    tie.close
+    (tie.spec
+    file-room-requires
+    slice-aggregate-read-full
+    read-full-requires
+    file-room-requires-2
+    lengths-room-requires
+    array-share-prefix-file
+    slice-aggregate-unpack
+    slice-aggregate-unpack-2
+    slice-aggregate-unpack-3
+    unpack-requires
+    array-share-prefix-bytes
+    slice-aggregate-send
+    array-share-prefix-lengths
+    slice-aggregate-send-2
+    send-requires
+    returns)

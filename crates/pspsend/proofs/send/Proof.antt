@@ -1,0 +1,69 @@
+-- `pspsend::send` is safe since what is made lies in the rooms for it.
+use mathlib.Core.Path.{_≡_, refl, sym, ap, _∙_}
+use native.Mathlib.Omega.{arith}
+use lib.ListN.{length}
+use lib.Seq.{length-take-le}
+use borrow.Author.Needs.{needs}
+use Rattle.pspsend.proofs.send.Statement.{statement}
+use Rattle.pspsend.proofs.send.Tie as tie
+
+contents-room-requires : tie.Need-contents-room-requires
+contents-room-requires c κs = search needs
+
+bodies-room-requires : tie.Need-bodies-room-requires
+bodies-room-requires c κs = search needs
+
+slice-aggregate-make : tie.Need-slice-aggregate-make
+slice-aggregate-make c = search needs
+
+slice-aggregate-make-2 : tie.Need-slice-aggregate-make-2
+slice-aggregate-make-2 c = search needs
+
+make-requires : tie.Need-make-requires
+make-requires c κs = search needs
+
+refused-requires : tie.Need-refused-requires
+refused-requires c κs = search needs
+
+returns : tie.Need-returns
+returns c = search needs
+
+array-share-prefix-contents : tie.Need-array-share-prefix-contents
+array-share-prefix-contents c = search needs
+
+slice-aggregate-write-all : tie.Need-slice-aggregate-write-all
+slice-aggregate-write-all c = sym (length-take-le _ _ (array-share-prefix-contents (c .before)))
+
+write-all-requires : tie.Need-write-all-requires
+write-all-requires c κs = search needs
+
+array-share-prefix-bodies : tie.Need-array-share-prefix-bodies
+array-share-prefix-bodies c = search needs
+
+slice-aggregate-write-all-2 : tie.Need-slice-aggregate-write-all-2
+slice-aggregate-write-all-2 c = sym (length-take-le _ _ (array-share-prefix-bodies (c .before)))
+
+write-all-requires-2 : tie.Need-write-all-requires-2
+write-all-requires-2 c κs = search needs
+
+returns-2 : tie.Need-returns-2
+returns-2 c = search needs
+
+pub send-spec : {M : Type 1} → statement M
+send-spec =
+    tie.close
+    (tie.spec
+    contents-room-requires
+    bodies-room-requires
+    slice-aggregate-make
+    slice-aggregate-make-2
+    make-requires
+    refused-requires
+    returns
+    array-share-prefix-contents
+    slice-aggregate-write-all
+    write-all-requires
+    array-share-prefix-bodies
+    slice-aggregate-write-all-2
+    write-all-requires-2
+    returns-2)

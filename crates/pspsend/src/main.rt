@@ -1,0 +1,136 @@
+// pspsend SESSION FLOW NUMBER L < FRAMES > CAPTURE
+//
+// Makes a capture for a person: reads frames on standard input, sends them by `sender::send` again and again, and writes a capture file
+// with one entry that opens the session as PSP and a data entry for each packet. SESSION is the session ID, FLOW the flow, NUMBER the first
+// sequence number and L the limit on everything behind the session ID, all in decimal. A frames file has for each frame its length, in two
+// bytes, most significant first, and then its bytes.
+//
+// What it cannot do it refuses by one line on standard error, `refused` and document 01's number, and writes nothing on standard output:
+// 31 to 33 and 35 are the sender's (a frames file that is cut short has lengths that do not add up to its bytes, 33; an empty one leaves
+// nothing to send, 35), 41 and 43 a capture's (over 60,000 bytes, over 1,000 entries).
+mod arguments;
+mod frames;
+mod series;
+
+ghost use mathlib.Core.Path.{_≡_};
+ghost use Prim.Native.Nat.{_+_, _*_, _≤_};
+ghost use lib.ListN.{length};
+ghost use Rattle.capture.specs.File.{headLength, entryLength, longestFile, mostEntries};
+ghost use Rattle.pspsend.specs.Frames.{most};
+ghost use Rattle.pspsend.specs.Steps.{mostBytes};
+use libc::STDERR_FILENO;
+use libc::STDIN_FILENO;
+use libc::STDOUT_FILENO;
+
+// Room for the longest frames file that is not refused, 127 frames of 2,048 bytes with their lengths, and more: a longer one is refused.
+const FILE_ROOM: usize = 262144;
+
+// The greatest session ID and sequence number.
+const GREATEST_ID: usize = 4294967295;
+
+const GREATEST_NUMBER: usize = 65535;
+
+fn usage() {
+    io::write_all(
+        STDERR_FILENO,
+        b"usage: pspsend SESSION FLOW NUMBER L < FRAMES > CAPTURE   (numbers in decimal; SESSION to 4294967295, NUMBER to 65535)\n",
+    );
+}
+
+fn refused(code: u32) {
+    io::write_all(STDERR_FILENO, b"refused ");
+    io::print_decimal(STDERR_FILENO, code as u64);
+    io::write_all(STDERR_FILENO, b"\n");
+}
+
+fn main() {
+    let session = arguments::argument(1);
+    let flow = arguments::argument(2);
+    let number = arguments::argument(3);
+    let limit = arguments::argument(4);
+    let all_good = session.good & flow.good & number.good & limit.good;
+    if (os::arg_count() != 5) | !all_good {
+        usage();
+        return;
+    }
+    if (GREATEST_ID < session.value) | (GREATEST_NUMBER < number.value) {
+        usage();
+        return;
+    }
+    run(
+        session.value as u32,
+        flow.value,
+        number.value as u16,
+        limit.value,
+    );
+}
+
+// Rooms of zeros. The contracts say how long they are, which lending one as a slice needs.
+fn file_room() -> [u8; FILE_ROOM]
+    ensures { λ r. ⌜ mostBytes ≡ length r ⌝ }
+{
+    [0; FILE_ROOM]
+}
+
+fn lengths_room() -> [u16; frames::MOST]
+    ensures { λ r. ⌜ most ≡ length r ⌝ }
+{
+    [0; frames::MOST]
+}
+
+fn contents_room() -> [u8; series::CONTENTS_ROOM]
+    ensures { λ r. ⌜ headLength + entryLength * mostEntries ≡ length r ⌝ }
+{
+    [0; series::CONTENTS_ROOM]
+}
+
+fn bodies_room() -> [u8; capture::LONGEST_FILE]
+    ensures { λ r. ⌜ longestFile ≡ length r ⌝ }
+{
+    [0; capture::LONGEST_FILE]
+}
+
+// Reads the frames and sends them.
+fn run(session: u32, flow: usize, number: u16, limit: usize) {
+    let mut file = file_room();
+    let read = io::read_full(STDIN_FILENO, &mut file);
+    let mut bytes = file_room();
+    let mut lengths = lengths_room();
+    let unpacked = frames::unpack(&file[..read], &mut bytes, &mut lengths);
+    let count = unpacked.count;
+    let total = unpacked.bytes;
+    send(
+        session,
+        flow,
+        number,
+        limit,
+        &bytes[..total],
+        &lengths[..count],
+    );
+}
+
+// Makes the capture, and writes it or says why not.
+fn send(session: u32, flow: usize, number: u16, limit: usize, bytes: &[u8], lengths: &[u16])
+    requires { ⌜ length (now bytes) ≤ mostBytes ⌝ }
+{
+    let mut contents = contents_room();
+    let mut bodies = bodies_room();
+    let made = series::make(
+        session,
+        flow,
+        number,
+        limit,
+        bytes,
+        lengths,
+        &mut contents,
+        &mut bodies,
+    );
+    if made.code != refusal::NONE {
+        refused(made.code);
+        return;
+    }
+    let front = made.contents;
+    let behind = made.bodies;
+    io::write_all(STDOUT_FILENO, &contents[..front]);
+    io::write_all(STDOUT_FILENO, &bodies[..behind]);
+}
