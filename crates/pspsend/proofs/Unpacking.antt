@@ -5,16 +5,17 @@ use mathlib.Core.Path.{_≡_, refl, sym, ap, _∙_}
 use mathlib.Core.Bool.{Bool, true, false, cond, _&&_, true≢false}
 use mathlib.Core.List.{List, [], _∷_, _++_, map, append-nil, append-assoc}
 use native.Mathlib.Omega.{arith}
-use native.Mathlib.Nat.{add-zero}
+use native.Mathlib.Nat.{add-zero, not-suc-le-zero, le-of-suc-le-suc}
 use lib.Dec.{leb, ltb}
 use lib.ListN.{length, drop, set, length-append}
-use lib.Seq.{drop-drop, take-append-seam, drop-append-seam}
+use lib.Seq.{drop-at, drop-drop}
 use borrow.Author.Tests.{leb-true, leb-false, ltb-true, ltb-false, lt-leb, le-leb, lt-ltb, le-ltb}
 use Rattle.refusal.proofs.Laws.{and-left, and-right}
 use Rattle.octets.specs.Bytes.{byteAt, be16At, two}
 use Rattle.octets.specs.Stretch.{part, rest, put, joined, lengths}
-use Rattle.octets.proofs.Stretches.{length-part, length-rest, byte-rest, part-rest, length-put, part-put, put-nil, put-put, set-put, joined-append, lengths-append, length-lengths}
+use Rattle.octets.proofs.Stretches.{length-part, part-between, length-rest, byte-rest, part-rest, length-put, part-put, put-nil, put-put, set-put, joined-append, lengths-append, length-lengths}
 use Rattle.octets.proofs.Numbers.{two-reads-back}
+use Rattle.sender.specs.Rules.{Each}
 use Rattle.pspsend.specs.declared.frames.Unpacked.{Unpacked}
 use Rattle.pspsend.specs.Frames.{lengthBytes, packed, framesFile, standsWhole, frontFrame, behindFront, wholeFrames, leftBehind, most, framesIn, spoilt, Unpacks}
 
@@ -199,3 +200,49 @@ module _ (file bytes₀ lens₀ : List ℕ) (bytes-long : length file ≤ length
             few = u .few;
             short = omega (arith, u .short, u .inside);
           }
+
+-- The file of frames reads back as these frames, and leaves nothing.
+abbrev Sayable : List ℕ → Type 0
+Sayable f = length f < 65536
+
+module _ (f behind : List ℕ) (short : Sayable f) where
+  abbrev file : List ℕ
+  file = two (length f) ++ f ++ behind
+
+  says : be16At file 0 ≡ length f
+  says = two-reads-back (length f) short
+
+  long : length file ≡ lengthBytes + length f + length behind
+  long = let a = length-append f behind in omega arith
+
+  whole-there : standsWhole file ≡ true
+  whole-there =
+      rw (le-leb lengthBytes (length file) (omega (arith, long)), says) (le-leb (lengthBytes + length f) (length file) (omega (arith, long)))
+
+  front-there : frontFrame file ≡ f
+  front-there = ap (part file lengthBytes) says ∙ part-between (two (length f)) f behind
+
+  behind-there : behindFront file ≡ behind
+  unfolding rest
+  behind-there = ap (λ (n : ℕ). drop (lengthBytes + n) file) says ∙ drop-at (two (length f) ++ f) behind (lengthBytes + length f) (omega arith)
+
+reads-back : (n : ℕ) (fs : List (List ℕ)) → Each Sayable fs → length fs ≤ n → (wholeFrames n (framesFile fs) ≡ fs) × (leftBehind n (framesFile fs) ≡ [])
+unfolding wholeFrames leftBehind framesFile joined
+reads-back zero [] s l = (refl, refl)
+reads-back zero (f ∷ fs) s l = absurd (not-suc-le-zero l)
+reads-back (suc n) [] s l = (refl, refl)
+reads-back (suc n) (f ∷ fs) s l =
+    let r = reads-back n fs (s .1) (le-of-suc-le-suc l) in
+    let behind = joined (map packed fs) in (
+      rw (whole-there f behind (s .0), front-there f behind (s .0), behind-there f behind (s .0)) (ap (λ (x : List (List ℕ)). f ∷ x) (r .0)),
+      rw (whole-there f behind (s .0), behind-there f behind (s .0)) (r .1),
+    )
+
+pub frames-file-unpacks : (fs : List (List ℕ)) → Each Sayable fs → length fs ≤ most → (framesIn (framesFile fs) ≡ fs) × (spoilt (framesFile fs) ≡ false)
+frames-file-unpacks fs s l =
+    let r = reads-back most fs s l in
+    (r .0, ap (λ (x : List ℕ). ltb (length (framesIn (framesFile fs))) most && ltb 0 (length x)) (r .1) ∙ nothing (ltb (length (framesIn (framesFile fs))) most))
+  where
+    nothing : (b : Bool) → (b && false) ≡ false
+    nothing true = refl
+    nothing false = refl
