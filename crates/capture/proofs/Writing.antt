@@ -1,20 +1,20 @@
 -- How a capture grows, and that the fronts of its two slices are the file of its entries.
 use Prim.Native.Nat.{ℕ, _+_, _*_, _<_, _≤_}
 use mathlib.Core.Path.{_≡_, refl, sym, ap, _∙_}
-use mathlib.Core.Bool.{Bool, true, false, cond, _&&_}
+use mathlib.Core.Bool.{Bool, true, false, cond}
 use mathlib.Core.List.{List, [], _∷_, _++_, map, append-nil, append-assoc}
 use native.Mathlib.Omega.{arith}
-use lib.Dec.{leb, ltb}
+use lib.Dec.{leb}
 use borrow.Author.Tests.{lt-ltb, le-ltb, le-leb, leb-true, ltb-false}
 use Rattle.refusal.specs.Refusal.{first}
 use Rattle.refusal.proofs.Laws.{and-left, and-right, none-applies}
 use lib.ListN.{length, set, length-append, length-set}
 use Rattle.octets.specs.Bytes.{two}
 use Rattle.octets.specs.Stretch.{part, put, joined}
-use Rattle.octets.proofs.Stretches.{length-put, part-put, put-nil, put-put, put-before, set-set-put, joined-append, part-all}
+use Rattle.octets.proofs.Stretches.{length-put, part-put, put-nil, put-put, put-before, set-set-put, part-all}
 use Rattle.capture.specs.declared.Writer.{Writer}
 use Rattle.capture.specs.File.{headLength, entryLength, longestFile, mostEntries, Entry, contentOf, bodyOf, fileOf}
-use Rattle.capture.specs.Write.{Fits, added, fileLength, within, writeRefusals, Roomy, Countable, contentsAfter, bodiesAfter, Holds}
+use Rattle.capture.specs.Write.{Fits, added, fileLength, within, writeRefusals, Roomy, Countable, Holds}
 
 -- one entry's stores are one put
 module _ (d : List ℕ) (at kind size : ℕ) (inside : at + entryLength ≤ length d) where

@@ -2,7 +2,7 @@
 -- an entry for each, of four bytes: its kind, a zero byte and the length of its body; then the bodies back to back. Kinds 1 to 3 have a
 -- session ID as body, and a data entry has a packet.
 use Prim.Native.Nat.{ℕ}
-use mathlib.Core.List.{List, [], _∷_, _++_, map}
+use mathlib.Core.List.{List, _∷_, _++_, map}
 use lib.ListN.{length}
 use Rattle.octets.specs.Bytes.{two}
 use Rattle.octets.specs.Stretch.{joined}

@@ -8,7 +8,6 @@ use mathlib.Core.List.{List, [], _∷_, map}
 use lib.Dec.{leb, ltb}
 use lib.ListN.{length}
 use Rattle.refusal.specs.Refusal.{Refusal, _when_}
-use Rattle.octets.specs.Bytes.{two}
 use Rattle.octets.specs.Stretch.{put, joined}
 use Rattle.capture.specs.declared.Writer.{Writer}
 use Rattle.capture.specs.File.{headLength, entryLength, longestFile, mostEntries, Entry, contentOf, bodyOf}

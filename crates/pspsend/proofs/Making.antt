@@ -1,30 +1,29 @@
 -- How the capture comes about: what one call adds to it, and what is known after some calls (`Going`, the loop's invariant, with a begin, a
 -- turn and an end). Where the file is within its limits every entry so far stands in the two slices; else they are only counted.
-use Prim.Native.Nat.{ℕ, zero, suc, _+_, _-_, _*_, _<_, _≤_}
+use Prim.Native.Nat.{ℕ, suc, _+_, _-_, _*_, _≤_}
 use mathlib.Core.Path.{_≡_, refl, sym, ap, subst, _∙_}
-use mathlib.Core.Bool.{Bool, true, false, cond, _&&_, true≢false}
+use mathlib.Core.Bool.{Bool, true, false, cond, _&&_}
 use mathlib.Core.List.{List, [], _∷_, _++_, map, append-nil, append-assoc}
 use native.Mathlib.Omega.{arith}
-use native.Mathlib.Nat.{add-zero, not-suc-le-zero}
-use lib.Dec.{eqb, leb, ltb}
+use native.Mathlib.Nat.{not-suc-le-zero}
+use lib.Dec.{eqb, ltb}
 use lib.ListN.{length, take, replicate, length-append, length-take, length-replicate}
-use borrow.Author.Tests.{eqb-true, eqb-false, eq-eqb, ne-eqb, le-leb, ltb-true, ltb-false, leb-true}
+use borrow.Author.Tests.{eqb-true, eqb-false, eq-eqb, ne-eqb, le-leb, ltb-true, ltb-false}
 use Rattle.refusal.specs.Refusal.{first}
 use Rattle.refusal.proofs.Laws.{and-left, and-right}
 use Rattle.octets.specs.Bytes.{two, four}
 use Rattle.octets.specs.Stretch.{part, put, joined}
 use Rattle.octets.proofs.Stretches.{length-put, part-put, part-all, joined-append}
-use Rattle.packet.specs.Header.{idLength, longestPacket}
-use Rattle.sender.specs.declared.Position.{Position}
+use Rattle.packet.specs.Header.{idLength}
 use Rattle.sender.specs.declared.Sent.{Sent}
 use Rattle.sender.specs.Send.{greatestLimit, sendRefusals, SendOutcome, sent, PermitsSend}
 use Rattle.sender.specs.Series.{Job, Turn, askedFor, packetLeft, seriesPackets}
 use Rattle.sender.proofs.Keeping.{sent-length, packet-fits, sent-packet}
 use Rattle.sender.proofs.Sending.{small}
 use Rattle.sender.proofs.Series.{code-is}
-use Rattle.sender.proofs.Alike.{alike-refused, alike-code, alike-answer, alike-packet}
+use Rattle.sender.proofs.Alike.{alike-code, alike-answer, alike-packet}
 use Rattle.capture.specs.declared.Writer.{Writer}
-use Rattle.capture.specs.File.{longestFile, mostEntries, openPsp, headLength, entryLength, Entry, contentOf, bodyOf, fileOf}
+use Rattle.capture.specs.File.{longestFile, mostEntries, openPsp, headLength, entryLength, Entry, bodyOf, fileOf}
 use Rattle.capture.specs.Write.{added, fileLength, within, writeRefusals, Roomy, Countable, contentsAfter, bodiesAfter, Holds}
 use Rattle.capture.proofs.Writing.{within-facts, not-refused, holds-none, holds-more, file-there, file-length}
 use Rattle.pspsend.specs.declared.series.Series.{Series}

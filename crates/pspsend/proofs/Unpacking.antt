@@ -1,6 +1,6 @@
 -- How a frames file is taken apart: after each turn the frames so far stand at the front of the slices, and the rest of the file is still to
 -- be read (`Unpacking`, the loop's invariant). And that the file of any frames reads back as these frames.
-use Prim.Native.Nat.{ℕ, zero, suc, _+_, _-_, _*_, _<_, _≤_}
+use Prim.Native.Nat.{ℕ, zero, suc, _+_, _-_, _<_, _≤_}
 use mathlib.Core.Path.{_≡_, refl, sym, ap, _∙_}
 use mathlib.Core.Bool.{Bool, true, false, cond, _&&_, true≢false}
 use mathlib.Core.List.{List, [], _∷_, _++_, map, append-nil, append-assoc}
@@ -16,7 +16,6 @@ use Rattle.octets.specs.Stretch.{part, rest, put, joined, lengths}
 use Rattle.octets.proofs.Stretches.{length-part, part-between, length-rest, byte-rest, part-rest, length-put, part-put, put-nil, put-put, set-put, joined-append, lengths-append, length-lengths}
 use Rattle.octets.proofs.Numbers.{two-reads-back}
 use Rattle.sender.specs.Rules.{Each}
-use Rattle.pspsend.specs.declared.frames.Unpacked.{Unpacked}
 use Rattle.pspsend.specs.Frames.{lengthBytes, packed, framesFile, standsWhole, frontFrame, behindFront, wholeFrames, leftBehind, most, framesIn, spoilt, Unpacks}
 
 nothing-before : (n : ℕ) → n ≡ 0 + n

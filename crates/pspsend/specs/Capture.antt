@@ -1,7 +1,7 @@
 -- The capture that pspsend makes: an entry that opens the session as PSP, then a data entry for each packet of a series of sends that starts at
 -- the first byte of the first frame. It is refused where the first send is, by that number, and where the file would be longer or have
 -- more entries than a capture may (document 01, "Capture file and listing"), by 41 or 43.
-use Prim.Native.Nat.{ℕ, _+_, _*_}
+use Prim.Native.Nat.{ℕ, _+_}
 use mathlib.Core.Path.{_≡_}
 use mathlib.Core.Bool.{cond}
 use mathlib.Core.List.{List, [], _∷_, _++_, map}
@@ -13,7 +13,7 @@ use Rattle.octets.specs.Stretch.{part}
 use Rattle.packet.specs.Header.{idLength}
 use Rattle.sender.specs.declared.Position.{Position}
 use Rattle.sender.specs.Send.{sent, SendOutcome}
-use Rattle.sender.specs.Series.{Job, Turn, askedFor, packetLeft, seriesPackets}
+use Rattle.sender.specs.Series.{Job, Turn, askedFor, seriesPackets}
 use Rattle.capture.specs.File.{longestFile, mostEntries, openPsp, dataEntry, Entry, fileOf}
 use Rattle.pspsend.specs.declared.series.Made.{Made}
 

@@ -2,9 +2,9 @@
 -- as long as a whole one stands there; what is left behind them belongs to none, and a file that leaves something is spoilt.
 use Prim.Native.Nat.{ℕ, zero, suc, _+_, _≤_}
 use mathlib.Core.Path.{_≡_}
-use mathlib.Core.Bool.{Bool, true, false, cond, not, _&&_}
+use mathlib.Core.Bool.{Bool, true, false, cond, _&&_}
 use mathlib.Core.List.{List, [], _∷_, _++_, map}
-use lib.Dec.{eqb, leb, ltb}
+use lib.Dec.{leb, ltb}
 use lib.ListN.{length}
 use Rattle.octets.specs.Bytes.{be16At, two}
 use Rattle.octets.specs.Stretch.{part, rest, joined, lengths}

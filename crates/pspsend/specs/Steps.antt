@@ -1,5 +1,5 @@
 -- What the functions that make a capture promise each other. Nobody has to believe this file: the contract of `make` does not mention it.
-use Prim.Native.Nat.{ℕ, _+_, _*_, _<_, _≤_}
+use Prim.Native.Nat.{ℕ, _+_, _*_, _≤_}
 use mathlib.Core.Path.{_≡_}
 use mathlib.Core.Bool.{true, cond}
 use mathlib.Core.List.{List, [], _∷_, map}
@@ -8,10 +8,9 @@ use lib.ListN.{length}
 use Rattle.octets.specs.Stretch.{joined}
 use Rattle.packet.specs.Header.{idLength, longestPacket}
 use Rattle.sender.specs.Series.{Job, packetLeft}
-use Rattle.capture.specs.declared.Writer.{Writer}
 use Rattle.capture.specs.Write.{added, within, Roomy, contentsAfter, bodiesAfter, Holds}
 use Rattle.pspsend.specs.declared.series.Series.{Series}
-use Rattle.pspsend.specs.Capture.{opening, dataOf, sentFrom, atFirst, packetsFor, firstAnswer}
+use Rattle.pspsend.specs.Capture.{opening, dataOf, sentFrom, packetsFor, firstAnswer}
 
 -- room for any packet; and how many bytes of frames there can be: the program's own room for them
 abbrev pub packetRoom : ℕ

@@ -1,20 +1,20 @@
 -- What a cut keeps from its start to its end, whatever the width of an entry: the segments carry the frames from where it started to
 -- where it has come; they, their entries and the room that is left are together the room that there was; and only the last of them may
 -- lack E, because a segment that does not end its frame takes all the room. So only the first may lack B.
-use Prim.Native.Nat.{ℕ, zero, suc, _+_, _-_, _*_, _<_, _≤_, min}
+use Prim.Native.Nat.{ℕ, zero, suc, _+_, _-_, _*_, _<_, _≤_}
 use mathlib.Core.Path.{_≡_, refl, sym, ap, _∙_}
-use mathlib.Core.Bool.{Bool, true, false, cond, _&&_}
-use mathlib.Core.Logic.{_⊎_, inl, inr, ⊎-elim}
+use mathlib.Core.Bool.{Bool, true, false, cond}
+use mathlib.Core.Logic.{_⊎_, ⊎-elim}
 use mathlib.Core.List.{List, [], _∷_, _++_, map, append-nil}
 use native.Mathlib.Omega.{arith}
 use native.Mathlib.Nat.{eq-or-lt-of-le, mul-suc, not-suc-le-zero}
 use native.Mathlib.Numerals.{add-one}
-use lib.Dec.{eqb, ltb, leb}
-use lib.ListN.{length, getD, length-append, List·getD-append}
+use lib.Dec.{ltb, leb}
+use lib.ListN.{length, length-append, List·getD-append}
 use lib.Seq.{getD-at}
-use borrow.Author.Tests.{eqb-true, eqb-false, ltb-true, leb-true, eq-eqb}
+use borrow.Author.Tests.{ltb-true, leb-true, eq-eqb}
 use Rattle.refusal.proofs.Laws.{and-left, and-right}
-use Rattle.octets.specs.Stretch.{part, joined}
+use Rattle.octets.specs.Stretch.{joined}
 use Rattle.octets.proofs.Stretches.{length-part, joined-append}
 use Rattle.flow.specs.Flow.{longest}
 use Rattle.packet.specs.Segments.{Segment}

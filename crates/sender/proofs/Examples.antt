@@ -12,7 +12,7 @@ use Rattle.sender.specs.declared.Position.{Position}
 use Rattle.sender.specs.Cut.{frameStart, cut}
 use Rattle.sender.specs.Packet.{packetOf}
 use Rattle.sender.specs.Send.{Asked, SendOutcome, cutFor, written, refused, sentBy, sent}
-use Rattle.sender.specs.Series.{Job, Turn, seriesPackets, seriesEnd}
+use Rattle.sender.specs.Series.{seriesPackets, seriesEnd}
 
 abbrev at : ℕ → ℕ → Position
 at frame offset = record { frame = frame; offset = offset }

@@ -9,7 +9,7 @@ use native.Mathlib.Nat.{add-zero, not-suc-le-zero}
 use lib.Dec.{eqb}
 use lib.ListN.{length, drop, length-append}
 use lib.Seq.{drop-drop}
-use borrow.Author.Tests.{eqb-true, eqb-false, ne-eqb}
+use borrow.Author.Tests.{eqb-true, ne-eqb}
 use Rattle.octets.specs.Bytes.{byteAt}
 use Rattle.octets.specs.Stretch.{part, rest, joined, cutBy}
 use Rattle.octets.specs.Count.{sumTo}
@@ -18,10 +18,10 @@ use Rattle.octets.proofs.Stretches.{length-part, byte-rest, part-none, part-par
 use Rattle.flow.specs.Flow.{longest}
 use Rattle.packet.specs.Segments.{Segment}
 use Rattle.sender.specs.declared.Position.{Position}
-use Rattle.sender.specs.Cut.{frameLength, frameStart, leftOf, indexOf, segmentFrom, after}
+use Rattle.sender.specs.Cut.{frameLength, frameStart, leftOf, indexOf}
 use Rattle.sender.specs.Carried.{Carries, Carried}
 use Rattle.sender.specs.Rules.{Each, Pieces, wholeFrame, begunFrame, inTurn, frameSized}
-use Rattle.sender.proofs.Positions.{Framed, Inside, after-place, left-within}
+use Rattle.sender.proofs.Positions.{Framed, left-within}
 
 -- the bytes of frame i; and of n frames from frame i on
 abbrev pub frameOf : List ℕ → List ℕ → ℕ → List ℕ

@@ -2,15 +2,15 @@
 -- as arguments. And the invariant of the loop that surveys the lengths, with a begin, a turn and an end.
 use Prim.Native.Nat.{ℕ, _+_, _*_, _<_, _≤_}
 use mathlib.Core.Path.{_≡_, refl, sym, ap, _∙_}
-use mathlib.Core.Bool.{Bool, true, false, not, cond, _&&_, _||_, or-true}
-use mathlib.Core.Logic.{_⊎_, inl, inr, ⊎-elim}
-use mathlib.Core.List.{List, [], _∷_, _++_}
+use mathlib.Core.Bool.{Bool, true, false, not, cond, _||_}
+use mathlib.Core.Logic.{_⊎_, ⊎-elim}
+use mathlib.Core.List.{List, _++_}
 use native.Mathlib.Omega.{arith}
 use native.Mathlib.Nat.{eq-or-lt-of-le}
 use lib.Dec.{eqb, ltb, leb}
 use lib.ListN.{length}
 use borrow.Author.Tests.{lt-ltb, le-ltb, lt-leb, le-leb, eq-eqb, ne-eqb, ltb-true, ltb-false, eqb-false}
-use Rattle.refusal.specs.Refusal.{Refusal, _when_, first}
+use Rattle.refusal.specs.Refusal.{Refusal, first}
 use Rattle.refusal.proofs.Laws.{NoneApplies, none-applies, none-apart, first-passed, first-stopped}
 use Rattle.octets.specs.Count.{any, sumTo}
 use Rattle.octets.proofs.Counts.{Gathered, gather-begin, gather-turn, gather-end, sum-none, sum-more, or-false-left, or-false-right}

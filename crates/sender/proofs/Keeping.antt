@@ -1,25 +1,23 @@
 -- What a call that is not refused does. Its packet passes the PSP check and is addressed and numbered as asked; read again, its segments
 -- carry the frames from the position that the call was given to the one that it answers; and that one lies farther on, in the frames or at
 -- their end.
-use Prim.Native.Nat.{ℕ, zero, suc, _+_, _-_, _*_, _<_, _≤_}
-use mathlib.Core.Path.{_≡_, refl, sym, ap, _∙_}
-use mathlib.Core.Bool.{Bool, true, false, _&&_}
+use Prim.Native.Nat.{ℕ, _+_, _-_, _<_, _≤_}
+use mathlib.Core.Path.{_≡_, sym, ap, _∙_}
+use mathlib.Core.Bool.{true}
 use mathlib.Core.List.{List, [], _∷_, map}
 use native.Mathlib.Omega.{arith}
 use native.Mathlib.Nat.{not-suc-le-zero}
-use lib.Dec.{ltb, leb}
 use lib.ListN.{length, length-append}
 use borrow.Author.Tests.{lt-ltb, le-leb}
 use Rattle.refusal.specs.Refusal.{first}
-use Rattle.octets.specs.Stretch.{part, put, joined}
+use Rattle.octets.specs.Stretch.{joined}
 use Rattle.octets.proofs.Stretches.{part-put}
 use Rattle.flow.specs.Numbers.{next}
-use Rattle.packet.specs.Header.{overIp, sub, sessionId, flowId, headerLength, longestPacket, number as number-in}
+use Rattle.packet.specs.Header.{overIp, sub, sessionId, flowId, headerLength, number as number-in}
 use Rattle.packet.specs.Segments.{Segment, entryWidth, segments}
 use Rattle.packet.specs.Check.{kindPsp, check}
-use Rattle.sender.specs.declared.Position.{Position}
-use Rattle.sender.specs.Cut.{indexOf, Cut, goesOn, leastRoom, cut}
-use Rattle.sender.specs.Packet.{bodyOf, packetOf}
+use Rattle.sender.specs.Cut.{indexOf, goesOn, leastRoom}
+use Rattle.sender.specs.Packet.{bodyOf}
 use Rattle.sender.specs.Send.{mostSegments, Asked, SendOutcome, sendRefusals, startOf, cutFor, packetFor, written, sent}
 use Rattle.sender.specs.Carried.{Carried}
 use Rattle.sender.specs.Series.{packetLeft}

@@ -1,6 +1,6 @@
 -- Positions in the frames, and segments that carry the frames from one position to another: they carry a stretch of the frames' bytes,
 -- which starts at the place of the one position and ends before that of the other.
-use Prim.Native.Nat.{ℕ, zero, suc, _+_, _-_, _<_, _≤_}
+use Prim.Native.Nat.{ℕ, _+_, _-_, _<_, _≤_}
 use mathlib.Core.Path.{_≡_, refl, sym, ap, _∙_}
 use mathlib.Core.Bool.{Bool, true, false, not, cond, _&&_, _||_}
 use mathlib.Core.List.{List, [], _∷_, _++_, map}
@@ -10,15 +10,15 @@ use lib.ListN.{length, length-append}
 use borrow.Author.Tests.{eqb-true, eqb-false, ltb-true, ltb-false, lt-ltb, eq-eqb, not-false}
 use Rattle.octets.specs.Stretch.{part, joined}
 use Rattle.octets.specs.Count.{any, sumTo}
-use Rattle.octets.proofs.Stretches.{length-part, part-none, part-part}
-use Rattle.octets.proofs.Counts.{none-at, or-false-left, or-false-right, sum-more, sum-within, sum-below}
+use Rattle.octets.proofs.Stretches.{part-none, part-part}
+use Rattle.octets.proofs.Counts.{none-at, or-false-left, or-false-right, sum-more, sum-within}
 use Rattle.flow.specs.Flow.{longest}
 use Rattle.packet.specs.Segments.{Segment}
 use Rattle.sender.specs.declared.Position.{Position}
-use Rattle.sender.specs.Cut.{frameLength, frameStart, leftOf, indexOf, segmentFrom, after}
+use Rattle.sender.specs.Cut.{frameLength, frameStart, leftOf, indexOf, after}
 use Rattle.sender.specs.Packet.{bodyOf}
 use Rattle.sender.specs.Send.{mostFrames, badLength, badFrames, outside}
-use Rattle.sender.specs.Carried.{Carries, Carried}
+use Rattle.sender.specs.Carried.{Carried}
 
 -- Frames that 33 does not refuse.
 pub record Framed (total : ℕ) (lens : List ℕ) : Type 0 where

@@ -7,24 +7,24 @@ use mathlib.Core.List.{List, [], _∷_, _++_, map, append-assoc}
 use native.Mathlib.Omega.{arith}
 use native.Mathlib.Numerals.{add-one}
 use native.Mathlib.Nat.{not-suc-le-zero, le-of-suc-le-suc}
-use lib.Dec.{eqb, ltb}
-use lib.ListN.{length, take, drop, getD, length-append, take-append-drop, List·getD-append}
+use lib.Dec.{eqb}
+use lib.ListN.{length, take, getD, length-append, List·getD-append}
 use lib.Seq.{getD-append-add, take-suc, take-all}
 use borrow.Author.Tests.{eq-eqb, ne-eqb, le-ltb, eqb-false}
 use Rattle.refusal.specs.Refusal.{first}
 use Rattle.refusal.proofs.Laws.{NoneApplies, none-first, first-passed}
-use Rattle.octets.specs.Bytes.{byteAt, be16At, be32At, two, four}
+use Rattle.octets.specs.Bytes.{byteAt, be16At, two, four}
 use Rattle.octets.specs.Stretch.{part, rest, joined}
-use Rattle.octets.specs.Count.{any, sumTo, upTo}
+use Rattle.octets.specs.Count.{sumTo, upTo}
 use Rattle.octets.proofs.Numbers.{two-reads-back, four-reads-back}
-use Rattle.octets.proofs.Stretches.{part-between, joined-append}
-use Rattle.octets.proofs.Counts.{none-all, sum-none, sum-more, up-to-more}
+use Rattle.octets.proofs.Stretches.{part-between}
+use Rattle.octets.proofs.Counts.{none-all, sum-none, sum-more}
 use Rattle.flow.specs.Flow.{topFlow}
-use Rattle.packet.specs.Header.{overIp, sBit, idLength, headerLength, shortestPacket, longestPacket, sub, sessionId, flowId, segmentCount, number as number-in, sSet, notPlain, beforeSession}
+use Rattle.packet.specs.Header.{overIp, sBit, headerLength, shortestPacket, longestPacket, sub, sessionId, flowId, segmentCount, number as number-in, sSet, notPlain, beforeSession}
 use Rattle.packet.specs.Segments.{Segment, entryWidth, bBit, eBit, entryAt, beginsIn, endsIn, lengthIn, lengthAt, bodyAt, segmentAt, segments}
-use Rattle.packet.specs.Psp.{wanted, badEntry, badAt, pspRefusals}
+use Rattle.packet.specs.Psp.{wanted, badAt, pspRefusals}
 use Rattle.packet.specs.Check.{kindPsp, checkRefusals, check}
-use Rattle.sender.specs.Packet.{entryNumber, entryOf, bodyOf, headerOf, packetOf}
+use Rattle.sender.specs.Packet.{entryNumber, entryOf, bodyOf, packetOf}
 
 -- An entry: its number fits two bytes, and says again what it was made from.
 module _ (n : ℕ) (short : n < eBit) where

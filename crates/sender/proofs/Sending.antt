@@ -1,20 +1,19 @@
 -- The two ways out of `send`: a refusal, which gives back what it was given, and a packet, which is its header and its segments put one
 -- behind the other. And what an outcome that was not refused is known to be.
-use Prim.Native.Nat.{ℕ, zero, suc, _+_, _-_, _*_, _<_, _≤_}
+use Prim.Native.Nat.{ℕ, zero, suc, _+_, _-_, _*_, _≤_}
 use mathlib.Core.Path.{_≡_, refl, sym, ap, _∙_}
-use mathlib.Core.List.{List, [], _∷_, _++_, map}
+use mathlib.Core.List.{List, _++_, map}
 use native.Mathlib.Omega.{arith}
 use lib.ListN.{length}
 use Rattle.refusal.specs.Refusal.{first}
 use Rattle.octets.specs.Stretch.{put, joined}
 use Rattle.octets.proofs.Stretches.{put-before}
 use Rattle.flow.specs.Numbers.{next}
-use Rattle.packet.specs.Header.{idLength, headerLength, shortestPacket}
+use Rattle.packet.specs.Header.{headerLength, shortestPacket}
 use Rattle.packet.specs.Segments.{entryWidth}
-use Rattle.sender.specs.declared.Position.{Position}
 use Rattle.sender.specs.declared.Progress.{Progress}
 use Rattle.sender.specs.Packet.{entryOf, bodyOf, headerOf, packetOf}
-use Rattle.sender.specs.Send.{mostSegments, Asked, SendOutcome, sendRefusals, cutFor, packetFor, written, refused, sentBy, sent, PermitsSend}
+use Rattle.sender.specs.Send.{Asked, SendOutcome, sendRefusals, cutFor, packetFor, written, refused, sentBy, sent, PermitsSend}
 use Rattle.sender.specs.Placed.{Ready, cutOf, Written}
 use Rattle.sender.proofs.Reading.{length-packet}
 use Rattle.sender.proofs.Judging.{Passed, Standing, send-passed, limit-enough, limit-small}

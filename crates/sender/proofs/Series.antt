@@ -11,26 +11,26 @@ use native.Mathlib.Numerals.{add-one}
 use native.Mathlib.Nat.{not-suc-le-zero, le-of-suc-le-suc}
 use lib.Dec.{eqb, ltb}
 use lib.ListN.{length, getD, length-append}
-use borrow.Author.Tests.{eqb-true, eqb-false, eq-eqb, ne-eqb, ltb-true, ltb-false, le-ltb, lt-ltb}
+use borrow.Author.Tests.{eqb-true, eqb-false, eq-eqb, ltb-true, ltb-false, le-ltb, lt-ltb}
 use Rattle.refusal.specs.Refusal.{first}
 use Rattle.octets.specs.Stretch.{part, joined, cutBy}
 use Rattle.octets.specs.Count.{sumTo}
 use Rattle.octets.proofs.Stretches.{part-none}
 use Rattle.octets.proofs.Counts.{sum-within}
-use Rattle.flow.specs.Numbers.{next, numberAt}
+use Rattle.flow.specs.Numbers.{numberAt}
 use Rattle.flow.proofs.Numbers.{next-below, numberAt-first, numberAt-from-next}
 use Rattle.packet.specs.Header.{overIp, idLength, sub, number as number-in}
 use Rattle.packet.specs.Check.{kindPsp, check}
 use Rattle.sender.specs.declared.Position.{Position}
 use Rattle.sender.specs.Cut.{frameLength, frameStart, indexOf}
 use Rattle.sender.specs.Packet.{bodyOf}
-use Rattle.sender.specs.Send.{Asked, badAddress, badLimit, badFrames, outside, sendRefusals, written, refused, sentBy, sent, SendOutcome}
+use Rattle.sender.specs.Send.{Asked, badAddress, badLimit, badFrames, outside, sendRefusals, written, refused, sentBy, sent}
 use Rattle.sender.specs.Carried.{Carried}
 use Rattle.sender.specs.Series.{Job, Turn, askedFor, packetLeft, seriesPackets, seriesEnd}
 use Rattle.sender.specs.Rules.{Each, Pieces, Addressed, segmentsOf, allSegments, KeepsRules}
 use Rattle.sender.proofs.Positions.{Framed, framed, Inside, place-within, carried-append, carried-place, carried-bytes}
 use Rattle.sender.proofs.Frames.{Filled, Apart, carried-apart, framesFrom, all-frames}
-use Rattle.sender.proofs.Keeping.{Typed, sent-code, sent-number, sent-inside, sent-farther, sent-passes, sent-addressed, sent-numbered, sent-carries}
+use Rattle.sender.proofs.Keeping.{Typed, sent-number, sent-inside, sent-farther, sent-passes, sent-addressed, sent-numbered, sent-carries}
 
 never : (n : ℕ) → n < n → ⊥
 never n h = omega arith

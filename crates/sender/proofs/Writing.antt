@@ -1,29 +1,28 @@
 -- How a packet comes about in the output: the entries are put one behind the other while the frames are cut (`Writing`, the loop's
 -- invariant, with a begin, a turn and an end), then the bodies behind them in one put, then the header before them.
-use Prim.Native.Nat.{ℕ, zero, suc, _+_, _-_, _*_, _<_, _≤_, min}
+use Prim.Native.Nat.{ℕ, suc, _+_, _-_, _*_, _<_, _≤_, min}
 use mathlib.Core.Path.{_≡_, refl, sym, ap, _∙_}
-use mathlib.Core.Bool.{Bool, true, false, cond, _&&_}
+use mathlib.Core.Bool.{Bool, true, false, _&&_}
 use mathlib.Core.List.{List, [], _∷_, _++_, map}
 use native.Mathlib.Omega.{arith}
-use lib.Dec.{eqb, ltb, leb}
+use lib.Dec.{eqb, ltb}
 use lib.ListN.{length, set, length-append, length-set}
 use borrow.Author.Tests.{ltb-true, ltb-false}
 use Rattle.refusal.proofs.Laws.{and-left, and-right}
 use Rattle.octets.specs.Bytes.{two, four}
 use Rattle.octets.specs.Stretch.{part, put, joined}
-use Rattle.octets.proofs.Stretches.{length-put, put-nil, put-put, put-before, set-set-put}
-use Rattle.flow.specs.Flow.{longest}
+use Rattle.octets.proofs.Stretches.{length-put, put-nil, put-put, set-set-put}
 use Rattle.packet.specs.Header.{idLength, shortestPacket, sBit}
 use Rattle.packet.specs.Segments.{Segment, entryWidth}
 use Rattle.sender.specs.declared.Position.{Position}
 use Rattle.sender.specs.declared.Progress.{Progress}
-use Rattle.sender.specs.Cut.{frameLength, leftOf, indexOf, segmentFrom, Cut, leastRoom, goesOn, sizeOfNext, place, cut}
+use Rattle.sender.specs.Cut.{frameLength, indexOf, segmentFrom, Cut, goesOn, cut}
 use Rattle.sender.specs.Packet.{entryNumber, entryOf, bodyOf, headerOf}
-use Rattle.sender.specs.Send.{mostFrames, mostSegments, greatestLimit}
+use Rattle.sender.specs.Send.{mostSegments}
 use Rattle.sender.specs.Placed.{entriesAt, Placeable, sizeFor, positionAfter, placedNext, entryFor, withEntry, Ready, cutOf, Written}
 use Rattle.sender.proofs.Reading.{length-entries}
-use Rattle.sender.proofs.Positions.{Framed, framed, Inside, inside, place-within, carried-place, carried-bytes}
-use Rattle.sender.proofs.Cutting.{Cutting, cutting-start, frames-remain, room-enough, offset-below, size-room, body-length, place-keeps, cut-turn, cut-stops, cut-none, length-more, joined-more}
+use Rattle.sender.proofs.Positions.{Framed, framed, inside, place-within, carried-place, carried-bytes}
+use Rattle.sender.proofs.Cutting.{Cutting, cutting-start, frames-remain, room-enough, offset-below, body-length, place-keeps, cut-turn, cut-stops, cut-none, length-more, joined-more}
 
 -- The header.
 module _ (d : List ℕ) (session flow count number : ℕ) (long : shortestPacket ≤ length d) where

@@ -1,5 +1,5 @@
 -- `capture::add` is right since it stores the entry exactly where `within` says that there is room.
-use mathlib.Core.Path.{_≡_, refl, sym, ap, _∙_}
+use mathlib.Core.Path.{refl, sym, _∙_}
 use Rattle.capture.proofs.Writing.{within-fits, stored, kept}
 use borrow.Author.Needs.{needs}
 use Rattle.capture.proofs.add.Statement.{statement}

@@ -1,6 +1,6 @@
 -- `capture::is_within` is right since it tries what `within` tries.
 use Prim.Native.Nat.{ℕ}
-use mathlib.Core.Path.{_≡_, refl, sym, ap, _∙_}
+use mathlib.Core.Path.{ap}
 use mathlib.Core.Bool.{_&&_}
 use lib.Dec.{leb}
 use Rattle.capture.specs.File.{longestFile, mostEntries}

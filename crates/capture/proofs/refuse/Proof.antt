@@ -1,5 +1,4 @@
 -- `capture::refuse` is right since it tries 41 and 43 in order.
-use mathlib.Core.Path.{_≡_, refl, sym, ap, _∙_}
 use native.Mathlib.Omega.{arith}
 use Rattle.capture.proofs.Writing.{too-long, too-many, none-refused}
 use borrow.Author.Needs.{needs}

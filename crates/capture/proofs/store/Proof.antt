@@ -1,6 +1,5 @@
 -- `capture::store` is right since the stores of an entry are one put (`entry-put`), and the copy of the body is the body.
 use Prim.Native.Nat.{ℕ, _+_, _*_}
-use mathlib.Core.Path.{_≡_, refl, sym, ap, _∙_}
 use lib.ListN.{length}
 use Rattle.capture.specs.File.{headLength, entryLength}
 use Rattle.capture.proofs.Writing.{second-inside, length-inside, entry-put, entry-long, body-put}

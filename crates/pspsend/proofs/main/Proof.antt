@@ -1,5 +1,4 @@
 -- `pspsend::main` is safe since it turns away a session ID of more than four bytes and a number of more than two.
-use mathlib.Core.Path.{_≡_, refl, sym, ap, _∙_}
 use native.Mathlib.Omega.{arith}
 use lib.Dec.{ltb}
 use borrow.Author.Tests.{ltb-false}

@@ -1,7 +1,5 @@
 -- `pspsend::send` is safe since what is made lies in the rooms for it.
-use mathlib.Core.Path.{_≡_, refl, sym, ap, _∙_}
-use native.Mathlib.Omega.{arith}
-use lib.ListN.{length}
+use mathlib.Core.Path.{sym}
 use lib.Seq.{length-take-le}
 use borrow.Author.Needs.{needs}
 use Rattle.pspsend.proofs.send.Statement.{statement}

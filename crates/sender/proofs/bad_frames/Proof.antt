@@ -1,5 +1,4 @@
 -- `sender::bad_frames` is right since over 127 frames are bad whatever they are, and fewer are surveyed.
-use mathlib.Core.Path.{_≡_, refl, sym, ap, _∙_}
 use native.Mathlib.Omega.{arith}
 use Rattle.sender.proofs.Judging.{frames-many, frames-judged}
 use borrow.Author.Needs.{needs}

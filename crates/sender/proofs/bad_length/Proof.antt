@@ -1,5 +1,5 @@
 -- `sender::bad_length` is right since it tries what `badSize` tries.
-use mathlib.Core.Path.{_≡_, refl}
+use mathlib.Core.Path.{refl}
 use borrow.Author.Needs.{needs}
 use Rattle.sender.proofs.bad_length.Statement.{statement}
 use Rattle.sender.proofs.bad_length.Tie as tie

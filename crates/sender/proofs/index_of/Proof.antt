@@ -1,6 +1,6 @@
 -- `sender::index_of` is right since the lengths of the frames before a frame add up to where it starts.
 use Prim.Native.Nat.{ℕ, _+_}
-use mathlib.Core.Path.{_≡_, refl, sym, ap, _∙_}
+use mathlib.Core.Path.{ap}
 use Rattle.sender.specs.Cut.{frameStart}
 use borrow.Author.Needs.{needs}
 use Rattle.sender.proofs.index_of.Statement.{statement}

@@ -1,5 +1,4 @@
 -- `sender::is_outside` is right since of the three cases of 34 the first two are judged where the frame is there, and the others where it is not.
-use mathlib.Core.Path.{_≡_, refl, sym, ap, _∙_}
 use native.Mathlib.Omega.{arith}
 use Rattle.sender.proofs.Judging.{outside-frame, outside-behind}
 use borrow.Author.Needs.{needs}

@@ -1,6 +1,6 @@
 -- `sender::place` is right since it computes the lesser of what is left of the frame and of the room, as `placedNext` does.
 use Prim.Native.Nat.{_+_, _*_}
-use mathlib.Core.Path.{_≡_, refl, sym, ap, _∙_}
+use mathlib.Core.Path.{ap, _∙_}
 use native.Mathlib.Omega.{arith}
 use Rattle.octets.specs.Stretch.{put}
 use Rattle.sender.specs.Placed.{entriesAt}

@@ -1,5 +1,5 @@
 -- `sender::position_after` is right since `positionAfter` goes by the same test.
-use mathlib.Core.Path.{_≡_, refl, sym, ap, _∙_}
+use mathlib.Core.Path.{sym, ap}
 use Rattle.sender.specs.Placed.{positionAfter}
 use borrow.Author.Needs.{needs}
 use Rattle.sender.proofs.position_after.Statement.{statement}

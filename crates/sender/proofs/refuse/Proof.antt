@@ -1,5 +1,5 @@
 -- `sender::refuse` is right since 34 to 36 decide exactly where 31 to 33 refuse nothing.
-use mathlib.Core.Path.{_≡_, refl, sym, ap, _∙_}
+use mathlib.Core.Path.{sym, _∙_}
 use Rattle.sender.proofs.Judging.{early-passed, limit-small, send-stopped, send-later}
 use borrow.Author.Needs.{needs}
 use Rattle.sender.proofs.refuse.Statement.{statement}

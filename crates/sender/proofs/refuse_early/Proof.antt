@@ -1,5 +1,5 @@
 -- `sender::refuse_early` is right since it tries 31, 32 and 33 in order.
-use mathlib.Core.Path.{_≡_, refl, sym, ap, _∙_}
+use mathlib.Core.Path.{sym, _∙_}
 use mathlib.Core.Bool.{true, false}
 use Rattle.sender.proofs.Judging.{early-address, early-limit, early-judged}
 use borrow.Author.Needs.{needs}

@@ -1,5 +1,5 @@
 -- `sender::refuse_later` is right since it tries 34, 35 and 36 in order.
-use mathlib.Core.Path.{_≡_, refl, sym, ap, _∙_}
+use mathlib.Core.Path.{sym, _∙_}
 use native.Mathlib.Omega.{arith}
 use Rattle.sender.proofs.Judging.{later-outside, later-ended, later-small, later-none}
 use borrow.Author.Needs.{needs}

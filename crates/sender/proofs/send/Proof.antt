@@ -1,6 +1,5 @@
 -- `sender::send` is right since it refuses as the order says, and else its header and its segments are put one behind the other (`send-done`).
-use Prim.Native.Nat.{ℕ, _+_, _*_}
-use mathlib.Core.Path.{_≡_, refl, sym, ap, _∙_}
+use mathlib.Core.Path.{_≡_, sym, _∙_}
 use native.Mathlib.Omega.{arith}
 use lib.ListN.{length}
 use Rattle.refusal.specs.Refusal.{first}

@@ -1,6 +1,5 @@
 -- `sender::survey` is right since after k turns it has surveyed k lengths (`Surveying`).
-use Prim.Native.Nat.{_+_, _-_}
-use mathlib.Core.Path.{_≡_, refl, sym, ap, _∙_}
+use Prim.Native.Nat.{_-_}
 use native.Mathlib.Omega.{arith}
 use Rattle.sender.proofs.Judging.{Surveying, survey-begin, survey-turn, survey-sum, survey-bad, survey-small}
 use borrow.Author.Needs.{needs}

@@ -1,6 +1,4 @@
 -- `sender::write_header` is right since its four stores are puts one behind the other.
-use mathlib.Core.Path.{_≡_, refl, sym, ap, _∙_}
-use native.Mathlib.Omega.{arith}
 use Rattle.sender.proofs.Writing.{mark-inside, number-inside, header-written, header-long}
 use borrow.Author.Needs.{needs}
 use Rattle.sender.proofs.write_header.Statement.{statement}

@@ -1,12 +1,10 @@
 -- `sender::write_segments` is right since after each turn the entries of the segments placed so far stand in the output (`Writing`), and their bodies are one stretch of the frames.
-use Prim.Native.Nat.{_+_, _-_, _*_, _<_, _≤_}
-use mathlib.Core.Path.{_≡_, refl, sym, ap, _∙_}
+use Prim.Native.Nat.{_-_}
+use mathlib.Core.Path.{sym, _∙_}
 use native.Mathlib.Omega.{arith}
 use lib.ListN.{length}
-use Rattle.octets.specs.Stretch.{part, put}
-use Rattle.packet.specs.Segments.{entryWidth}
 use Rattle.sender.specs.Send.{mostSegments}
-use Rattle.sender.specs.Placed.{entriesAt, Ready}
+use Rattle.sender.specs.Placed.{Ready}
 use Rattle.sender.proofs.Positions.{framed, inside, offset-small}
 use Rattle.sender.proofs.Writing.{Writing, writing-begin, output-long, writing-placeable, writing-less, writing-turn, bodies-from, bodies-to, writing-end}
 use borrow.Author.Needs.{needs}

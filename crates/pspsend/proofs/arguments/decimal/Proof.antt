@@ -1,6 +1,5 @@
 -- `pspsend::arguments::decimal` is safe since no number with ten digits before it is made longer.
 use Prim.Native.Nat.{ℕ, _-_, _≤_}
-use mathlib.Core.Path.{_≡_, refl, sym, ap, _∙_}
 use native.Mathlib.Omega.{arith}
 use lib.ListN.{length, getD}
 use mathlib.Core.Bool.{_||_}

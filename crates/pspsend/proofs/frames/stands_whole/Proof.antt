@@ -1,5 +1,5 @@
 -- `pspsend::frames::stands_whole` is right since a frame stands whole where its length does and that many bytes do.
-use mathlib.Core.Path.{_≡_, refl, sym, ap, _∙_}
+use mathlib.Core.Path.{_∙_}
 use native.Mathlib.Omega.{arith}
 use Rattle.pspsend.proofs.Unpacking.{stands-not, stands-if}
 use borrow.Author.Needs.{needs}

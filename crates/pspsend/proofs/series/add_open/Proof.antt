@@ -1,5 +1,5 @@
 -- `pspsend::series::add_open` is right since the entry that it adds to an empty capture is the opening one.
-use mathlib.Core.Path.{_≡_, refl, sym, ap, _∙_}
+use mathlib.Core.Path.{refl}
 use Rattle.pspsend.proofs.Making.{open-countable, open-counted, open-holds}
 use borrow.Author.Needs.{needs}
 use Rattle.pspsend.proofs.series.add_open.Statement.{statement}

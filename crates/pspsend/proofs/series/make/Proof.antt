@@ -1,8 +1,7 @@
 -- `pspsend::series::make` is right since what the series wrote is the file of its entries (`make-file`), and what refuses it refuses that file.
-use Prim.Native.Nat.{ℕ, _+_, _*_, _≤_}
-use mathlib.Core.Path.{_≡_, refl, sym, ap, _∙_}
+use Prim.Native.Nat.{ℕ}
+use mathlib.Core.Path.{_≡_, sym, ap, _∙_}
 use native.Mathlib.Omega.{arith}
-use lib.ListN.{length}
 use Rattle.sender.specs.Series.{Job}
 use Rattle.capture.specs.declared.Writer.{Writer}
 use Rattle.pspsend.proofs.Making.{make-none, make-none-refused, make-judged, make-file, make-short}

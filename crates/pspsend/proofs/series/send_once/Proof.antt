@@ -1,8 +1,7 @@
 -- `pspsend::series::send_once` is right since a send answers the same whatever stands in its output, and leaves its packet at the front of it.
-use Prim.Native.Nat.{_≤_}
-use mathlib.Core.Path.{_≡_, refl, sym, ap, _∙_}
+use mathlib.Core.Path.{refl, sym}
 use native.Mathlib.Omega.{arith}
-use lib.ListN.{length, take}
+use lib.ListN.{length}
 use lib.Seq.{length-take-le}
 use Rattle.sender.specs.Series.{Job}
 use Rattle.pspsend.proofs.Making.{step-stops, contents-stay, bodies-stay, packet-short, step-countable, step-on, contents-on, bodies-on}
