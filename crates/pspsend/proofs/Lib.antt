@@ -1,2 +1,3 @@
 pub mod Unpacking
 pub mod Making
+pub mod Complete

@@ -10,6 +10,7 @@ ghost use Rattle.capture.specs.Write.{Roomy, Holds};
 ghost use Rattle.pspsend.specs.Capture.{opening, Makes};
 ghost use Rattle.pspsend.specs.Steps.{packetRoom, mostBytes, Unhurried, seriesAfter, contentsThen, bodiesThen, SentAll};
 use capture::Writer;
+use packet::header;
 use sender::Position;
 
 // Room for the contents of any capture.
@@ -17,7 +18,7 @@ pub const CONTENTS_ROOM: usize = capture::HEAD_LENGTH
     + capture::ENTRY_LENGTH * capture::MOST_ENTRIES;
 
 // Room for any packet: the greatest limit and the session ID before it.
-const PACKET_ROOM: usize = sender::GREATEST_LIMIT + 4;
+const PACKET_ROOM: usize = sender::GREATEST_LIMIT + header::ID_LENGTH;
 
 // What was made: 0 or the number of a refusal, and how many bytes of the contents and of the bodies are the file.
 pub struct Made {
@@ -41,7 +42,7 @@ fn add_open(contents: &mut [u8], bodies: &mut [u8], session: u32) -> Writer
     ensures { λ _. ⌜ Holds (opening session ∷ []) (now (contents .entry)) (now (bodies .entry)) (now (contents .exit)) (now (bodies .exit))
         (record { entries = 1; bytes = idLength }) ⌝ }
 {
-    let mut id = [0u8; 4];
+    let mut id = [0u8; header::ID_LENGTH];
     let body: &mut [u8] = &mut id;
     octets::write_u32(body, 0, session);
     capture::add(contents, bodies, capture::begin(), capture::OPEN_PSP, body)

@@ -1,0 +1,49 @@
+-- A capture that is not refused carries every frame, whole and in order, and its packets keep the rules that demand 3 supposes of any sender.
+use Prim.Native.Nat.{ℕ, zero, suc, _+_, _<_}
+use mathlib.Core.Path.{_≡_, refl, sym, _∙_}
+use mathlib.Core.Bool.{Bool, true, false, cond}
+use mathlib.Core.List.{List, [], map}
+use native.Mathlib.Omega.{arith}
+use lib.Dec.{eqb}
+use lib.ListN.{length, replicate, length-replicate}
+use borrow.Author.Tests.{eqb-true}
+use Rattle.refusal.specs.Refusal.{first}
+use Rattle.octets.specs.Stretch.{joined, cutBy}
+use Rattle.sender.specs.Send.{sendRefusals}
+use Rattle.sender.specs.Series.{Job, Turn, askedFor}
+use Rattle.sender.specs.Rules.{Each, Pieces, KeepsRules}
+use Rattle.sender.proofs.Sending as sending
+use Rattle.sender.proofs.Series.{Sound, Usable, code-is, sends-all}
+use Rattle.pspsend.specs.Capture.{turnFor, atFirst, packetsFor, entriesFor, captureRefusals, firstAnswer, makeRefusal}
+
+each-same : (P : Turn → Type 0) (t : Turn) (n : ℕ) → P t → Each P (replicate n t)
+each-same P t zero p = tt
+each-same P t (suc n) p = (p, each-same P t n p)
+
+module _ (job : Job) (limit number : ℕ) (made : makeRefusal job limit number ≡ 0) where
+  first-passed : firstAnswer job limit number ≡ 0
+  unfolding makeRefusal
+  first-passed = by (eqb (firstAnswer job limit number) 0) refl made
+    where
+      by : (t : Bool) → eqb (firstAnswer job limit number) 0 ≡ t → cond t (first (captureRefusals (entriesFor job limit number))) (firstAnswer job limit number) ≡ 0 → firstAnswer job limit number ≡ 0
+      by true e z = eqb-true (firstAnswer job limit number) 0 e
+      by false e z = z
+
+  passed : first (sendRefusals (askedFor job number atFirst (turnFor limit))) ≡ 0
+  passed = sym (code-is (askedFor job number atFirst (turnFor limit))) ∙ first-passed
+
+  usable : Usable (turnFor limit)
+  usable =
+      record {
+        limited = sending.job (askedFor job number atFirst (turnFor limit)) passed .limited;
+        output-long = sending.standing (askedFor job number atFirst (turnFor limit)) passed .output-long;
+      }
+
+  pub made-whole : job .session < 4294967296 → number < 65536 →
+      (frames : List Pieces) × (map joined frames ≡ cutBy (job .lens) (job .bytes)) × KeepsRules (job .session) (job .flow) number frames [] (packetsFor job limit number)
+  unfolding packetsFor
+  made-whole four-bytes two-bytes =
+      let p = sending.job (askedFor job number atFirst (turnFor limit)) passed in
+      let sound : Sound job = record { addressed = p .addressed; four-bytes = four-bytes; frames-sound = p .frames-sound } in
+      sends-all job sound (replicate (length (job .bytes) + 1) (turnFor limit)) number two-bytes (each-same Usable (turnFor limit) (length (job .bytes) + 1) usable)
+      (omega (arith, length-replicate {A = Turn} (length (job .bytes) + 1) (turnFor limit)))
