@@ -2,7 +2,7 @@
 use Prim.Native.Nat.{ℕ, _+_, _*_, _<_, _≤_}
 use mathlib.Core.Path.{_≡_, refl, sym, ap, _∙_}
 use mathlib.Core.Bool.{Bool, true, false, cond}
-use mathlib.Core.List.{List, [], _∷_, _++_, map, append-nil, append-assoc}
+use mathlib.Core.List.{List, [], _∷_, _++_, map}
 use native.Mathlib.Omega.{arith}
 use lib.Dec.{leb}
 use borrow.Author.Tests.{lt-ltb, le-ltb, le-leb, leb-true, ltb-false}
@@ -11,7 +11,7 @@ use Rattle.refusal.proofs.Laws.{and-left, and-right, none-applies}
 use lib.ListN.{length, set, length-append, length-set}
 use Rattle.octets.specs.Bytes.{two}
 use Rattle.octets.specs.Stretch.{part, put, joined}
-use Rattle.octets.proofs.Stretches.{length-put, part-put, put-nil, put-put, put-before, set-set-put, part-all}
+use Rattle.octets.proofs.Stretches.{length-put, part-put, put-nil, put-put, put-put-front, put-before, set-set-put, joined-map-more, part-all}
 use Rattle.capture.specs.declared.Writer.{Writer}
 use Rattle.capture.specs.File.{headLength, entryLength, longestFile, mostEntries, Entry, contentOf, bodyOf, fileOf}
 use Rattle.capture.specs.Write.{Fits, added, fileLength, within, writeRefusals, Roomy, Countable, Holds}
@@ -85,18 +85,10 @@ not-refused w z =
     rw (few, short) refl
 
 -- Entries, one more each time.
-joined-one : (f : Entry → List ℕ) (es : List Entry) (e : Entry) → joined (map f (es ++ (e ∷ []))) ≡ joined (map f es) ++ f e
-unfolding joined
-joined-one f [] e = append-nil (f e)
-joined-one f (x ∷ es) e = ap (λ (l : List ℕ). f x ++ l) (joined-one f es e) ∙ sym (append-assoc (f x) (joined (map f es)) (f e))
-
 contents-length : (es : List Entry) → length (joined (map contentOf es)) ≡ entryLength * length es
 unfolding joined
 contents-length [] = refl
 contents-length (e ∷ es) = let r = contents-length es in omega arith
-
-nothing-before : (n : ℕ) → n ≡ 0 + n
-nothing-before n = omega arith
 
 -- how long the file of these entries is
 pub file-length : (es : List Entry) → length (fileOf es) ≡ headLength + entryLength * length es + length (joined (map bodyOf es))
@@ -121,7 +113,7 @@ module _ {es : List Entry} {contents₀ bodies₀ contents bodies : List ℕ} {w
   holds-more e contents′ bodies′ c b =
       let C = joined (map contentOf es) in
       let B = joined (map bodyOf es) in
-      let more-bodies = joined-one bodyOf es e in
+      let more-bodies = joined-map-more bodyOf es e in
       record {
         entries-counted = omega (arith, h .entries-counted, length-append es (e ∷ []));
         bytes-counted = omega (arith, h .bytes-counted, ap length more-bodies, length-append B (e .body));
@@ -130,12 +122,12 @@ module _ {es : List Entry} {contents₀ bodies₀ contents bodies : List ℕ} {w
             ∙ ap (λ (l : List ℕ). put l (headLength + entryLength * w .entries) (contentOf e)) (h .contents-now)
             ∙ ap (λ (n : ℕ). put (put contents₀ headLength C) (headLength + n) (contentOf e)) (sym front)
             ∙ put-put contents₀ headLength C (contentOf e) (omega (arith, front))
-            ∙ ap (put contents₀ headLength) (sym (joined-one contentOf es e));
+            ∙ ap (put contents₀ headLength) (sym (joined-map-more contentOf es e));
         bodies-now =
             b
             ∙ ap (λ (l : List ℕ). put l (w .bytes) (e .body)) (h .bodies-now)
-            ∙ ap (λ (n : ℕ). put (put bodies₀ 0 B) n (e .body)) (h .bytes-counted ∙ nothing-before (length B))
-            ∙ put-put bodies₀ 0 B (e .body) (omega (arith, h .bytes-counted))
+            ∙ ap (λ (n : ℕ). put (put bodies₀ 0 B) n (e .body)) (h .bytes-counted)
+            ∙ put-put-front bodies₀ B (e .body) (omega (arith, h .bytes-counted))
             ∙ ap (put bodies₀ 0) (sym more-bodies);
       }
 

@@ -5,7 +5,7 @@ use native.Mathlib.Nat.{add-zero, add-assoc}
 use native.Mathlib.Numerals.{add-one}
 use native.Mathlib.Omega.{arith}
 use mathlib.Core.Logic.{_⊎_, inl, inr, ⊎-elim}
-use mathlib.Core.List.{List, [], _∷_, _++_, append-assoc, append-nil}
+use mathlib.Core.List.{List, [], _∷_, _++_, map, append-assoc, append-nil}
 use lib.ListN.{length, take, drop, set, length-append, length-drop, take-append-drop, List·getD-append}
 use lib.Seq.{length-take-le, take-length, take-take, take-append-le, take-at, take-all, drop-at, drop-drop, set-split, append-snoc, take-add, take-append-seam, drop-append-seam, getD-drop, getD-take, getD-append-add, ext-getD}
 use Rattle.octets.specs.Bytes.{byteAt}
@@ -89,6 +89,12 @@ put-put d at x y h =
     let r : drop (n + length y) (take at d ++ x ++ drop n d) ≡ drop (n + length y) d =
     sym (drop-drop (length y) n (take at d ++ x ++ drop n d)) ∙ ap (drop (length y)) (drop-at (take at d ++ x) (drop n d) n e) ∙ drop-drop (length y) n d in
     rw (t, r, length-append x y, append-assoc (take at d) x y, add-assoc at (length x) (length y)) refl
+
+-- .. the first of them at the front
+pub put-put-front : (d x y : List ℕ) → length x ≤ length d → put (put d 0 x) (length x) y ≡ put d 0 (x ++ y)
+put-put-front d x y h =
+    let e : length x ≡ 0 + length x = omega arith in
+    ap (λ (n : ℕ). put (put d 0 x) n y) e ∙ put-put d 0 x y (omega arith)
 
 -- .. in whichever order they are made
 pub put-before : (d : List ℕ) (at : ℕ) (x y : List ℕ) → at + length x ≤ length d → put (put d (at + length x) y) at x ≡ put d at (x ++ y)
@@ -185,6 +191,18 @@ pub joined-append : (a b : List (List ℕ)) → joined (a ++ b) ≡ joined a ++ 
 unfolding joined
 joined-append [] b = refl
 joined-append (s ∷ a) b = rw (joined-append a b) (sym (append-assoc s (joined a) (joined b)))
+
+-- one more at the end
+pub joined-one-more : (a : List (List ℕ)) (s : List ℕ) → joined (a ++ (s ∷ [])) ≡ joined a ++ s
+unfolding joined
+joined-one-more a s = joined-append a (s ∷ []) ∙ ap (λ (l : List ℕ). joined a ++ l) (append-nil s)
+
+pub map-one-more : {A B : Type 0} (f : A → B) (a : List A) (x : A) → map f (a ++ (x ∷ [])) ≡ map f a ++ (f x ∷ [])
+map-one-more f [] x = refl
+map-one-more f (y ∷ a) x = ap (λ l. f y ∷ l) (map-one-more f a x)
+
+pub joined-map-more : {A : Type 0} (f : A → List ℕ) (a : List A) (x : A) → joined (map f (a ++ (x ∷ []))) ≡ joined (map f a) ++ f x
+joined-map-more f a x = ap joined (map-one-more f a x) ∙ joined-one-more (map f a) (f x)
 
 pub lengths-append : (a b : List (List ℕ)) → lengths (a ++ b) ≡ lengths a ++ lengths b
 unfolding lengths

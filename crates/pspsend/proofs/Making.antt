@@ -13,7 +13,7 @@ use Rattle.refusal.specs.Refusal.{first}
 use Rattle.refusal.proofs.Laws.{and-left, and-right}
 use Rattle.octets.specs.Bytes.{two, four}
 use Rattle.octets.specs.Stretch.{part, put, joined}
-use Rattle.octets.proofs.Stretches.{length-put, part-put, part-all, joined-append}
+use Rattle.octets.proofs.Stretches.{length-put, part-put, part-all, map-one-more, joined-one-more}
 use Rattle.packet.specs.Header.{idLength}
 use Rattle.sender.specs.declared.Sent.{Sent}
 use Rattle.sender.specs.Send.{greatestLimit, sendRefusals, SendOutcome, sent, PermitsSend}
@@ -23,7 +23,7 @@ use Rattle.sender.proofs.Sending.{small}
 use Rattle.sender.proofs.Series.{code-is}
 use Rattle.sender.proofs.Alike.{alike-code, alike-answer, alike-packet}
 use Rattle.capture.specs.declared.Writer.{Writer}
-use Rattle.capture.specs.File.{longestFile, mostEntries, openPsp, headLength, entryLength, Entry, bodyOf, fileOf}
+use Rattle.capture.specs.File.{longestFile, mostEntries, openPsp, headLength, entryLength, bodyOf, fileOf}
 use Rattle.capture.specs.Write.{added, fileLength, within, writeRefusals, Roomy, Countable, contentsAfter, bodiesAfter, Holds}
 use Rattle.capture.proofs.Writing.{within-facts, not-refused, holds-none, holds-more, file-there, file-length}
 use Rattle.pspsend.specs.declared.series.Series.{Series}
@@ -195,21 +195,10 @@ module _ (job : Job) (limit number : ℕ) (contents₁ bodies₁ : List ℕ) whe
           let is = ap length (sent-packet (askedFor job (s .number) (s .position) turn) z) in
           omega (arith, fits, few, is)
 
-      joined-more : joined (g .gone ++ (packet ∷ [])) ≡ joined (g .gone) ++ packet
-      unfolding joined
-      joined-more = joined-append (g .gone) (packet ∷ []) ∙ ap (λ (x : List ℕ). joined (g .gone) ++ x) (append-nil packet)
-
-      map-more : map dataOf (g .gone ++ (packet ∷ [])) ≡ map dataOf (g .gone) ++ (dataOf packet ∷ [])
-      map-more = by (g .gone)
-        where
-          by : (l : List (List ℕ)) → map dataOf (l ++ (packet ∷ [])) ≡ map dataOf l ++ (dataOf packet ∷ [])
-          by [] = refl
-          by (x ∷ l) = ap (λ (r : List Entry). dataOf x ∷ r) (by l)
-
       going-on : Going (contentsAfter contents (s .writer) (dataOf packet)) (bodiesAfter bodies (s .writer) (dataOf packet)) (goesOn job limit s) k
       going-on =
           let n = length-append (g .gone) (packet ∷ []) in
-          let j = ap length joined-more ∙ length-append (joined (g .gone)) packet in
+          let j = ap length (joined-one-more (g .gone) packet) ∙ length-append (joined (g .gone)) packet in
           record {
             gone = g .gone ++ (packet ∷ []);
             to-come = next-packets true e ∙ sym (append-assoc (g .gone) (packet ∷ []) behind);
@@ -232,7 +221,7 @@ module _ (job : Job) (limit number : ℕ) (contents₁ bodies₁ : List ℕ) whe
               Holds (opening (job .session) ∷ map dataOf (g .gone ++ (packet ∷ []))) c₀ b₀ (contentsAfter contents (s .writer) (dataOf packet)) (bodiesAfter bodies (s .writer) (dataOf packet)) (added (s .writer) packet)
           held-more w c₀ b₀ roomy h =
               let f = within-facts (added (s .writer) packet) w in
-              rw (map-more, w)
+              rw (map-one-more dataOf (g .gone) packet, w)
               (holds-more (g .held (within-before (s .writer) packet w) c₀ b₀ roomy h) (omega (arith, f .0, roomy .contents-long)) (omega (arith, f .1, roomy .bodies-long)) (dataOf packet) _ _ refl refl)
 
     -- none

@@ -13,13 +13,10 @@ use borrow.Author.Tests.{leb-true, leb-false, ltb-true, ltb-false, lt-leb, le-le
 use Rattle.refusal.proofs.Laws.{and-left, and-right}
 use Rattle.octets.specs.Bytes.{byteAt, be16At, two}
 use Rattle.octets.specs.Stretch.{part, rest, put, joined, lengths}
-use Rattle.octets.proofs.Stretches.{length-part, part-between, length-rest, byte-rest, part-rest, length-put, part-put, put-nil, put-put, set-put, joined-append, lengths-append, length-lengths}
+use Rattle.octets.proofs.Stretches.{length-part, part-between, length-rest, byte-rest, part-rest, length-put, part-put, put-nil, put-put-front, set-put, joined-one-more, lengths-append, length-lengths}
 use Rattle.octets.proofs.Numbers.{two-reads-back}
 use Rattle.sender.specs.Rules.{Each}
 use Rattle.pspsend.specs.Frames.{lengthBytes, packed, framesFile, standsWhole, frontFrame, behindFront, wholeFrames, leftBehind, most, framesIn, spoilt, Unpacks}
-
-nothing-before : (n : ℕ) → n ≡ 0 + n
-nothing-before n = omega arith
 
 -- at a place of the file
 be16-rest : (l : List ℕ) (at : ℕ) → be16At (rest l at) 0 ≡ be16At l at
@@ -119,7 +116,7 @@ module _ (file bytes₀ lens₀ : List ℕ) (bytes-long : length file ≤ length
           ap (λ (n : ℕ). wholeFrames n (rest file at)) more ∙ rw (stands, front, behind) refl in
           let next-left : leftBehind (most - count) (rest file at) ≡ leftBehind (most - (count + 1)) (rest file (at + lengthBytes + size)) =
           ap (λ (n : ℕ). leftBehind n (rest file at)) more ∙ rw (stands, behind) refl in
-          let joined-more : joined (u .taken ++ (f ∷ [])) ≡ J ++ f = joined-append (u .taken) (f ∷ []) ∙ ap (λ (x : List ℕ). J ++ x) (append-nil f) in
+          let joined-more : joined (u .taken ++ (f ∷ [])) ≡ J ++ f = joined-one-more (u .taken) f in
           let lengths-more : lengths (u .taken ++ (f ∷ [])) ≡ L ++ (size ∷ []) = lengths-append (u .taken) (f ∷ []) ∙ ap (λ (n : ℕ). L ++ (n ∷ [])) long in
           record {
             taken = u .taken ++ (f ∷ []);
@@ -129,12 +126,12 @@ module _ (file bytes₀ lens₀ : List ℕ) (bytes-long : length file ≤ length
             few = omega arith;
             total-is = omega (arith, u .total-is, ap length joined-more, length-append J f, long);
             bytes-now =
-                b ∙ ap (λ (x : List ℕ). put x total f) (u .bytes-now) ∙ ap (λ (n : ℕ). put (put bytes₀ 0 J) n f) (u .total-is ∙ nothing-before (length J))
-                ∙ put-put bytes₀ 0 J f (omega (arith, u .total-is, u .short, u .inside)) ∙ ap (put bytes₀ 0) (sym joined-more);
+                b ∙ ap (λ (x : List ℕ). put x total f) (u .bytes-now) ∙ ap (λ (n : ℕ). put (put bytes₀ 0 J) n f) (u .total-is)
+                ∙ put-put-front bytes₀ J f (omega (arith, u .total-is, u .short, u .inside)) ∙ ap (put bytes₀ 0) (sym joined-more);
             lens-now =
                 l ∙ set-put lens count size entry-there ∙ ap (λ (x : List ℕ). put x count (size ∷ [])) (u .lens-now)
-                ∙ ap (λ (n : ℕ). put (put lens₀ 0 L) n (size ∷ [])) (u .counted ∙ sym (length-lengths (u .taken)) ∙ nothing-before (length L))
-                ∙ put-put lens₀ 0 L (size ∷ []) (omega (arith, length-lengths (u .taken), u .counted, u .few)) ∙ ap (put lens₀ 0) (sym lengths-more);
+                ∙ ap (λ (n : ℕ). put (put lens₀ 0 L) n (size ∷ [])) (u .counted ∙ sym (length-lengths (u .taken)))
+                ∙ put-put-front lens₀ L (size ∷ []) (omega (arith, length-lengths (u .taken), u .counted, u .few)) ∙ ap (put lens₀ 0) (sym lengths-more);
             inside = omega (arith, there);
             short = omega (arith, u .short);
           }

@@ -5,7 +5,7 @@ use Prim.Native.Nat.{ℕ, zero, suc, _+_, _-_, _*_, _<_, _≤_}
 use mathlib.Core.Path.{_≡_, refl, sym, ap, _∙_}
 use mathlib.Core.Bool.{Bool, true, false, cond}
 use mathlib.Core.Logic.{_⊎_, ⊎-elim}
-use mathlib.Core.List.{List, [], _∷_, _++_, map, append-nil}
+use mathlib.Core.List.{List, [], _∷_, _++_, map}
 use native.Mathlib.Omega.{arith}
 use native.Mathlib.Nat.{eq-or-lt-of-le, mul-suc, not-suc-le-zero}
 use native.Mathlib.Numerals.{add-one}
@@ -15,11 +15,11 @@ use lib.Seq.{getD-at}
 use borrow.Author.Tests.{ltb-true, leb-true, eq-eqb}
 use Rattle.refusal.proofs.Laws.{and-left, and-right}
 use Rattle.octets.specs.Stretch.{joined}
-use Rattle.octets.proofs.Stretches.{length-part, joined-append}
+use Rattle.octets.proofs.Stretches.{length-part, joined-map-more}
 use Rattle.flow.specs.Flow.{longest}
 use Rattle.packet.specs.Segments.{Segment}
 use Rattle.sender.specs.declared.Position.{Position}
-use Rattle.sender.specs.Cut.{frameLength, leftOf, indexOf, segmentFrom, after, Cut, leastRoom, goesOn, sizeOfNext, place, cut}
+use Rattle.sender.specs.Cut.{frameLength, leftOf, indexOf, segmentFrom, nextFrame, fartherOn, after, Cut, leastRoom, goesOn, sizeOfNext, place, cut}
 use Rattle.sender.specs.Packet.{bodyOf}
 use Rattle.sender.specs.Carried.{Carries, Carried}
 use Rattle.sender.proofs.Reading.{none, nth}
@@ -35,14 +35,6 @@ nth-last segs s k e = getD-at segs s [] none k (sym e)
 pub length-more : (segs : List Segment) (s : Segment) → length (segs ++ (s ∷ [])) ≡ length segs + 1
 length-more segs s = length-append segs (s ∷ [])
 
-map-more : {B : Type 0} (f : Segment → B) (segs : List Segment) (s : Segment) → map f (segs ++ (s ∷ [])) ≡ map f segs ++ (f s ∷ [])
-map-more f [] s = refl
-map-more f (x ∷ segs) s = ap (λ l. f x ∷ l) (map-more f segs s)
-
-pub joined-more : (f : Segment → List ℕ) (segs : List Segment) (s : Segment) → joined (map f (segs ++ (s ∷ []))) ≡ joined (map f segs) ++ f s
-unfolding joined
-joined-more f segs s = ap joined (map-more f segs s) ∙ joined-append (map f segs) (f s ∷ []) ∙ ap (λ (l : List ℕ). joined (map f segs) ++ l) (append-nil (f s))
-
 -- a property of all segments so far, and of one more
 each-more : (P : Segment → Type 0) (segs : List Segment) (s : Segment) → ((k : ℕ) → k < length segs → P (nth segs k)) → P s →
     (k : ℕ) → k < length (segs ++ (s ∷ [])) → P (nth (segs ++ (s ∷ [])) k)
@@ -51,12 +43,6 @@ each-more P segs s all p k l =
     (λ (e : k ≡ length segs). rw (nth-last segs s k e) p)
     (λ (b : k < length segs). rw (nth-before segs s k b) (all k b))
     (eq-or-lt-of-le (let n = length-more segs s in let h : k ≤ length segs = omega arith in h))
-
-abbrev behindLast : Position → Position
-behindLast at = record { frame = at .frame + 1; offset = 0 }
-
-abbrev behindPart : Position → ℕ → Position
-behindPart at n = record { frame = at .frame; offset = at .offset + n }
 
 module _ (width : ℕ) (bytes lens : List ℕ) (frames : Framed (length bytes) lens) (room : ℕ) (from : Position) where
   pub record Cutting (c : Cut) : Type 0 where
@@ -121,7 +107,7 @@ module _ (width : ℕ) (bytes lens : List ℕ) (frames : Framed (length bytes) l
     pub place-keeps : Cutting (place width bytes lens c)
     place-keeps =
         let n = length-more (c .segments) segment in
-        let j = joined-more bodyOf (c .segments) segment in
+        let j = joined-map-more bodyOf (c .segments) segment in
         let long : length (joined (map bodyOf (c .segments ++ (segment ∷ [])))) ≡ length (joined (map bodyOf (c .segments))) + size =
         ap length j ∙ length-append (joined (map bodyOf (c .segments))) (segment .body) ∙ ap (λ (m : ℕ). length (joined (map bodyOf (c .segments))) + m) body-length in
         let wide : width * length (c .segments ++ (segment ∷ [])) ≡ width * length (c .segments) + width =
@@ -136,7 +122,7 @@ module _ (width : ℕ) (bytes lens : List ℕ) (frames : Framed (length bytes) l
           begun = λ i l z. begun-more i (omega (arith, n)) z;
           ended = λ i l z. ended-more i (omega (arith, n)) (λ e. z (e ∙ sym n));
           all-ended = λ r. each-more (λ s. s .ends ≡ true) (c .segments) segment (k .all-ended room-enough) (eq-eqb size (leftOf lens (c .position)) (ends-then r));
-          at-start = λ r _. ap (λ (t : Bool). (cond t (behindLast (c .position)) (behindPart (c .position) size)) .offset) (eq-eqb size (leftOf lens (c .position)) (ends-then r));
+          at-start = λ r _. ap (λ (t : Bool). (cond t (nextFrame (c .position)) (fartherOn (c .position) size)) .offset) (eq-eqb size (leftOf lens (c .position)) (ends-then r));
         }
       where
         begun-more : (i : ℕ) → i ≤ length (c .segments) → (i ≡ 0 → ⊥) → (nth (c .segments ++ (segment ∷ [])) i) .begins ≡ true

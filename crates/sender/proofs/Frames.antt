@@ -18,7 +18,7 @@ use Rattle.octets.proofs.Stretches.{length-part, byte-rest, part-none, part-par
 use Rattle.flow.specs.Flow.{longest}
 use Rattle.packet.specs.Segments.{Segment}
 use Rattle.sender.specs.declared.Position.{Position}
-use Rattle.sender.specs.Cut.{frameLength, frameStart, leftOf, indexOf}
+use Rattle.sender.specs.Cut.{frameLength, frameStart, leftOf, indexOf, nextFrame, fartherOn}
 use Rattle.sender.specs.Carried.{Carries, Carried}
 use Rattle.sender.specs.Rules.{Each, Pieces, wholeFrame, begunFrame, inTurn, frameSized}
 use Rattle.sender.proofs.Positions.{Framed, left-within}
@@ -97,12 +97,6 @@ module _ (bytes lens : List ℕ) (f : Framed (length bytes) lens) where
       less-none : (n : ℕ) → n - 0 ≡ n
       less-none n = omega arith
 
-  abbrev behindLast : Position → Position
-  behindLast at = record { frame = at .frame + 1; offset = 0 }
-
-  abbrev behindPart : Position → ℕ → Position
-  behindPart at n = record { frame = at .frame; offset = at .offset + n }
-
   module _ (at end : Position) (s : Segment) (segs : List Segment) (c : Carries bytes lens at s) where
     abbrev size : ℕ
     size = length (s .body)
@@ -118,7 +112,7 @@ module _ (bytes lens : List ℕ) (f : Framed (length bytes) lens) where
         again b q u r = rw (q, r) refl
 
     -- it ends its frame
-    on-last : eqb size (leftOf lens at) ≡ true → Going bytes lens true (behindLast at) segs end → Going bytes lens (eqb (at .offset) 0) at (s ∷ segs) end
+    on-last : eqb size (leftOf lens at) ≡ true → Going bytes lens true (nextFrame at) segs end → Going bytes lens (eqb (at .offset) 0) at (s ∷ segs) end
     unfolding wholeFrame joined
     on-last e g =
         let all : size ≡ leftOf lens at = eqb-true size (leftOf lens at) e in
@@ -126,31 +120,31 @@ module _ (bytes lens : List ℕ) (f : Framed (length bytes) lens) where
         (at-start (at .frame + 1) segs end g)
 
     -- it does not
-    on-part : eqb size (leftOf lens at) ≡ false → Going bytes lens false (behindPart at size) segs end → Going bytes lens (eqb (at .offset) 0) at (s ∷ segs) end
+    on-part : eqb size (leftOf lens at) ≡ false → Going bytes lens false (fartherOn at size) segs end → Going bytes lens (eqb (at .offset) 0) at (s ∷ segs) end
     unfolding wholeFrame begunFrame joined
     on-part e (stays ps q same further its-bytes filled) =
         let n = length-append (s .body) (joined ps) in
-        let index : indexOf lens (behindPart at size) ≡ indexOf lens at + size = omega arith in
+        let index : indexOf lens (fartherOn at size) ≡ indexOf lens at + size = omega arith in
         stays (s .body ∷ ps) (rw q (ap (λ (x : Segment). x ∷ begunFrame false ps) (segment-is false e))) same (omega (arith, further, n))
         (ap (λ (l : List ℕ). l ++ joined ps) body-is
         ∙ ap (λ (l : List ℕ). part bytes (indexOf lens at) size ++ l) (its-bytes ∙ ap (λ (k : ℕ). part bytes k (length (joined ps))) index)
         ∙ part-part bytes (indexOf lens at) size (length (joined ps)) ∙ ap (part bytes (indexOf lens at)) (sym n))
         (c .some, filled)
     on-part e (leaves p ps more q some its-bytes a) =
-        let index : indexOf lens (behindPart at size) ≡ indexOf lens at + size = omega arith in
-        let all : size + leftOf lens (behindPart at size) ≡ leftOf lens at = omega (arith, c .of-the-frame, some) in
+        let index : indexOf lens (fartherOn at size) ≡ indexOf lens at + size = omega arith in
+        let all : size + leftOf lens (fartherOn at size) ≡ leftOf lens at = omega (arith, c .of-the-frame, some) in
         leaves (s .body) (p ∷ ps) more (rw q (ap (λ (x : Segment). x ∷ (wholeFrame false (p ∷ ps) ++ more)) (segment-is false e))) (omega (arith, c .some, c .of-the-frame))
         (ap (λ (l : List ℕ). l ++ joined (p ∷ ps)) body-is
-        ∙ ap (λ (l : List ℕ). part bytes (indexOf lens at) size ++ l) (its-bytes ∙ ap (λ (k : ℕ). part bytes k (leftOf lens (behindPart at size))) index)
-        ∙ part-part bytes (indexOf lens at) size (leftOf lens (behindPart at size)) ∙ ap (part bytes (indexOf lens at)) all)
+        ∙ ap (λ (l : List ℕ). part bytes (indexOf lens at) size ++ l) (its-bytes ∙ ap (λ (k : ℕ). part bytes k (leftOf lens (fartherOn at size))) index)
+        ∙ part-part bytes (indexOf lens at) size (leftOf lens (fartherOn at size)) ∙ ap (part bytes (indexOf lens at)) all)
         a
 
     on-one : ((from : Position) → Carried bytes lens from segs end → Going bytes lens (eqb (from .offset) 0) from segs end) →
-        (t : Bool) → eqb size (leftOf lens at) ≡ t → Carried bytes lens (cond t (behindLast at) (behindPart at size)) segs end → Going bytes lens (eqb (at .offset) 0) at (s ∷ segs) end
-    on-one others true e p = on-last e (others (behindLast at) p)
+        (t : Bool) → eqb size (leftOf lens at) ≡ t → Carried bytes lens (cond t (nextFrame at) (fartherOn at size)) segs end → Going bytes lens (eqb (at .offset) 0) at (s ∷ segs) end
+    on-one others true e p = on-last e (others (nextFrame at) p)
     on-one others false e p =
         let later : eqb (at .offset + size) 0 ≡ false = ne-eqb (at .offset + size) 0 (λ z. omega (arith, c .some)) in
-        on-part e (rw later at (others (behindPart at size) p))
+        on-part e (rw later at (others (fartherOn at size) p))
 
   going : (at end : Position) (segs : List Segment) → Carried bytes lens at segs end → Going bytes lens (eqb (at .offset) 0) at segs end
   unfolding begunFrame joined

@@ -15,7 +15,7 @@ use Rattle.octets.proofs.Counts.{none-at, or-false-left, or-false-right, sum-mo
 use Rattle.flow.specs.Flow.{longest}
 use Rattle.packet.specs.Segments.{Segment}
 use Rattle.sender.specs.declared.Position.{Position}
-use Rattle.sender.specs.Cut.{frameLength, frameStart, leftOf, indexOf, after}
+use Rattle.sender.specs.Cut.{frameLength, frameStart, leftOf, indexOf, nextFrame, fartherOn, after}
 use Rattle.sender.specs.Packet.{bodyOf}
 use Rattle.sender.specs.Send.{mostFrames, badLength, badFrames, outside}
 use Rattle.sender.specs.Carried.{Carried}
@@ -70,7 +70,7 @@ inside lens at h =
 -- One step on.
 module _ (lens : List ℕ) (at : Position) (n : ℕ) (some : 1 ≤ n) (left : n ≤ leftOf lens at) where
   abbrev after-by : Bool → Position
-  after-by t = cond t (record { frame = at .frame + 1; offset = 0 }) (record { frame = at .frame; offset = at .offset + n })
+  after-by t = cond t (nextFrame at) (fartherOn at n)
 
   pub after-place : indexOf lens (after lens at n) ≡ indexOf lens at + n
   unfolding frameStart

@@ -11,7 +11,7 @@ use borrow.Author.Tests.{ltb-true, ltb-false}
 use Rattle.refusal.proofs.Laws.{and-left, and-right}
 use Rattle.octets.specs.Bytes.{two, four}
 use Rattle.octets.specs.Stretch.{part, put, joined}
-use Rattle.octets.proofs.Stretches.{length-put, put-nil, put-put, set-set-put}
+use Rattle.octets.proofs.Stretches.{length-put, put-nil, put-put, set-set-put, joined-map-more}
 use Rattle.packet.specs.Header.{idLength, shortestPacket, sBit}
 use Rattle.packet.specs.Segments.{Segment, entryWidth}
 use Rattle.sender.specs.declared.Position.{Position}
@@ -22,7 +22,7 @@ use Rattle.sender.specs.Send.{mostSegments}
 use Rattle.sender.specs.Placed.{entriesAt, Placeable, sizeFor, positionAfter, placedNext, entryFor, withEntry, Ready, cutOf, Written}
 use Rattle.sender.proofs.Reading.{length-entries}
 use Rattle.sender.proofs.Positions.{Framed, framed, inside, place-within, carried-place, carried-bytes}
-use Rattle.sender.proofs.Cutting.{Cutting, cutting-start, frames-remain, room-enough, offset-below, body-length, place-keeps, cut-turn, cut-stops, cut-none, length-more, joined-more}
+use Rattle.sender.proofs.Cutting.{Cutting, cutting-start, frames-remain, room-enough, offset-below, body-length, place-keeps, cut-turn, cut-stops, cut-none, length-more}
 
 -- The header.
 module _ (d : List ℕ) (session flow count number : ℕ) (long : shortestPacket ≤ length d) where
@@ -150,8 +150,8 @@ module _ (bytes lens : List ℕ) (room : ℕ) (from : Position) (output : List �
           let s = segmentFrom bytes lens (p .position) (sizeFor lens p) in
           let size = body-length entryWidth bytes lens frames room from c (w .cutting) cut-goes in
           let long = length-more (w .placed) s in
-          let bodies = joined-more bodyOf (w .placed) s in
-          let entries = joined-more entryOf (w .placed) s in
+          let bodies = joined-map-more bodyOf (w .placed) s in
+          let entries = joined-map-more entryOf (w .placed) s in
           let left : mostSegments - p .count ≡ suc (mostSegments - (p .count + 1)) = omega (arith, one-more) in
           let entry : entryOf s ≡ entryFor lens p =
           ap (λ (n : ℕ). two (entryNumber (s .begins) (s .ends) n)) size in

@@ -37,12 +37,15 @@ segmentFrom bytes lens at n =
       body = part bytes (indexOf lens at) n;
     }
 
--- the position behind those n bytes; behind a frame's last byte it is the next frame, offset 0
+-- The position behind those n bytes: behind a frame's last byte it is the next frame, offset 0, and else farther on in the same frame.
+abbrev pub nextFrame : Position → Position
+nextFrame at = record { frame = at .frame + 1; offset = 0 }
+
+abbrev pub fartherOn : Position → ℕ → Position
+fartherOn at n = record { frame = at .frame; offset = at .offset + n }
+
 abbrev pub after : List ℕ → Position → ℕ → Position
-after lens at n =
-    cond (eqb n (leftOf lens at))
-    (record { frame = at .frame + 1; offset = 0 })
-    (record { frame = at .frame; offset = at .offset + n })
+after lens at n = cond (eqb n (leftOf lens at)) (nextFrame at) (fartherOn at n)
 
 -- How far a cut has come: the room that is left, the position, and the segments placed.
 pub record Cut : Type 0 where

@@ -13,7 +13,7 @@ use Rattle.packet.specs.Header.{shortestPacket}
 use Rattle.packet.specs.Segments.{entryWidth}
 use Rattle.sender.specs.declared.Position.{Position}
 use Rattle.sender.specs.declared.Progress.{Progress}
-use Rattle.sender.specs.Cut.{frameLength, leftOf, after, Cut, leastRoom, cut}
+use Rattle.sender.specs.Cut.{frameLength, leftOf, nextFrame, fartherOn, after, Cut, leastRoom, cut}
 use Rattle.sender.specs.Packet.{entryNumber, entryOf, bodyOf}
 use Rattle.sender.specs.Send.{mostFrames, mostSegments, greatestLimit, badFrames, outside}
 
@@ -46,7 +46,7 @@ placedNext lens p =
     }
 
 abbrev pub positionAfter : Position → ℕ → Bool → Position
-positionAfter at n ends = cond ends (record { frame = at .frame + 1; offset = 0 }) (record { frame = at .frame; offset = at .offset + n })
+positionAfter at n ends = cond ends (nextFrame at) (fartherOn at n)
 
 abbrev pub entryFor : List ℕ → Progress → List ℕ
 entryFor lens p = two (entryNumber (eqb (p .position .offset) 0) (eqb (sizeFor lens p) (leftOf lens (p .position))) (sizeFor lens p))
