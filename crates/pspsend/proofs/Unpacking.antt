@@ -198,7 +198,7 @@ module _ (file bytes₀ lens₀ : List ℕ) (bytes-long : length file ≤ length
           }
 
 -- The file of frames reads back as these frames, and leaves nothing.
-abbrev Sayable : List ℕ → Type 0
+abbrev pub Sayable : List ℕ → Type 0
 Sayable f = length f < 65536
 
 module _ (f behind : List ℕ) (short : Sayable f) where

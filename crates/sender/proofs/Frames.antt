@@ -20,7 +20,7 @@ use Rattle.packet.specs.Segments.{Segment}
 use Rattle.sender.specs.declared.Position.{Position}
 use Rattle.sender.specs.Cut.{frameLength, frameStart, leftOf, indexOf, nextFrame, fartherOn}
 use Rattle.sender.specs.Carried.{Carries, Carried}
-use Rattle.sender.specs.Rules.{Each, Pieces, wholeFrame, begunFrame, inTurn, frameSized}
+use Rattle.sender.specs.Rules.{Each, Pieces, wholeFrame, begunFrame, inTurn, FrameSized}
 use Rattle.sender.proofs.Positions.{Framed, left-within}
 
 -- the bytes of frame i; and of n frames from frame i on
@@ -39,7 +39,7 @@ pub record Apart (bytes lens : List ℕ) (from : ℕ) (segs : List Segment) (end
   pub frames : List Pieces
   pub begun : Pieces
   pub in-order : segs ≡ inTurn frames ++ begunFrame true begun
-  pub sizes : Each frameSized frames
+  pub sizes : Each FrameSized frames
   pub reaches : end .frame ≡ from + length frames
   pub their-bytes : map joined frames ≡ framesFrom bytes lens from (length frames)
   pub begun-bytes : joined begun ≡ part bytes (frameStart lens (end .frame)) (end .offset)

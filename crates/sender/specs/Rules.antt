@@ -47,14 +47,14 @@ unfoldable pub allSegments : List (List ℕ) → List Segment
 allSegments [] = []
 allSegments (p ∷ more) = segmentsOf p ++ allSegments more
 
-abbrev pub frameSized : Pieces → Type 0
-frameSized f = (1 ≤ length (joined f)) × (length (joined f) ≤ longest)
+abbrev pub FrameSized : Pieces → Type 0
+FrameSized f = (1 ≤ length (joined f)) × (length (joined f) ≤ longest)
 
 abbrev pub Addressed : ℕ → ℕ → List ℕ → Type 0
 Addressed session flow packet = (sessionId overIp packet ≡ session) × (flowId (sub overIp packet) ≡ flow)
 
 pub record KeepsRules (session flow start : ℕ) (frames : List Pieces) (unfinished : Pieces) (packets : List (List ℕ)) : Type 0 where
-  pub sizes : Each frameSized frames
+  pub sizes : Each FrameSized frames
   pub passing : Each (λ p. check overIp kindPsp p ≡ 0) packets
   pub addressed : Each (Addressed session flow) packets
   pub numbered : (i : ℕ) → i < length packets → number (sub overIp (getD packets i [])) ≡ numberAt start i
