@@ -12,7 +12,7 @@ use Rattle.sender.specs.declared.Position.{Position}
 use Rattle.sender.specs.Cut.{frameStart, cut}
 use Rattle.sender.specs.Packet.{packetOf}
 use Rattle.sender.specs.Send.{Asked, SendOutcome, cutFor, written, refused, sentBy, sent}
-use Rattle.sender.specs.Series.{seriesPackets, seriesEnd}
+use Rattle.sender.specs.Series.{Job, Turn, seriesPackets, seriesEnd}
 
 abbrev at : ℕ → ℕ → Position
 at frame offset = record { frame = frame; offset = offset }
@@ -54,6 +54,21 @@ m12 : (seriesPackets (record { session = 0x101; flow = 1; bytes = twoFrames; len
     (replicate 3 (record { limit = 16; output = replicate 20 0 })) ≡ at 2 0)
 unfolding seriesPackets seriesEnd sent sentBy written refused cutFor cut packetOf frameStart part put joined any sumTo next
 m12 = (refl, refl)
+
+-- each call has its own limit; and the series stops at a call that is refused, though a later one would not be
+abbrev turn : ℕ → Turn
+turn limit = record { limit = limit; output = replicate 24 0 }
+
+abbrev job : Job
+job = record { session = 0x101; flow = 1; bytes = twoFrames; lens = 6 ∷ 9 ∷ [] }
+
+series : (seriesPackets job 0xFFFF (at 0 0) (turn 20 ∷ turn 16 ∷ [])
+    ≡ (0x00 ∷ 0x00 ∷ 0x01 ∷ 0x01 ∷ 0x41 ∷ 0x02 ∷ 0xFF ∷ 0xFF ∷ 0xC0 ∷ 0x06 ∷ 0x80 ∷ 0x06 ∷ 0x11 ∷ 0x12 ∷ 0x13 ∷ 0x14 ∷ 0x15 ∷ 0x16 ∷ 0x21 ∷ 0x22 ∷ 0x23 ∷ 0x24 ∷ 0x25 ∷ 0x26 ∷ [])
+    ∷ (0x00 ∷ 0x00 ∷ 0x01 ∷ 0x01 ∷ 0x41 ∷ 0x01 ∷ 0x00 ∷ 0x00 ∷ 0x40 ∷ 0x03 ∷ 0x27 ∷ 0x28 ∷ 0x29 ∷ []) ∷ [])
+    × (seriesPackets job 0xFFFF (at 0 0) (turn 16 ∷ turn 15 ∷ turn 16 ∷ []) ≡ A ∷ [])
+    × (seriesEnd job 0xFFFF (at 0 0) (turn 16 ∷ turn 15 ∷ turn 16 ∷ []) ≡ at 1 2)
+unfolding seriesPackets seriesEnd sent sentBy written refused cutFor cut packetOf frameStart part put joined any sumTo next
+series = (refl, refl, refl)
 
 -- A refused call: the position and the number that it was given, and the output as it was.
 gives-back : sent (asks 15 0xFFFF (at 1 2))

@@ -10,3 +10,4 @@ pub mod Series
 pub mod Unique
 pub mod Examples
 pub mod Alike
+pub mod Excluded
