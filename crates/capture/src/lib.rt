@@ -1,6 +1,8 @@
-// Capture files (document 01, "Capture file and listing"): contents first, then bodies. So far they are written here, and not yet read.
+// Capture files (document 01, "Capture file and listing"): contents first, then bodies. `reader` reads them; this file writes them.
 //
 // Contents and bodies are written into two slices, the one behind the other in the file. How many entries there are is written last.
+pub mod reader;
+
 ghost use mathlib.Core.Path.{_≡_};
 ghost use Prim.Native.Nat.{_+_, _*_, _<_, _≤_};
 ghost use lib.ListN.{length};

@@ -67,4 +67,10 @@ pub const OUTPUT_TOO_SMALL: u32 = 36;
 // A capture file.
 pub const FILE_TOO_LONG: u32 = 41;
 
+pub const CONTENTS_CUT: u32 = 42;
+
 pub const TOO_MANY_ENTRIES: u32 = 43;
+
+pub const ENTRY_WRONG: u32 = 44;
+
+pub const BODIES_DO_NOT_FILL: u32 = 45;
