@@ -8,10 +8,10 @@ use lib.Dec.{eqb, ltb, leb}
 use lib.ListN.{length}
 use borrow.Author.Tests.{lt-ltb, le-ltb, le-leb, lt-leb, leb-true, ltb-false, eq-eqb, ne-eqb, eqb-true, not-false}
 use Rattle.refusal.specs.Refusal.{first, _when_}
-use Rattle.refusal.proofs.Laws.{none-applies}
+use Rattle.refusal.proofs.Laws.{none-applies, none-first}
 use Rattle.octets.specs.Count.{any, sumTo}
 use Rattle.octets.specs.Stretch.{part}
-use Rattle.octets.proofs.Counts.{or-false-left, or-false-right, or-same, any-none, any-more, sum-none, sum-more, sum-within}
+use Rattle.octets.proofs.Counts.{or-false-right, or-same, any-none, any-more, sum-none, sum-more, sum-within}
 use Rattle.octets.proofs.Stretches.{sliced-part}
 use Rattle.capture.specs.declared.reader.Surveyed.{Surveyed}
 use Rattle.capture.specs.File.{headLength, entryLength, longestFile, mostEntries, idBody, exactly, anyLength, noKind, isKind, takesLength, entryCount, kindAt, secondAt, bodyLength, bodyStart, wrongParts, wrongEntry, fileRefusals, fileRefusal, nthEntry, StandsAt}
@@ -156,28 +156,46 @@ module _ (file : List ℕ) where
                 let same = eq-eqb (bodyStart headLength entryLength file (entryCount headLength file)) (length file) (sym end-is ∙ h) in
                 sym (contents-pass ∙ rw (sym wrong-is ∙ right, same) refl)
 
--- A file that is not refused.
+-- What is so of a file that is not refused: the refusals 41 to 45, each denied.
 pub record Sound (file : List ℕ) : Type 0 where
+  pub short : length file ≤ longestFile
   pub few : entryCount headLength file ≤ mostEntries
-  pub headed : headLength ≤ length file
   pub contents-inside : headLength + entryLength * entryCount headLength file ≤ length file
-  pub filled : bodyStart headLength entryLength file (entryCount headLength file) ≡ length file
+  pub none-wrong : any (wrongEntry headLength entryLength file) (entryCount headLength file) ≡ false
+  pub ends : bodyStart headLength entryLength file (entryCount headLength file) ≡ length file
 
-pub sound-facts : (file : List ℕ) → fileRefusal file ≡ 0 → Sound file
+-- a file that is not refused is sound
+pub is-sound : (file : List ℕ) → fileRefusal file ≡ 0 → Sound file
 unfolding fileRefusal
-sound-facts file z =
-    let n = entryCount headLength file in
-    let r = none-applies (fileRefusals headLength entryLength file) refl z in
-    let fewer = ltb-false mostEntries n (r .1 .1 .0) in
-    let short = or-false-left (ltb (length file) headLength) (leb n mostEntries && ltb (length file) (headLength + entryLength * n)) (r .1 .0) in
-    let cut = or-false-right (ltb (length file) headLength) (leb n mostEntries && ltb (length file) (headLength + entryLength * n)) (r .1 .0) in
-    let cut-too : ltb (length file) (headLength + entryLength * n) ≡ false = sym (ap (λ (b : Bool). b && ltb (length file) (headLength + entryLength * n)) (le-leb n mostEntries fewer)) ∙ cut in
+is-sound file z =
+    let none = none-applies (fileRefusals headLength entryLength file) refl z in
+    let its-few = ltb-false mostEntries (entryCount headLength file) (none .1 .1 .0) in
+    let too-short = ltb (length file) (headLength + entryLength * entryCount headLength file) in
+    let inside : (leb (entryCount headLength file) mostEntries && too-short) ≡ false =
+    or-false-right (ltb (length file) headLength) (leb (entryCount headLength file) mostEntries && too-short) (none .1 .0) in
+    let its-end = eqb (bodyStart headLength entryLength file (entryCount headLength file)) (length file) in
     record {
-      few = fewer;
-      headed = ltb-false (length file) headLength short;
-      contents-inside = ltb-false (length file) (headLength + entryLength * n) cut-too;
-      filled = eqb-true (bodyStart headLength entryLength file n) (length file) (not-false _ (r .1 .1 .1 .1 .0));
+      short = ltb-false longestFile (length file) (none .0);
+      few = its-few;
+      contents-inside = ltb-false (length file) (headLength + entryLength * entryCount headLength file) (rw (le-leb (entryCount headLength file) mostEntries its-few) at inside);
+      none-wrong = none .1 .1 .1 .0;
+      ends = eqb-true (bodyStart headLength entryLength file (entryCount headLength file)) (length file) (not-false its-end (none .1 .1 .1 .1 .0));
     }
+
+-- .. and a sound file is not refused
+pub sound-passes : (file : List ℕ) → Sound file → fileRefusal file ≡ 0
+unfolding fileRefusal
+sound-passes file sound =
+    let n = entryCount headLength file in
+    let long : headLength ≤ length file = omega (arith, sound .contents-inside) in
+    let too-short : (ltb (length file) headLength || (leb n mostEntries && ltb (length file) (headLength + entryLength * n))) ≡ false =
+    rw (le-ltb (length file) headLength long, le-leb n mostEntries (sound .few), le-ltb (length file) (headLength + entryLength * n) (sound .contents-inside)) refl in
+    none-first (fileRefusals headLength entryLength file)
+    (le-ltb longestFile (length file) (sound .short),
+    (too-short,
+    (le-ltb mostEntries n (sound .few),
+    (sound .none-wrong,
+    (ap not (eq-eqb (bodyStart headLength entryLength file n) (length file) (sound .ends)), tt)))))
 
 -- where a walk stands, the entry and its body lie in the file
 starts-before : (file : List ℕ) (k n : ℕ) → k < n → bodyStart headLength entryLength file k + bodyLength headLength entryLength file k ≤ bodyStart headLength entryLength file n
@@ -186,13 +204,13 @@ starts-before file k n below = let w = sum-within (bodyLength headLength entryLe
 
 pub entry-inside : {file : List ℕ} {index start : ℕ} → StandsAt file index start → (headLength + entryLength * index + entryLength ≤ length file) × (index ≤ mostEntries)
 entry-inside {file} {index} {start} s =
-    let f = sound-facts file (s .sound) in
+    let f = is-sound file (s .sound) in
     (omega (arith, f .contents-inside, s .not-past), omega (arith, f .few, s .not-past))
 
 pub body-inside : {file : List ℕ} {index start size : ℕ} → StandsAt file index start → size ≡ bodyLength headLength entryLength file index → start + size ≤ length file
 body-inside {file} {index} {start} {size} s e =
-    let f = sound-facts file (s .sound) in
-    omega (arith, f .filled, s .its-start, e, starts-before file index (entryCount headLength file) (s .not-past))
+    let f = is-sound file (s .sound) in
+    omega (arith, f .ends, s .its-start, e, starts-before file index (entryCount headLength file) (s .not-past))
 
 pub body-is : {file : List ℕ} {index start size : ℕ} → StandsAt file index start → size ≡ bodyLength headLength entryLength file index →
     part file start size ≡ (nthEntry file index) .body

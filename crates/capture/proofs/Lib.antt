@@ -1,2 +1,4 @@
 pub mod Writing
 pub mod Checking
+pub mod ReadsBack
+pub mod Examples

@@ -85,7 +85,7 @@ not-refused w z =
     rw (few, short) refl
 
 -- Entries, one more each time.
-contents-length : (es : List Entry) → length (joined (map contentOf es)) ≡ entryLength * length es
+pub contents-length : (es : List Entry) → length (joined (map contentOf es)) ≡ entryLength * length es
 unfolding joined
 contents-length [] = refl
 contents-length (e ∷ es) = let r = contents-length es in omega arith

@@ -3,14 +3,15 @@
 -- that are too many for a file, or too long, are counted and not written, so that the file is refused by 41 or 43 and never cut short.
 use Prim.Native.Nat.{ℕ, _+_, _*_, _<_, _≤_}
 use mathlib.Core.Path.{_≡_}
-use mathlib.Core.Bool.{Bool, cond, _&&_}
+use mathlib.Core.Bool.{Bool, true, cond, _&&_}
 use mathlib.Core.List.{List, [], _∷_, map}
 use lib.Dec.{leb, ltb}
 use lib.ListN.{length}
 use Rattle.refusal.specs.Refusal.{Refusal, _when_}
 use Rattle.octets.specs.Stretch.{put, joined}
+use Rattle.octets.specs.Each.{Each}
 use Rattle.capture.specs.declared.Writer.{Writer}
-use Rattle.capture.specs.File.{headLength, entryLength, longestFile, mostEntries, Entry, contentOf, bodyOf}
+use Rattle.capture.specs.File.{headLength, entryLength, longestFile, mostEntries, kinds, bodyIn, isKind, takesLength, Entry, contentOf, bodyOf, fileOf}
 
 -- room for one more entry
 pub record Fits (contents bodies : List ℕ) (w : Writer) (body : List ℕ) : Type 0 where
@@ -59,3 +60,14 @@ pub record Holds (entries : List Entry) (contents₀ bodies₀ contents bodies :
   pub bytes-counted : w .bytes ≡ length (joined (map bodyOf entries))
   pub contents-now : contents ≡ put contents₀ headLength (joined (map contentOf entries))
   pub bodies-now : bodies ≡ put bodies₀ 0 (joined (map bodyOf entries))
+
+-- An entry may be written if its kind is in the table, and the kind takes the length of its body.
+pub record Right (e : Entry) : Type 0 where
+  pub its-kind : isKind (bodyIn kinds (e .kind)) ≡ true
+  pub its-length : takesLength (bodyIn kinds (e .kind)) (length (e .body)) ≡ true
+
+-- Entries that may be written as a file. (That two bytes can say the length of each body need not be asked: no body is longer than the file.)
+pub record Writable (es : List Entry) : Type 0 where
+  pub few : length es ≤ mostEntries
+  pub short : length (fileOf es) ≤ longestFile
+  pub right : Each Right es

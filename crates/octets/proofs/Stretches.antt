@@ -7,7 +7,7 @@ use native.Mathlib.Omega.{arith}
 use mathlib.Core.Logic.{_⊎_, inl, inr, ⊎-elim}
 use mathlib.Core.List.{List, [], _∷_, _++_, map, append-assoc, append-nil}
 use lib.ListN.{length, take, drop, set, length-append, length-drop, take-append-drop, List·getD-append}
-use lib.Seq.{length-take-le, take-length, take-take, take-append-le, take-at, take-all, drop-at, drop-drop, set-split, append-snoc, take-add, take-append-seam, drop-append-seam, getD-drop, getD-take, getD-append-add, ext-getD}
+use lib.Seq.{length-take-le, take-length, take-take, take-append-le, take-at, take-all, drop-at, drop-cons, drop-drop, set-split, append-snoc, take-add, take-append-seam, drop-append-seam, getD-drop, getD-take, getD-append-add, ext-getD}
 use Rattle.octets.specs.Bytes.{byteAt}
 use Rattle.octets.specs.Stretch.{part, rest, put, joined, lengths, cutBy}
 
@@ -38,10 +38,26 @@ pub part-all : (l : List ℕ) → part l 0 (length l) ≡ l
 unfolding part
 part-all l = take-length l
 
+-- a stretch of one
+pub part-one : (l : List ℕ) (i : ℕ) → i < length l → part l i 1 ≡ byteAt l i ∷ []
+unfolding part
+part-one l i h = rw (drop-cons l i 0 h) refl
+
 -- two stretches, one behind the other, are one
 pub part-part : (l : List ℕ) (from n m : ℕ) → part l from n ++ part l (from + n) m ≡ part l from (n + m)
 unfolding part
 part-part l from n m = rw (← drop-drop n from l) (sym (take-add n m (drop from l)))
+
+-- .. and from the front on
+pub part-part-front : (l : List ℕ) (n m : ℕ) → part l 0 n ++ part l n m ≡ part l 0 (n + m)
+part-part-front l n m =
+    let e : n ≡ 0 + n = omega arith in
+    ap (λ (at : ℕ). part l 0 n ++ part l at m) e ∙ part-part l 0 n m
+
+-- a stretch of two
+pub part-two : (l : List ℕ) (from : ℕ) → from + 2 ≤ length l → part l from 2 ≡ byteAt l from ∷ byteAt l (from + 1) ∷ []
+part-two l from h =
+    sym (part-part l from 1 1) ∙ rw (part-one l from (omega arith), part-one l (from + 1) (omega arith)) refl
 
 -- a stretch of bytes that were laid back to back
 pub part-between : (before x behind : List ℕ) → part (before ++ x ++ behind) (length before) (length x) ≡ x
@@ -203,6 +219,28 @@ map-one-more f (y ∷ a) x = ap (λ l. f y ∷ l) (map-one-more f a x)
 
 pub joined-map-more : {A : Type 0} (f : A → List ℕ) (a : List A) (x : A) → joined (map f (a ++ (x ∷ []))) ≡ joined (map f a) ++ f x
 joined-map-more f a x = ap joined (map-one-more f a x) ∙ joined-one-more (map f a) (f x)
+
+-- stretches back to back, before one of them, that one and behind it
+pub joined-apart : {A : Type 0} (f : A → List ℕ) (before : List A) (x : A) (behind : List A) →
+    joined (map f (before ++ x ∷ behind)) ≡ joined (map f before) ++ f x ++ joined (map f behind)
+unfolding joined
+joined-apart f [] x behind = refl
+joined-apart f (y ∷ before) x behind =
+    let front = joined (map f before) in
+    let back = joined (map f behind) in
+    ap (λ (l : List ℕ). f y ++ l) (joined-apart f before x behind) ∙ sym (append-assoc (f y) (front ++ f x) back)
+    ∙ ap (λ (l : List ℕ). l ++ back) (sym (append-assoc (f y) front (f x)))
+
+-- one of the stretches that were laid back to back, between others
+pub part-joined : {A : Type 0} (f : A → List ℕ) (head tail : List ℕ) (before : List A) (x : A) (behind : List A) →
+    part (head ++ joined (map f (before ++ x ∷ behind)) ++ tail) (length head + length (joined (map f before))) (length (f x)) ≡ f x
+part-joined f head tail before x behind =
+    let front = joined (map f before) in
+    let back = joined (map f behind) in
+    let whole : head ++ joined (map f (before ++ x ∷ behind)) ++ tail ≡ head ++ front ++ f x ++ (back ++ tail) =
+    rw (joined-apart f before x behind, ← append-assoc head (front ++ f x) back, ← append-assoc head front (f x))
+    (append-assoc (head ++ front ++ f x) back tail) in
+    rw (whole, ← length-append head front) (part-between (head ++ front) (f x) (back ++ tail))
 
 pub lengths-append : (a b : List (List ℕ)) → lengths (a ++ b) ≡ lengths a ++ lengths b
 unfolding lengths

@@ -1,6 +1,6 @@
 -- Numbers of two and four bytes, most significant byte first (document 01, "Packet layout": numbers big-endian). The elements of a list are
 -- numbers of any size here; those of a slice of bytes are below 256.
-use Prim.Native.Nat.{ℕ, _+_, _*_, _/_, _%_}
+use Prim.Native.Nat.{ℕ, _+_, _*_, _/_, _%_, _<_}
 use mathlib.Core.List.{List, [], _∷_, _++_}
 use lib.ListN.{getD}
 
@@ -8,6 +8,10 @@ use lib.ListN.{getD}
 -- which adds up the entries of a segment table, comes out the same whatever a cut entry reads as.
 abbrev pub byteAt : List ℕ → ℕ → ℕ
 byteAt bytes i = getD bytes i 0
+
+-- every element of the list is a byte
+abbrev pub AllBytes : List ℕ → Type 0
+AllBytes bytes = (i : ℕ) → byteAt bytes i < 256
 
 -- the number in the two bytes from place i on, and in the four
 abbrev pub be16At : List ℕ → ℕ → ℕ

@@ -1,3 +1,4 @@
 pub mod Bytes
 pub mod Stretch
 pub mod Count
+pub mod Each

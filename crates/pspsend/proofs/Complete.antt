@@ -11,7 +11,8 @@ use Rattle.refusal.specs.Refusal.{first}
 use Rattle.octets.specs.Stretch.{joined, cutBy}
 use Rattle.sender.specs.Send.{sendRefusals}
 use Rattle.sender.specs.Series.{Job, Turn, askedFor}
-use Rattle.sender.specs.Rules.{Each, Pieces, KeepsRules}
+use Rattle.octets.specs.Each.{Each}
+use Rattle.sender.specs.Rules.{Pieces, KeepsRules}
 use Rattle.sender.proofs.Sending as sending
 use Rattle.sender.proofs.Series.{Sound, Usable, code-is, sends-all}
 use Rattle.pspsend.specs.Capture.{turnFor, atFirst, packetsFor, entriesFor, captureRefusals, firstAnswer, makeRefusal}

@@ -15,7 +15,7 @@ use Rattle.octets.specs.Bytes.{byteAt, be16At, two}
 use Rattle.octets.specs.Stretch.{part, rest, put, joined, lengths}
 use Rattle.octets.proofs.Stretches.{length-part, part-between, length-rest, byte-rest, part-rest, length-put, part-put, put-nil, put-put-front, set-put, joined-one-more, lengths-append, length-lengths}
 use Rattle.octets.proofs.Numbers.{two-reads-back}
-use Rattle.sender.specs.Rules.{Each}
+use Rattle.octets.specs.Each.{Each}
 use Rattle.pspsend.specs.Frames.{lengthBytes, packed, framesFile, standsWhole, frontFrame, behindFront, wholeFrames, leftBehind, most, framesIn, spoilt, Unpacks}
 
 -- at a place of the file

@@ -20,7 +20,8 @@ use Rattle.packet.specs.Segments.{Segment}
 use Rattle.sender.specs.declared.Position.{Position}
 use Rattle.sender.specs.Cut.{frameLength, frameStart, leftOf, indexOf, nextFrame, fartherOn}
 use Rattle.sender.specs.Carried.{Carries, Carried}
-use Rattle.sender.specs.Rules.{Each, Pieces, wholeFrame, begunFrame, inTurn, FrameSized}
+use Rattle.octets.specs.Each.{Each}
+use Rattle.sender.specs.Rules.{Pieces, wholeFrame, begunFrame, inTurn, FrameSized}
 use Rattle.sender.proofs.Positions.{Framed, left-within}
 
 -- the bytes of frame i; and of n frames from frame i on

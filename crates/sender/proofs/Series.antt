@@ -27,7 +27,8 @@ use Rattle.sender.specs.Packet.{bodyOf}
 use Rattle.sender.specs.Send.{Asked, badAddress, badLimit, badFrames, outside, sendRefusals, written, refused, sentBy, sent}
 use Rattle.sender.specs.Carried.{Carried}
 use Rattle.sender.specs.Series.{Job, Turn, askedFor, packetLeft, seriesPackets, seriesEnd}
-use Rattle.sender.specs.Rules.{Each, Pieces, Addressed, segmentsOf, allSegments, KeepsRules}
+use Rattle.octets.specs.Each.{Each}
+use Rattle.sender.specs.Rules.{Pieces, Addressed, segmentsOf, allSegments, KeepsRules}
 use Rattle.sender.proofs.Positions.{Framed, framed, Inside, place-within, carried-append, carried-place, carried-bytes}
 use Rattle.sender.proofs.Frames.{Filled, Apart, carried-apart, framesFrom, all-frames}
 use Rattle.sender.proofs.Keeping.{Typed, sent-number, sent-inside, sent-farther, sent-passes, sent-addressed, sent-numbered, sent-carries}

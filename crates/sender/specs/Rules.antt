@@ -8,16 +8,12 @@ use mathlib.Core.Bool.{Bool, true, false}
 use mathlib.Core.List.{List, [], _∷_, _++_}
 use lib.ListN.{length, getD}
 use Rattle.octets.specs.Stretch.{joined}
+use Rattle.octets.specs.Each.{Each}
 use Rattle.flow.specs.Numbers.{numberAt}
 use Rattle.flow.specs.Flow.{longest}
 use Rattle.packet.specs.Header.{overIp, sub, sessionId, flowId, number}
 use Rattle.packet.specs.Segments.{Segment, entryWidth, segments}
 use Rattle.packet.specs.Check.{kindPsp, check}
-
--- all elements of a list have it
-abbrev pub Each : {A : Type 0} → (A → Type 0) → List A → Type 0
-Each P [] = Unit {0}
-Each P (x ∷ xs) = P x × Each P xs
 
 -- A frame as its sender cuts it: its pieces, in order. The frame is `joined pieces`.
 abbrev pub Pieces : Type 0
