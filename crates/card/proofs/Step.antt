@@ -20,7 +20,7 @@ use Rattle.table.specs.declared.Kind.the-variants as kind
 use Rattle.table.specs.declared.Table.{Table}
 use Rattle.table.specs.Rows.{rows, rowAt, flowAt}
 use Rattle.card.specs.Hear.{Heard, recordAfter}
-use Rattle.card.specs.Receive.{placeOf, mostFrames, mostBytes, Slices, Outcome, rowOf, heardBy, carriedOut, received}
+use Rattle.card.specs.Receive.{placeOf, mostFrames, mostBytes, Slices, Outcome, rowOf, heardBy, carriedOut, received, framesFound}
 use Rattle.card.proofs.Hearing.{Large, large-enough}
 use Rattle.card.proofs.Accepted.{accepted, flow-there, received-accepted}
 use Rattle.card.proofs.Limits.{accepted-bounded}
@@ -30,9 +30,9 @@ pub record Shaped (t : Table) : Type 0 where
   pub six : length (t .rows) ≡ rows
   pub four : (i : ℕ) → i < rows → length (rowAt t i .flows) ≡ flows
 
--- the frames that the caller finds: as many as the answer says, of the lengths that stand in the lengths slice
+-- the frames that the caller finds
 abbrev pub framesIn : Outcome → List (List ℕ)
-framesIn o = cutBy (part (o .slices .lengths) 0 (o .answer .frames)) (o .slices .output)
+framesIn o = framesFound (o .answer .frames) (o .slices .lengths) (o .slices .output)
 
 -- The outcome o of a call is the step h of flow k in row r.
 pub record StepOf (r k : ℕ) (h : Heard) (t : Table) (s : Slices) (o : Outcome) : Type 0 where

@@ -1,4 +1,5 @@
 pub mod Join
 pub mod Hear
 pub mod Receive
+pub mod History
 pub mod Placed

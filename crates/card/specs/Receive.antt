@@ -9,7 +9,7 @@ use mathlib.Core.List.{List, [], _∷_, _++_}
 use lib.Dec.{ltb}
 use lib.ListN.{length}
 use Rattle.refusal.specs.Refusal.{Refusal, _when_, first}
-use Rattle.octets.specs.Stretch.{part, put, joined, lengths}
+use Rattle.octets.specs.Stretch.{part, put, joined, lengths, cutBy}
 use Rattle.flow.specs.declared.Flow.{Flow}
 use Rattle.flow.specs.Flow.{longest, flows}
 use Rattle.packet.specs.Header.{overIp, sub, sessionId, flowId, beforeSession}
@@ -125,6 +125,10 @@ receivedBy (suc c) t r sub s = refused (suc c) t s
 
 unfoldable pub received : ℕ → Table → List ℕ → Slices → Outcome
 received lead t packet s = receivedBy (first (dataRefusals lead t packet s)) t (rowOf lead t packet) (sub lead packet) s
+
+-- the frames that the caller finds: as many as the answer says, of the lengths that stand in the lengths slice, back to back in the output
+abbrev pub framesFound : ℕ → List ℕ → List ℕ → List (List ℕ)
+framesFound count lens output = cutBy (part lens 0 count) output
 
 -- What the call permits, whole, over IP: t and s are the table and the slices when it is called, and o has both when it returns.
 pub record PermitsReceive (t : Table) (packet : List ℕ) (s : Slices) (o : Outcome) : Type 0 where

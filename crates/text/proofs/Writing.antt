@@ -48,7 +48,7 @@ pub wrote-copy : (a b words : List ℕ) (at : ℕ) → at + length words ≤ len
     Wrote a b at (at + length words) words
 wrote-copy a b words at h e = record { there = e ∙ ap (put a at) (part-all words); next-place = refl; inside = h }
 
-pub wrote-column : {a b c : List ℕ} {at middle next : ℕ} (n : ℕ) → Wrote a b at middle (space ∷ []) → Wrote b c middle next (decimal n) → Wrote a c at next (column n)
+pub wrote-column : {a b c : List ℕ} {at middle next : ℕ} (n : ℕ) → Wrote a b at middle space → Wrote b c middle next (decimal n) → Wrote a c at next (column n)
 unfolding column
 wrote-column n v w = wrote-then v w
 

@@ -1,11 +1,21 @@
--- Text, as a list of ASCII bytes: a number in decimal, bytes in hexadecimal; and what it means that a text was written into a slice.
+-- Text, as a list of ASCII bytes: words, a number in decimal, bytes in hexadecimal; and what it means that a text was written into a slice.
 use Prim.Native.Nat.{ℕ, zero, suc, _+_, _/_, _%_, _≤_}
+use Prim.Native.Char.{code}
+use Prim.Native.String.{String, len, charAt}
 use mathlib.Core.Path.{_≡_}
 use mathlib.Core.Bool.{cond}
 use mathlib.Core.List.{List, [], _∷_, _++_, map}
 use lib.Dec.{ltb}
 use lib.ListN.{length}
 use Rattle.octets.specs.Stretch.{put, joined}
+
+-- the bytes of a quoted text
+abbrev pub bytesFrom : ℕ → ℕ → String → List ℕ
+bytesFrom zero i words = []
+bytesFrom (suc more) i words = code (charAt words i) ∷ bytesFrom more (i + 1) words
+
+abbrev pub ascii : String → List ℕ
+ascii words = bytesFrom (len words) 0 words
 
 -- A number in decimal, without zeros in front: below ten it is one digit; else the digits of its tenth part, and its last one. A number n
 -- has no more than n + 1 digits, so that many turns are enough.
@@ -30,15 +40,15 @@ hexByte byte = hexDigit (byte / 16) ∷ hexDigit (byte % 16) ∷ []
 unfoldable pub hex : List ℕ → List ℕ
 hex bytes = joined (map hexByte bytes)
 
-abbrev pub space : ℕ
-space = 32
+abbrev pub space : List ℕ
+space = ascii " "
 
-abbrev pub newline : ℕ
-newline = 10
+abbrev pub newline : List ℕ
+newline = ascii "\n"
 
 -- a number in a column of its own
 unfoldable pub column : ℕ → List ℕ
-column n = space ∷ decimal n
+column n = space ++ decimal n
 
 -- `words` were written into a slice at a place, and `next` is the place behind them; every other byte is as it was
 pub record Wrote (before behind : List ℕ) (at next : ℕ) (words : List ℕ) : Type 0 where

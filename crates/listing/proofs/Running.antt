@@ -1,0 +1,114 @@
+-- Running one entry: the call that it stands for, and what that call comes to.
+use Prim.Native.Nat.{ℕ, _+_, _<_, _≤_}
+use mathlib.Core.Path.{_≡_, refl, sym, ap, subst, _∙_}
+use mathlib.Core.Bool.{Bool, true, false, cond}
+use mathlib.Core.List.{List}
+use native.Mathlib.Omega.{arith}
+use lib.Dec.{eqb}
+use lib.ListN.{length}
+use borrow.Author.Tests.{eq-eqb, ne-eqb, eqb-true}
+use Rattle.octets.specs.Bytes.{be32At}
+use Rattle.table.specs.declared.Table.{Table}
+use Rattle.table.specs.declared.Mode.the-variants as mode
+use Rattle.table.specs.Calls.{opened, closed}
+use Rattle.card.specs.declared.Received.{Received}
+use Rattle.card.specs.Receive.{Slices, asSlices, Outcome, PermitsReceive}
+use Rattle.card.specs.History.{Card, Call, opens, closes, hands, Answer, handed, answer, after}
+use Rattle.capture.specs.File.{Entry, openPsp, openDmpt, closing, idBody, bodyIn, kinds, takesLength}
+use Rattle.listing.specs.Run.{Running, callOf, outputAfter, lengthsAfter, answerTo, runOne}
+use Rattle.listing.specs.Walk.{asRunning, answered, Counts, RunsTo}
+
+abbrev entryOf : ℕ → List ℕ → Entry
+entryOf kind body = record { kind = kind; body = body }
+
+-- what an entry comes to, by the call that it stands for
+ran-as : (before : Running) (e : Entry) (x : Call) (r : Received) (holding output lens : List ℕ) → callOf before e ≡ x → Counts r (answer (before .card) x) →
+    asRunning (r .table) holding output lens
+    ≡ record { card = after (before .card) x; output = outputAfter x (before .output) (answer (before .card) x); lengths = lengthsAfter x (before .lengths) (answer (before .card) x) } →
+    RunsTo before e r holding output lens
+unfolding runOne
+ran-as before e x r holding output lens same counts stands =
+    record {
+      its-counts = subst (λ (y : Call). Counts r (answer (before .card) y)) (sym same) counts;
+      stands =
+          stands
+          ∙ ap (λ (y : Call). asRunning (after (before .card) y .table) (after (before .card) y .holding)
+          (outputAfter y (before .output) (answer (before .card) y)) (lengthsAfter y (before .lengths) (answer (before .card) y))) (sym same);
+    }
+
+module _ (t : Table) (holding output lens : List ℕ) (kind : ℕ) (body : List ℕ) where
+  abbrev before : Running
+  before = asRunning t holding output lens
+
+  module _ (psp : kind ≡ openPsp) where
+    psp-call : callOf before (entryOf kind body) ≡ opens mode.Psp (be32At body 0)
+    psp-call = rw (eq-eqb kind openPsp psp) refl
+
+    pub psp-body : takesLength (bodyIn kinds kind) (length body) ≡ true → 0 + 3 < length body
+    psp-body takes = let e : eqb (length body) idBody ≡ true = rw (eq-eqb kind openPsp psp) at takes in omega (arith, eqb-true (length body) idBody e)
+
+    pub opens-psp : (id : ℕ) (r : Received) → id ≡ be32At body 0 → r ≡ answered (opened t id mode.Psp .code) 0 (opened t id mode.Psp .table) →
+        RunsTo before (entryOf kind body) r holding output lens
+    unfolding answer after
+    opens-psp id r i e =
+        let e′ : r ≡ answered (opened t (be32At body 0) mode.Psp .code) 0 (opened t (be32At body 0) mode.Psp .table) =
+        e ∙ ap (λ (x : ℕ). answered (opened t x mode.Psp .code) 0 (opened t x mode.Psp .table)) i in
+        subst (λ (x : Received). RunsTo before (entryOf kind body) x holding output lens) (sym e′)
+        (ran-as before (entryOf kind body) (opens mode.Psp (be32At body 0)) _ holding output lens psp-call
+        (record { its-code = refl; its-frames = refl; its-bytes = refl; its-dropped = refl; its-gap = refl }) refl)
+
+  module _ (other : kind ≡ openPsp → ⊥) where
+    module _ (dmpt : kind ≡ openDmpt) where
+      dmpt-call : callOf before (entryOf kind body) ≡ opens mode.Dmpt (be32At body 0)
+      dmpt-call = rw (ne-eqb kind openPsp other, eq-eqb kind openDmpt dmpt) refl
+
+      pub dmpt-body : takesLength (bodyIn kinds kind) (length body) ≡ true → 0 + 3 < length body
+      dmpt-body takes =
+          let e : eqb (length body) idBody ≡ true = rw (ne-eqb kind openPsp other, eq-eqb kind openDmpt dmpt) at takes in
+          omega (arith, eqb-true (length body) idBody e)
+
+      pub opens-dmpt : (id : ℕ) (r : Received) → id ≡ be32At body 0 → r ≡ answered (opened t id mode.Dmpt .code) 0 (opened t id mode.Dmpt .table) →
+          RunsTo before (entryOf kind body) r holding output lens
+      unfolding answer after
+      opens-dmpt id r i e =
+          let e′ : r ≡ answered (opened t (be32At body 0) mode.Dmpt .code) 0 (opened t (be32At body 0) mode.Dmpt .table) =
+          e ∙ ap (λ (x : ℕ). answered (opened t x mode.Dmpt .code) 0 (opened t x mode.Dmpt .table)) i in
+          subst (λ (x : Received). RunsTo before (entryOf kind body) x holding output lens) (sym e′)
+          (ran-as before (entryOf kind body) (opens mode.Dmpt (be32At body 0)) _ holding output lens dmpt-call
+          (record { its-code = refl; its-frames = refl; its-bytes = refl; its-dropped = refl; its-gap = refl }) refl)
+
+    module _ (not-dmpt : kind ≡ openDmpt → ⊥) where
+      module _ (close : kind ≡ closing) where
+        close-call : callOf before (entryOf kind body) ≡ closes (be32At body 0)
+        close-call = rw (ne-eqb kind openPsp other, ne-eqb kind openDmpt not-dmpt, eq-eqb kind closing close) refl
+
+        pub close-body : takesLength (bodyIn kinds kind) (length body) ≡ true → 0 + 3 < length body
+        close-body takes =
+            let e : eqb (length body) idBody ≡ true = rw (ne-eqb kind openPsp other, ne-eqb kind openDmpt not-dmpt, eq-eqb kind closing close) at takes in
+            omega (arith, eqb-true (length body) idBody e)
+
+        pub closes-row : (id : ℕ) (r : Received) → id ≡ be32At body 0 → r ≡ answered (closed t id .code) (closed t id .dropped) (closed t id .table) →
+            RunsTo before (entryOf kind body) r holding output lens
+        unfolding answer after
+        closes-row id r i e =
+            let e′ : r ≡ answered (closed t (be32At body 0) .code) (closed t (be32At body 0) .dropped) (closed t (be32At body 0) .table) =
+            e ∙ ap (λ (x : ℕ). answered (closed t x .code) (closed t x .dropped) (closed t x .table)) i in
+            subst (λ (x : Received). RunsTo before (entryOf kind body) x holding output lens) (sym e′)
+            (ran-as before (entryOf kind body) (closes (be32At body 0)) _ holding output lens close-call
+            (record { its-code = refl; its-frames = refl; its-bytes = refl; its-dropped = refl; its-gap = refl }) refl)
+
+      module _ (not-close : kind ≡ closing → ⊥) where
+        data-call : callOf before (entryOf kind body) ≡ hands body output lens
+        data-call = rw (ne-eqb kind openPsp other, ne-eqb kind openDmpt not-dmpt, ne-eqb kind closing not-close) refl
+
+        pub hands-packet : (r : Received) (holding′ output′ lens′ : List ℕ) →
+            PermitsReceive t body (asSlices holding output lens) (record { answer = r; slices = asSlices holding′ output′ lens′ }) →
+            RunsTo before (entryOf kind body) r holding′ output′ lens′
+        unfolding answer after
+        hands-packet r holding′ output′ lens′ p =
+            ran-as before (entryOf kind body) (hands body output lens) r holding′ output′ lens′ data-call
+            (record { its-code = p .its-number; its-frames = p .its-frames; its-bytes = p .its-bytes; its-dropped = p .its-dropped; its-gap = p .its-gap })
+            (ap (λ (x : Table). asRunning x holding′ output′ lens′) (p .its-table)
+            ∙ ap (λ (x : List ℕ). asRunning (handed (before .card) body output lens .answer .table) x output′ lens′) (p .its-holding)
+            ∙ ap (λ (x : List ℕ). asRunning (handed (before .card) body output lens .answer .table) (handed (before .card) body output lens .slices .holding) x lens′) (p .its-output)
+            ∙ ap (asRunning (handed (before .card) body output lens .answer .table) (handed (before .card) body output lens .slices .holding) (handed (before .card) body output lens .slices .output)) (p .its-lengths))

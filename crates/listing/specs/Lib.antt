@@ -1,0 +1,4 @@
+pub mod Run
+pub mod Listing
+pub mod Trace
+pub mod Walk

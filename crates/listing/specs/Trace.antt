@@ -1,0 +1,70 @@
+-- The trace: the listing, and behind each entry's line what the card did and how it stands afterwards. A line for each frame that the entry
+-- delivered, in order; then for each open row its number, session ID and kind (1 PSP, 2 D-MPT, the numbers of the packet check), and for each
+-- of its flows that is not fresh the flow's number, the number that it expects, how many bytes it holds, and those bytes as they stand in its
+-- place, `-` where there are none.
+use Prim.Native.Nat.{ℕ, zero, suc}
+use mathlib.Core.Bool.{cond}
+use mathlib.Core.List.{List, [], _∷_, _++_, map}
+use Rattle.octets.specs.Stretch.{part, joined}
+use Rattle.octets.specs.Count.{upTo}
+use Rattle.flow.specs.declared.Flow.{Flow}
+use Rattle.flow.specs.Flow.{flows}
+use Rattle.packet.specs.Check.{kindPsp, kindDmpt}
+use Rattle.table.specs.declared.Kind.{Kind}
+use Rattle.table.specs.declared.Row.{Row}
+use Rattle.table.specs.Rows.{rows, isClosed, isDmpt, rowAt, flowAt}
+use Rattle.card.specs.Receive.{placeOf}
+use Rattle.card.specs.History.{Card, Answer, framesOf}
+use Rattle.text.specs.Text.{ascii, decimal, column, hex, space, newline}
+use Rattle.capture.specs.File.{headLength, entryCount, fileRefusal}
+use Rattle.listing.specs.Run.{standing, answerAt}
+use Rattle.listing.specs.Listing.{heading, lineAt, refusedLine}
+
+-- the frames that a call delivered
+unfoldable pub frameLine : List ℕ → List ℕ
+frameLine frame = ascii " frame " ++ hex frame ++ newline
+
+unfoldable pub framesText : Answer → List ℕ
+framesText a = joined (map frameLine (framesOf a))
+
+-- bytes in hexadecimal, or a dash for none
+abbrev pub hexOrDash : List ℕ → List ℕ
+hexOrDash [] = ascii "-"
+hexOrDash (b ∷ bytes) = hex (b ∷ bytes)
+
+-- A flow of an open row: nothing where it is fresh.
+unfoldable pub flowLine : ℕ → ℕ → Flow → List ℕ → List ℕ
+flowLine r k f held =
+    ascii " flow " ++ decimal r ++ column k ++ column (f .expected) ++ column (f .held) ++ space ++ hexOrDash held ++ newline
+
+unfoldable pub flowText : Card → ℕ → ℕ → List ℕ
+flowText c r k =
+    let f = flowAt (rowAt (c .table) r) k in
+    cond (f .heard) (flowLine r k f (part (c .holding) (placeOf r k) (f .held))) []
+
+-- A row, with its flows: nothing where it is closed.
+abbrev pub kindNumber : Kind → ℕ
+kindNumber kind = cond (isDmpt kind) kindDmpt kindPsp
+
+unfoldable pub rowLine : ℕ → Row → List ℕ
+rowLine r row = ascii " row " ++ decimal r ++ column (row .id) ++ column (kindNumber (row .kind)) ++ newline
+
+unfoldable pub rowText : Card → ℕ → List ℕ
+rowText c r =
+    let row = rowAt (c .table) r in
+    cond (isClosed (row .kind)) [] (rowLine r row ++ joined (upTo (flowText c r) flows))
+
+unfoldable pub rowsText : Card → List ℕ
+rowsText c = joined (upTo (rowText c) rows)
+
+-- Entry k of a file: its line, its frames, and the card behind it.
+unfoldable pub tracedAt : List ℕ → ℕ → List ℕ
+tracedAt file k = lineAt file k ++ framesText (answerAt file k) ++ rowsText (standing file (suc k) .card)
+
+unfoldable pub traceBy : ℕ → List ℕ → List ℕ
+traceBy zero file = heading ++ joined (upTo (tracedAt file) (entryCount headLength file))
+traceBy (suc c) file = refusedLine (suc c)
+
+-- the text that the trace of a capture prints
+unfoldable pub trace : List ℕ → List ℕ
+trace file = traceBy (fileRefusal file) file

@@ -1,0 +1,2 @@
+// Running a capture from an empty table, and the text that it prints.
+mod run;

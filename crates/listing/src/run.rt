@@ -1,0 +1,66 @@
+// Running a capture: an entry is an open, a close or a packet, and the card goes from entry to entry.
+ghost use mathlib.Core.Path.{_≡_};
+ghost use mathlib.Core.Bool.{true};
+ghost use Prim.Native.Nat.{_≤_};
+ghost use lib.ListN.{length};
+ghost use Rattle.table.specs.Calls.{opened, closed};
+ghost use Rattle.capture.specs.File.{idBody, bodyIn, kinds, takesLength};
+ghost use Rattle.listing.specs.Walk.{asRunning, answered, RunsTo};
+use card::Received;
+use table::Mode;
+use table::Table;
+
+// What a call answers that delivers nothing.
+fn plain(code: u32, dropped: u32, table: Table) -> Received
+    ensures { λ r. ⌜ r ≡ answered code dropped table ⌝ }
+{
+    Received {
+        code,
+        frames: 0,
+        bytes: 0,
+        dropped,
+        gap: 0,
+        table,
+    }
+}
+
+// Opens a session.
+fn open(table: Table, id: u32, mode: Mode) -> Received
+    ensures { λ r. ⌜ r ≡ answered ((opened table id mode) .code) 0 ((opened table id mode) .table) ⌝ }
+{
+    let opening = table::open(table, id, mode);
+    plain(opening.code, 0, opening.table)
+}
+
+// Closes a session.
+fn close(table: Table, id: u32) -> Received
+    ensures { λ r. ⌜ r ≡ answered ((closed table id) .code) ((closed table id) .dropped) ((closed table id) .table) ⌝ }
+{
+    let closing = table::close(table, id);
+    plain(closing.code, closing.dropped, closing.table)
+}
+
+// Carries out one entry.
+pub fn run_entry(
+    table: Table,
+    holding: &mut [u8],
+    output: &mut [u8],
+    lengths: &mut [u16],
+    kind: u8,
+    body: &[u8],
+) -> Received
+    requires { ⌜ takesLength (bodyIn kinds kind) (length (now body)) ≡ true ⌝ }
+    ensures { λ r. ⌜ RunsTo (asRunning table (now (holding .entry)) (now (output .entry)) (now (lengths .entry)))
+        (record { kind = kind; body = now (body .entry) }) r (now (holding .exit)) (now (output .exit)) (now (lengths .exit)) ⌝ }
+{
+    if kind == capture::OPEN_PSP {
+        return open(table, octets::read_u32(body, 0), Mode::Psp);
+    }
+    if kind == capture::OPEN_DMPT {
+        return open(table, octets::read_u32(body, 0), Mode::Dmpt);
+    }
+    if kind == capture::CLOSE {
+        return close(table, octets::read_u32(body, 0));
+    }
+    card::receive(table, holding, body, output, lengths)
+}
