@@ -1,0 +1,301 @@
+//! The card: its table of sessions with the three calls that change it, open, close and data.
+//!
+//! Document 01, 'The card in numbers' and 'Opening, closing, listening'. The paper keeps the table as six rows of four
+//! flows and the held bytes in a slice of places. Here a session is found by its ID in a map, knows its row, and each
+//! flow owns the bytes that it holds, so places cannot overlap; the row is only there to be printed. Refusals 1 and 13
+//! do not exist here: the slices are always long enough and the table cannot be broken.
+
+use std::collections::BTreeMap;
+
+use crate::faults::{Fault, Faults};
+use crate::packet::{self, Body, Kind, Refusal, Segment, NULL_PID};
+
+pub const ROWS: usize = 6;
+pub const FLOWS: usize = 4;
+pub const LONGEST_FRAME: usize = 2_048;
+/// A number this far ahead of the expected one, or further, is late.
+pub const LATE_FROM: u16 = 32_768;
+
+/// One flow of a session: fresh as long as no number is expected.
+#[derive(Clone, Debug, Default, PartialEq, Eq)]
+pub struct Flow {
+    pub expected: Option<u16>,
+    pub held: Vec<u8>,
+}
+
+/// An open session.
+#[derive(Clone, Debug)]
+pub struct Session {
+    pub row: usize,
+    pub kind: Kind,
+    pub flows: [Flow; FLOWS],
+}
+
+/// What an accepted call answers. The number of frames and of bytes delivered follow from the frames themselves.
+#[derive(Clone, Debug, Default, PartialEq, Eq)]
+pub struct Answer {
+    pub frames: Vec<Vec<u8>>,
+    pub dropped: usize,
+    pub gap: u16,
+}
+
+impl Answer {
+    pub fn bytes(&self) -> usize {
+        self.frames.iter().map(Vec::len).sum()
+    }
+}
+
+/// The table, by session ID.
+#[derive(Debug)]
+pub struct Card {
+    sessions: BTreeMap<u32, Session>,
+    /// Flows of closed sessions, kept for the fault `ReopenKeepsFlows` only.
+    closed: BTreeMap<u32, [Flow; FLOWS]>,
+    faults: Faults,
+}
+
+impl Card {
+    /// A card with an empty table.
+    pub fn new(faults: Faults) -> Card {
+        Card { sessions: BTreeMap::new(), closed: BTreeMap::new(), faults }
+    }
+
+    /// The open sessions with their IDs, in the order of their rows.
+    pub fn rows(&self) -> Vec<(u32, &Session)> {
+        let mut rows: Vec<_> = self.sessions.iter().map(|(&id, session)| (id, session)).collect();
+        rows.sort_by_key(|(_, session)| session.row);
+        rows
+    }
+
+    pub fn is_open(&self, id: u32) -> bool {
+        self.sessions.contains_key(&id)
+    }
+
+    /// Opens a session in the lowest free row, every flow fresh.
+    pub fn open(&mut self, id: u32, kind: Kind) -> Result<Answer, Refusal> {
+        let already_open = self.is_open(id);
+        let full = self.sessions.len() == ROWS;
+        if id == 0 {
+            return Err(Refusal(21));
+        }
+        if already_open && !(full && self.faults.has(Fault::FullBeforeOpen)) {
+            return Err(Refusal(22));
+        }
+        let row = self.free_row().ok_or(Refusal(23))?;
+        let mut flows = <[Flow; FLOWS]>::default();
+        if self.faults.has(Fault::ReopenKeepsFlows) {
+            flows = self.closed.remove(&id).unwrap_or_default();
+        }
+        self.sessions.insert(id, Session { row, kind, flows });
+        Ok(Answer::default())
+    }
+
+    fn free_row(&self) -> Option<usize> {
+        let is_free = |row: &usize| self.sessions.values().all(|session| session.row != *row);
+        if self.faults.has(Fault::HighestRowTaken) {
+            (0..ROWS).rev().find(is_free)
+        } else {
+            (0..ROWS).find(is_free)
+        }
+    }
+
+    /// Closes a session; what it holds counts as dropped. ID 0 is never open, so it needs no rule of its own.
+    pub fn close(&mut self, id: u32) -> Result<Answer, Refusal> {
+        let session = self.sessions.remove(&id).ok_or(Refusal(25))?;
+        let held = session.flows.iter().map(|flow| flow.held.len()).sum();
+        let dropped = if self.faults.has(Fault::CloseDropsNothing) { 0 } else { held };
+        if self.faults.has(Fault::ReopenKeepsFlows) {
+            self.closed.insert(id, session.flows);
+        }
+        Ok(Answer { dropped, ..Answer::default() })
+    }
+
+    /// The data call: a packet is refused with the first number that applies and changes nothing, or is taken in.
+    pub fn data(&mut self, bytes: &[u8]) -> Result<Answer, Refusal> {
+        let faults = self.faults;
+        let header = packet::read_header(bytes, faults)?;
+        let session = self.sessions.get_mut(&header.session).ok_or(Refusal(5))?;
+        if faults.has(Fault::LateBeforeLayout) && header.sequenced {
+            if let Some(flow) = session.flows.get(usize::from(header.flow)) {
+                flow.judge(header.number, faults)?;
+            }
+        }
+        let body = packet::read_body(session.kind, &header, bytes, faults);
+        if body.is_err() && faults.has(Fault::RefusedMovesNumber) {
+            if let Some(flow) = session.flows.get_mut(usize::from(header.flow)) {
+                flow.expected = Some(header.number.wrapping_add(1));
+            }
+        }
+        let body = body?;
+        let flow = &mut session.flows[usize::from(header.flow)];
+        let answer = match body {
+            Body::Segments(segments) => {
+                let gap = flow.accept(header.number, faults)?;
+                flow.take_segments(&segments, gap, faults)
+            }
+            Body::Mpeg(packets) => {
+                let judged = header.sequenced || faults.has(Fault::DmptClearNumberJudged);
+                let gap = if judged { flow.accept(header.number, faults)? } else { 0 };
+                sort_mpeg(&packets, gap, faults)
+            }
+        };
+        if faults.has(Fault::PlaceByFlowAlone) {
+            self.spill(header.session, usize::from(header.flow));
+        }
+        Ok(answer)
+    }
+
+    /// Fault `PlaceByFlowAlone`: what one session holds overwrites what the same flow of the others holds.
+    fn spill(&mut self, id: u32, flow: usize) {
+        let written = self.sessions[&id].flows[flow].held.clone();
+        for (_, other) in self.sessions.iter_mut().filter(|(&other, _)| other != id) {
+            for (place, byte) in other.flows[flow].held.iter_mut().zip(&written) {
+                *place = *byte;
+            }
+        }
+    }
+}
+
+impl Flow {
+    /// Judges a sequence number: the gap in front of it, or refusal 12 for a late one.
+    fn judge(&self, number: u16, faults: Faults) -> Result<u16, Refusal> {
+        let expected = match self.expected {
+            Some(expected) => expected,
+            None if faults.has(Fault::FreshFlowExpectsZero) => 0,
+            None => return Ok(0),
+        };
+        let ahead = number.wrapping_sub(expected);
+        let late = if faults.has(Fault::PlainComparison) {
+            number < expected
+        } else if faults.has(Fault::PlainComparisonWithLast) {
+            number <= expected.wrapping_sub(1)
+        } else if faults.has(Fault::HalfwayAccepted) {
+            ahead > LATE_FROM
+        } else {
+            ahead >= LATE_FROM
+        };
+        if late {
+            Err(Refusal(12))
+        } else {
+            Ok(ahead)
+        }
+    }
+
+    /// Judges a sequence number and, unless it is late, expects the one after it.
+    fn accept(&mut self, number: u16, faults: Faults) -> Result<u16, Refusal> {
+        let gap = self.judge(number, faults)?;
+        let next =
+            if faults.has(Fault::ExpectedNotWrapped) { number.saturating_add(1) } else { number.wrapping_add(1) };
+        self.expected = Some(next);
+        Ok(gap)
+    }
+
+    /// Drops what is held; answers how many bytes that were.
+    fn drop_held(&mut self, faults: Faults) -> usize {
+        let held = std::mem::take(&mut self.held).len();
+        if faults.has(Fault::DroppedWithoutHeld) {
+            0
+        } else {
+            held
+        }
+    }
+
+    /// Takes in the segments of an accepted PSP packet, one after the other.
+    fn take_segments(&mut self, segments: &[Segment], gap: u16, faults: Faults) -> Answer {
+        let mut answer = Answer { gap, ..Answer::default() };
+        if gap > 0 && !faults.has(Fault::GapKeepsHeld) {
+            answer.dropped += self.drop_held(faults);
+        }
+        for segment in segments {
+            self.take_segment(segment, &mut answer, faults);
+        }
+        answer
+    }
+
+    fn take_segment(&mut self, segment: &Segment, answer: &mut Answer, faults: Faults) {
+        if segment.begins && !faults.has(Fault::BeginningKeepsHeld) {
+            answer.dropped += self.drop_held(faults);
+        }
+        let headless = !segment.begins && self.held.is_empty();
+        if headless && !faults.has(Fault::HeadlessSegmentHeld) {
+            answer.dropped += segment.bytes.len();
+            return;
+        }
+        let mut joined = std::mem::take(&mut self.held);
+        joined.extend_from_slice(segment.bytes);
+        if joined.len() > longest_frame(faults) {
+            answer.dropped += joined.len();
+            if faults.has(Fault::OverlongTailHeld) {
+                answer.dropped -= segment.bytes.len();
+                self.held = segment.bytes.to_vec();
+            }
+        } else if segment.ends {
+            answer.frames.push(joined);
+        } else {
+            self.held = joined;
+        }
+    }
+}
+
+fn longest_frame(faults: Faults) -> usize {
+    if faults.has(Fault::LongestFrameRefused) {
+        LONGEST_FRAME - 1
+    } else if faults.has(Fault::LongerFrameAllowed) {
+        LONGEST_FRAME + 1
+    } else {
+        LONGEST_FRAME
+    }
+}
+
+/// D-MPT: MPEG packets with the null PID are dropped, the others delivered.
+fn sort_mpeg(packets: &[&[u8]], gap: u16, faults: Faults) -> Answer {
+    let delivered = |mpeg: &&[u8]| packet::pid(mpeg, faults) != NULL_PID || faults.has(Fault::NullDelivered);
+    let (frames, nulls): (Vec<&[u8]>, Vec<&[u8]>) = packets.iter().copied().partition(delivered);
+    Answer {
+        frames: frames.into_iter().map(<[u8]>::to_vec).collect(),
+        dropped: nulls.into_iter().map(<[u8]>::len).sum(),
+        gap,
+    }
+}
+
+#[cfg(test)]
+mod tests {
+    use super::*;
+    use crate::packet::samples::{A, B};
+
+    fn card_with_psp() -> Card {
+        let mut card = Card::new(Faults::NONE);
+        card.open(0x101, Kind::Psp).unwrap();
+        card
+    }
+
+    #[test]
+    fn a_frame_is_joined_across_packets_and_numbers_wrap() {
+        let mut card = card_with_psp();
+        let first = card.data(&A).unwrap();
+        assert_eq!((first.frames, first.dropped, first.gap), (vec![A[12..18].to_vec()], 0, 0));
+        let second = card.data(&B).unwrap();
+        assert_eq!(second.frames, vec![vec![0x21, 0x22, 0x23, 0x24, 0x25, 0x26, 0x27, 0x28, 0x29]]);
+        assert_eq!(card.data(&B), Err(Refusal(12)));
+    }
+
+    #[test]
+    fn a_segment_without_beginning_is_dropped() {
+        let answer = card_with_psp().data(&B).unwrap();
+        assert_eq!((answer.frames.len(), answer.dropped), (0, 7));
+    }
+
+    #[test]
+    fn closing_drops_what_is_held_and_frees_the_row() {
+        let mut card = card_with_psp();
+        card.data(&A).unwrap();
+        assert_eq!(card.close(0x101).unwrap().dropped, 2);
+        assert_eq!(card.close(0x101), Err(Refusal(25)));
+        for id in 1..=6 {
+            card.open(id, Kind::Dmpt).unwrap();
+        }
+        assert_eq!(card.open(7, Kind::Psp), Err(Refusal(23)));
+        assert_eq!(card.open(6, Kind::Psp), Err(Refusal(22)));
+        assert_eq!(card.open(0, Kind::Psp), Err(Refusal(21)));
+    }
+}

@@ -1,0 +1,183 @@
+//! The second program: document 01 once more, written from the paper alone, to be compared with the proved programs.
+//!
+//! This file has the commands. What they do stands in the modules: `packet` and `card` receive, `sender` sends,
+//! `capture` reads and writes files, `listing` prints; `directed`, `generate`, `sends` and `plan` make what is compared,
+//! `compare` compares it, and `faults` makes this program wrong on purpose.
+
+mod capture;
+mod card;
+mod compare;
+mod craft;
+mod dice;
+mod directed;
+mod faults;
+mod generate;
+mod listing;
+mod packet;
+mod plan;
+mod sender;
+mod sends;
+
+use std::fs;
+use std::io::{self, Read, Write};
+use std::path::Path;
+use std::process::ExitCode;
+
+use compare::{Outcome, Setup};
+use faults::Faults;
+use listing::Detail;
+use packet::Refusal;
+use plan::{Job, Plan};
+use sender::Order;
+
+const USAGE: &str = "\
+second list < CAPTURE
+second trace < CAPTURE
+second check KIND < PACKET
+second send SESSION FLOW NUMBER L < FRAMES > CAPTURE
+second generate SEED COUNT FOLDER
+second compare [--fault NAME] --list COMMAND --trace COMMAND --send COMMAND SEED COUNT
+second faults";
+
+/// Status for a comparison that found a difference, or missed a refusal number. A refusal alone is an answer: status 0.
+const DIFFERENT: u8 = 1;
+/// Status for words that make no command, and for files or programs that cannot be used.
+const UNUSABLE: u8 = 2;
+
+fn main() -> ExitCode {
+    let words: Vec<String> = std::env::args().skip(1).collect();
+    match run(&words) {
+        Ok(status) => ExitCode::from(status),
+        Err(error) => {
+            eprintln!("second: {error}");
+            ExitCode::from(UNUSABLE)
+        }
+    }
+}
+
+fn run(words: &[String]) -> io::Result<u8> {
+    let words: Vec<&str> = words.iter().map(String::as_str).collect();
+    match words.as_slice() {
+        ["list"] => list(Detail::List),
+        ["trace"] => list(Detail::Trace),
+        ["check", kind] => check(number(kind)?),
+        ["send", session, flow, first, limit] => send(Order {
+            session: number(session)?,
+            flow: number(flow)?,
+            number: number(first)?,
+            limit: number(limit)?,
+        }),
+        ["generate", seed, count, folder] => generate(number(seed)?, number(count)?, Path::new(folder)),
+        ["compare", rest @ ..] => compare(rest),
+        ["faults"] => list_faults(),
+        _ => Err(unusable(USAGE)),
+    }
+}
+
+fn unusable(text: &str) -> io::Error {
+    io::Error::new(io::ErrorKind::InvalidInput, text.to_string())
+}
+
+/// A word as a number in decimal.
+fn number<N: std::str::FromStr>(word: &str) -> io::Result<N> {
+    word.parse().map_err(|_| unusable(&format!("{word} is not a number that fits here")))
+}
+
+fn standard_input() -> io::Result<Vec<u8>> {
+    let mut bytes = Vec::new();
+    io::stdin().lock().read_to_end(&mut bytes)?;
+    Ok(bytes)
+}
+
+fn list(detail: Detail) -> io::Result<u8> {
+    let text = listing::run(&standard_input()?, detail, Faults::NONE).text;
+    io::stdout().lock().write_all(text.as_bytes())?;
+    Ok(0)
+}
+
+fn check(kind: u64) -> io::Result<u8> {
+    println!("{}", packet::check(kind, &standard_input()?, Faults::NONE));
+    Ok(0)
+}
+
+fn send(order: Order) -> io::Result<u8> {
+    match sender::send_file(order, &standard_input()?, Faults::NONE) {
+        Ok(capture) => {
+            io::stdout().lock().write_all(&capture)?;
+            Ok(0)
+        }
+        Err(Refusal(number)) => {
+            eprintln!("refused {number}");
+            Ok(0)
+        }
+    }
+}
+
+/// Writes the captures and frames files that a comparison of this seed and count uses.
+fn generate(seed: u64, count: usize, folder: &Path) -> io::Result<u8> {
+    fs::create_dir_all(folder)?;
+    let mut orders = String::new();
+    for (index, job) in (1..).zip(Plan::new(seed, count)) {
+        match job {
+            Job::Capture(capture) => {
+                fs::write(folder.join(format!("{index:05}-{}.capture", capture.name)), capture.file)?
+            }
+            Job::Send(case) => {
+                let name = format!("{index:05}-{}.frames", case.name);
+                let Order { session, flow, number, limit } = case.order;
+                orders.push_str(&format!("{name} {session} {flow} {number} {limit}\n"));
+                fs::write(folder.join(name), case.file)?;
+            }
+        }
+    }
+    fs::write(folder.join("frames.txt"), orders)?;
+    Ok(0)
+}
+
+fn compare(words: &[&str]) -> io::Result<u8> {
+    let mut words = words.to_vec();
+    let fault = take_option(&mut words, "--fault");
+    let faults = match fault {
+        None => Faults::NONE,
+        Some(name) => Faults::named(name).ok_or_else(|| unusable(&format!("there is no fault {name}")))?,
+    };
+    let mut program = |option: &str| -> io::Result<Vec<String>> {
+        let command = take_option(&mut words, option).ok_or_else(|| unusable(USAGE))?;
+        Ok(command.split_whitespace().map(str::to_string).collect())
+    };
+    let setup = Setup { list: program("--list")?, trace: program("--trace")?, send: program("--send")?, faults };
+    let [seed, count] = words.as_slice() else {
+        return Err(unusable(USAGE));
+    };
+    let outcome = compare::compare(&setup, number(seed)?, number(count)?)?;
+    if let Some(name) = fault {
+        match outcome {
+            Outcome::Different { captures, sends: 0 } => println!("fault {name}: found after {captures} captures"),
+            Outcome::Different { captures, sends } => {
+                println!("fault {name}: found after {captures} captures and {sends} sends");
+            }
+            Outcome::Equal | Outcome::Incomplete => println!("fault {name}: not found"),
+        }
+    }
+    Ok(match outcome {
+        Outcome::Equal => 0,
+        Outcome::Different { .. } | Outcome::Incomplete => DIFFERENT,
+    })
+}
+
+/// Takes an option and the word after it out of the words; answers that word.
+fn take_option<'a>(words: &mut Vec<&'a str>, option: &str) -> Option<&'a str> {
+    let place = words.iter().position(|word| *word == option)?;
+    if place + 1 == words.len() {
+        return None;
+    }
+    words.remove(place);
+    Some(words.remove(place))
+}
+
+fn list_faults() -> io::Result<u8> {
+    for (_, name, sentence) in faults::ALL {
+        println!("{name}: {sentence}");
+    }
+    Ok(0)
+}
