@@ -11,10 +11,10 @@ use Rattle.refusal.specs.Refusal.{first, _when_}
 use Rattle.refusal.proofs.Laws.{none-applies, none-first}
 use Rattle.octets.specs.Count.{any, sumTo}
 use Rattle.octets.specs.Stretch.{part}
-use Rattle.octets.proofs.Counts.{or-false-right, or-same, any-none, any-more, sum-none, sum-more, sum-within}
-use Rattle.octets.proofs.Stretches.{sliced-part}
+use Rattle.octets.proofs.Counts.{or-false-right, or-same, any-none, any-more, none-at, sum-none, sum-more, sum-within}
+use Rattle.octets.proofs.Stretches.{length-part}
 use Rattle.capture.specs.declared.reader.Surveyed.{Surveyed}
-use Rattle.capture.specs.File.{headLength, entryLength, longestFile, mostEntries, idBody, exactly, anyLength, noKind, isKind, takesLength, entryCount, kindAt, secondAt, bodyLength, bodyStart, wrongParts, wrongEntry, fileRefusals, fileRefusal, nthEntry, StandsAt}
+use Rattle.capture.specs.File.{headLength, entryLength, longestFile, mostEntries, idBody, exactly, anyLength, noKind, kinds, bodyIn, isKind, takesLength, entryCount, kindAt, secondAt, bodyLength, bodyStart, wrongParts, wrongEntry, fileRefusals, fileRefusal, nthEntry, StandsAt}
 
 -- an entry's parts are wrong: the table of kinds, looked up number by number, comes to this
 wrong-by-numbers : (psp dmpt close data-kind zero-second : Bool) (size : ℕ) →
@@ -47,7 +47,7 @@ pub record Surveying (file : List ℕ) (count end : ℕ) (wrong : Bool) (k : ℕ
   pub gathered : wrong ≡ any (wrongEntry headLength entryLength file) k
   pub small : end ≤ headLength + entryLength * mostEntries + 65535 * k
 
-start-first : (file : List ℕ) → bodyStart headLength entryLength file 0 ≡ headLength + entryLength * entryCount headLength file
+pub start-first : (file : List ℕ) → bodyStart headLength entryLength file 0 ≡ headLength + entryLength * entryCount headLength file
 unfolding bodyStart
 start-first file = let z = sum-none (bodyLength headLength entryLength file) in omega (arith, z)
 
@@ -216,3 +216,18 @@ pub body-is : {file : List ℕ} {index start size : ℕ} → StandsAt file index
     part file start size ≡ (nthEntry file index) .body
 unfolding nthEntry
 body-is {file} {index} {start} {size} s e = ap (λ (x : ℕ). part file x size) (s .its-start) ∙ ap (part file (bodyStart headLength entryLength file index)) e
+
+pub body-long : {file : List ℕ} {index start : ℕ} → StandsAt file index start → length (nthEntry file index .body) ≡ bodyLength headLength entryLength file index
+body-long {file} {index} {start} s =
+    sym (ap length (body-is s refl)) ∙ length-part file start (bodyLength headLength entryLength file index) (body-inside s refl)
+
+-- the kind of an entry takes the length of its body
+pub entry-right : {file : List ℕ} {index start : ℕ} → StandsAt file index start →
+    takesLength (bodyIn kinds (kindAt headLength entryLength file index)) (length (nthEntry file index .body)) ≡ true
+entry-right {file} {index} {start} s =
+    let kind = kindAt headLength entryLength file index in
+    let second = secondAt headLength entryLength file index in
+    let size = bodyLength headLength entryLength file index in
+    let right : wrongParts kind second size ≡ false = none-at (wrongEntry headLength entryLength file) (entryCount headLength file) index (is-sound file (s .sound) .none-wrong) (s .not-past) in
+    let last = or-false-right (not (isKind (bodyIn kinds kind)) || not (eqb second 0)) (not (takesLength (bodyIn kinds kind) size)) right in
+    ap (takesLength (bodyIn kinds kind)) (body-long s) ∙ not-false (takesLength (bodyIn kinds kind) size) last

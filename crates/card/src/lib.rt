@@ -133,7 +133,7 @@ fn judge_packet(flow: Flow, sub: &[u8]) -> Judged
 }
 
 // Where the place of a flow starts.
-fn place_of(row: usize, k: usize) -> usize
+pub fn place_of(row: usize, k: usize) -> usize
     requires { ⌜ (row < rows) × (k < flows) ⌝ }
     ensures { λ r. ⌜ r ≡ placeOf row k ⌝ }
 {

@@ -19,11 +19,12 @@ heading = ascii "n what code frames bytes dropped gap\n"
 abbrev pub wordFor : ℕ → List ℕ
 wordFor kind = cond (eqb kind openPsp || eqb kind openDmpt) (ascii "open") (cond (eqb kind closing) (ascii "close") (ascii "data"))
 
+-- the columns of an answer: its number, frames, bytes delivered, bytes dropped, gap
+unfoldable pub columns : Answer → List ℕ
+columns a = column (a .code) ++ column (a .frames) ++ column (a .bytes) ++ column (a .dropped) ++ column (a .gap)
+
 unfoldable pub line : ℕ → ℕ → Answer → List ℕ
-line index kind a =
-    decimal index ++ space ++ wordFor kind
-    ++ column (a .code) ++ column (a .frames) ++ column (a .bytes) ++ column (a .dropped) ++ column (a .gap)
-    ++ newline
+line index kind a = decimal index ++ space ++ wordFor kind ++ columns a ++ newline
 
 -- the line of entry k
 unfoldable pub lineAt : List ℕ → ℕ → List ℕ

@@ -37,10 +37,8 @@ unfoldable pub flowLine : ℕ → ℕ → Flow → List ℕ → List ℕ
 flowLine r k f held =
     ascii " flow " ++ decimal r ++ column k ++ column (f .expected) ++ column (f .held) ++ space ++ hexOrDash held ++ newline
 
-unfoldable pub flowText : Card → ℕ → ℕ → List ℕ
-flowText c r k =
-    let f = flowAt (rowAt (c .table) r) k in
-    cond (f .heard) (flowLine r k f (part (c .holding) (placeOf r k) (f .held))) []
+unfoldable pub flowText : List ℕ → ℕ → ℕ → Flow → List ℕ
+flowText holding r k f = cond (f .heard) (flowLine r k f (part holding (placeOf r k) (f .held))) []
 
 -- A row, with its flows: nothing where it is closed.
 abbrev pub kindNumber : Kind → ℕ
@@ -49,13 +47,11 @@ kindNumber kind = cond (isDmpt kind) kindDmpt kindPsp
 unfoldable pub rowLine : ℕ → Row → List ℕ
 rowLine r row = ascii " row " ++ decimal r ++ column (row .id) ++ column (kindNumber (row .kind)) ++ newline
 
-unfoldable pub rowText : Card → ℕ → List ℕ
-rowText c r =
-    let row = rowAt (c .table) r in
-    cond (isClosed (row .kind)) [] (rowLine r row ++ joined (upTo (flowText c r) flows))
+unfoldable pub rowText : List ℕ → ℕ → Row → List ℕ
+rowText holding r row = cond (isClosed (row .kind)) [] (rowLine r row ++ joined (upTo (λ k. flowText holding r k (flowAt row k)) flows))
 
 unfoldable pub rowsText : Card → List ℕ
-rowsText c = joined (upTo (rowText c) rows)
+rowsText c = joined (upTo (λ r. rowText (c .holding) r (rowAt (c .table) r)) rows)
 
 -- Entry k of a file: its line, its frames, and the card behind it.
 unfoldable pub tracedAt : List ℕ → ℕ → List ℕ

@@ -1,12 +1,20 @@
 -- What the runner's functions are held to, in the words of the definitions beside this file. Nobody outside needs these.
-use Prim.Native.Nat.{ℕ, _+_, _*_, _≤_}
+use Prim.Native.Nat.{ℕ, _+_, _*_, _<_, _≤_}
 use mathlib.Core.Path.{_≡_}
-use mathlib.Core.List.{List}
-use lib.ListN.{length}
+use mathlib.Core.List.{List, []}
+use lib.ListN.{length, replicate}
+use Rattle.octets.specs.Bytes.{byteAt}
+use Rattle.octets.specs.Count.{sumTo}
+use Rattle.flow.specs.Flow.{flows, longest}
+use Rattle.table.specs.declared.Row.{Row}
 use Rattle.table.specs.declared.Table.{Table}
+use Rattle.table.specs.Rows.{rows, flowAt, empty}
 use Rattle.card.specs.declared.Received.{Received}
+use Rattle.card.specs.Receive.{holdingSize, mostFrames, mostBytes}
 use Rattle.card.specs.History.{Answer}
-use Rattle.capture.specs.File.{Entry, headLength, entryLength, entryCount, bodyStart, fileRefusal}
+use Rattle.text.specs.Text.{mostDigits}
+use Rattle.capture.specs.File.{Entry, headLength, entryLength, mostEntries, entryCount, bodyStart, fileRefusal}
+use Rattle.listing.specs.declared.Walk.{Walk}
 use Rattle.listing.specs.Run.{Running, answerTo, runOne, standing}
 
 -- a table and the slices, as a run has them
@@ -29,3 +37,81 @@ pub record Counts (r : Received) (a : Answer) : Type 0 where
 pub record RunsTo (before : Running) (e : Entry) (r : Received) (holding output lens : List ℕ) : Type 0 where
   pub its-counts : Counts r (answerTo before e)
   pub stands : asRunning (r .table) holding output lens ≡ runOne before e
+
+-- the numbers of a call's answer, as a line has them
+abbrev pub numbersOf : Received → Answer
+numbersOf r = record { code = r .code; frames = r .frames; bytes = r .bytes; dropped = r .dropped; gap = r .gap; output = []; lengths = [] }
+
+-- A walk stands before an entry of a sound file, or behind the last: where that entry's body starts, and how the run stands there.
+pub record Stands (file : List ℕ) (w : Walk) (holding output lens : List ℕ) : Type 0 where
+  pub sound : fileRefusal file ≡ 0
+  pub within : w .index ≤ entryCount headLength file
+  pub its-start : w .start ≡ bodyStart headLength entryLength file (w .index)
+  pub its-run : asRunning (w .table) holding output lens ≡ standing file (w .index)
+
+-- before the first entry, with an empty table
+pub record Begins (file : List ℕ) (w : Walk) : Type 0 where
+  pub at-first : w .index ≡ 0
+  pub first-start : w .start ≡ bodyStart headLength entryLength file 0
+  pub empty-table : w .table ≡ empty
+
+-- a sound file, and slices of zeros to run it with
+pub record Fresh (file holding output lens : List ℕ) : Type 0 where
+  pub sound : fileRefusal file ≡ 0
+  pub holding-zero : holding ≡ replicate holdingSize 0
+  pub output-zero : output ≡ replicate mostBytes 0
+  pub lens-zero : lens ≡ replicate mostFrames 0
+
+-- The room that texts need: a number with its space, the longest word for a kind, the columns of an answer, a line, the
+-- heading, a whole listing.
+abbrev pub columnRoom : ℕ
+columnRoom = 1 + mostDigits
+
+abbrev pub wordRoom : ℕ
+wordRoom = 5
+
+abbrev pub columnsRoom : ℕ
+columnsRoom = 5 * columnRoom
+
+abbrev pub lineRoom : ℕ
+lineRoom = mostDigits + 1 + wordRoom + columnsRoom + 1
+
+abbrev pub headingRoom : ℕ
+headingRoom = 37
+
+abbrev pub listingRoom : ℕ
+listingRoom = headingRoom + lineRoom * mostEntries
+
+-- the line of a frame without its bytes, the lines of a call's frames, the line of a flow, of a row, a row with its flows, all rows
+abbrev pub frameRoom : ℕ
+frameRoom = 8
+
+abbrev pub framesRoom : ℕ
+framesRoom = frameRoom * mostFrames + 2 * mostBytes
+
+abbrev pub flowRoom : ℕ
+flowRoom = 6 + mostDigits + 3 * columnRoom + 1 + (1 + 2 * longest) + 1
+
+abbrev pub rowLineRoom : ℕ
+rowLineRoom = 5 + mostDigits + 2 * columnRoom + 1
+
+abbrev pub rowRoom : ℕ
+rowRoom = rowLineRoom + flowRoom * flows
+
+abbrev pub rowsRoom : ℕ
+rowsRoom = rowRoom * rows
+
+-- an entry of a trace
+abbrev pub entryRoom : ℕ
+entryRoom = lineRoom + framesRoom + rowsRoom
+
+-- the frames of a call lie in the slices
+pub record Findable (output lens : List ℕ) (count : ℕ) : Type 0 where
+  pub few : count ≤ mostFrames
+  pub all-short : sumTo (byteAt lens) count ≤ mostBytes
+  pub lens-long : mostFrames ≤ length lens
+  pub output-long : mostBytes ≤ length output
+
+-- no flow of the row holds more than a place has
+abbrev pub HeldFew : Row → Type 0
+HeldFew row = (k : ℕ) → k < flows → flowAt row k .held ≤ longest
