@@ -1,15 +1,17 @@
 -- What one call can come to: its byte account, at most 127 frames and 6,144 bytes delivered, and a gap of 32,767 at most. None of these is
 -- asked for by the definition; they follow from the refusals and the segment rules.
 use Prim.Native.Nat.{ℕ, zero, suc, _+_, _<_, _≤_}
-use mathlib.Core.Path.{_≡_, refl, ap, _∙_}
+use mathlib.Core.Path.{_≡_, refl, sym, ap, _∙_}
 use mathlib.Core.Bool.{Bool, true, false, cond}
 use mathlib.Core.List.{List, []}
 use native.Mathlib.Omega.{arith}
 use lib.ListN.{length}
 use Rattle.refusal.specs.Refusal.{first}
-use Rattle.octets.specs.Stretch.{part}
+use Rattle.octets.specs.Bytes.{byteAt}
+use Rattle.octets.specs.Stretch.{part, put, lengths}
 use Rattle.octets.specs.Count.{sumTo}
-use Rattle.octets.proofs.Stretches.{length-part, part-none}
+use Rattle.octets.proofs.Counts.{sum-none}
+use Rattle.octets.proofs.Stretches.{length-part, part-none, length-put, part-put, length-lengths, total, total-part, total-lengths}
 use Rattle.flow.specs.declared.Flow.{Flow}
 use Rattle.flow.specs.Flow.{longest, half, accepted}
 use Rattle.flow.proofs.Judging.{judge-sound}
@@ -24,7 +26,7 @@ use Rattle.card.specs.Receive.{placeOf, mostFrames, mostBytes, Slices, r
 use Rattle.card.proofs.Account.{told}
 use Rattle.card.proofs.Walking.{so-far-accounts, all-few}
 use Rattle.card.proofs.Carrying as carrying
-use Rattle.card.proofs.Hearing.{place-roomy, held-fits, dmpt-bare}
+use Rattle.card.proofs.Hearing.{large-enough, place-roomy, held-fits, dmpt-bare}
 use Rattle.card.proofs.Accepted as call
 
 -- how many body bytes a packet brings: the segment bodies, or everything behind the header
@@ -128,3 +130,24 @@ limits-by (suc c) lead t packet s e =
 pub within-limits : (lead : ℕ) (t : Table) (packet : List ℕ) (s : Slices) →
     Limits (received lead t packet s .answer .frames) (received lead t packet s .answer .bytes) (received lead t packet s .answer .gap)
 within-limits lead t packet s = limits-by (received lead t packet s .answer .code) lead t packet s refl
+
+-- The lengths that a call leaves, as many as it delivered frames, add up to the bytes that it delivered.
+lengths-by : (c : ℕ) (lead : ℕ) (t : Table) (packet : List ℕ) (s : Slices) → received lead t packet s .answer .code ≡ c →
+    sumTo (byteAt (received lead t packet s .slices .lengths)) (received lead t packet s .answer .frames) ≡ received lead t packet s .answer .bytes
+unfolding carriedOut refused
+lengths-by zero lead t packet s e =
+    let a = call.accepted lead t packet s e in
+    let b = accepted-bounded lead t packet s a in
+    let frames = heardBy t (rowOf lead t packet) (sub lead packet) s .fate .delivered in
+    let few : length (lengths frames) ≤ length (s .lengths) = omega (arith, length-lengths frames, b .frames-few, large-enough s (a .large) .lengths-enough) in
+    let kept = length-put (s .lengths) 0 (lengths frames) (omega (arith, few)) in
+    rw (call.received-accepted lead t packet s e)
+    (sym (total-part (put (s .lengths) 0 (lengths frames)) (length frames) (omega (arith, few, kept, length-lengths frames)))
+    ∙ ap (λ (n : ℕ). total (part (put (s .lengths) 0 (lengths frames)) 0 n)) (sym (length-lengths frames))
+    ∙ ap total (part-put (s .lengths) 0 (lengths frames) (omega (arith, few)))
+    ∙ total-lengths frames)
+lengths-by (suc c) lead t packet s e = rw (call.received-refused lead t packet s c e) (sum-none (byteAt (s .lengths)))
+
+pub lengths-add-up : (lead : ℕ) (t : Table) (packet : List ℕ) (s : Slices) →
+    sumTo (byteAt (received lead t packet s .slices .lengths)) (received lead t packet s .answer .frames) ≡ received lead t packet s .answer .bytes
+lengths-add-up lead t packet s = lengths-by (received lead t packet s .answer .code) lead t packet s refl

@@ -62,6 +62,12 @@ pub record Fresh (file holding output lens : List ℕ) : Type 0 where
   pub output-zero : output ≡ replicate mostBytes 0
   pub lens-zero : lens ≡ replicate mostFrames 0
 
+-- slices that are large enough for any call
+pub record Roomy (holding output lens : List ℕ) : Type 0 where
+  pub holding-long : holdingSize ≤ length holding
+  pub output-long : mostBytes ≤ length output
+  pub lens-long : mostFrames ≤ length lens
+
 -- The room that texts need: a number with its space, the longest word for a kind, the columns of an answer, a line, the
 -- heading, a whole listing.
 abbrev pub columnRoom : ℕ

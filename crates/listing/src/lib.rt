@@ -1,6 +1,7 @@
 // Running a capture from an empty table, and the text that it prints: the listing, whole, and the trace, entry by entry.
 mod line;
 mod run;
+mod trace;
 
 ghost use mathlib.Core.Path.{_≡_};
 ghost use Prim.Native.Nat.{_+_, _<_, _≤_};
@@ -10,7 +11,8 @@ ghost use Rattle.text.specs.Text.{Wrote};
 ghost use Rattle.capture.specs.File.{headLength, entryCount, fileRefusal};
 ghost use Rattle.listing.specs.Run.{answerAt};
 ghost use Rattle.listing.specs.Listing.{lineAt, listing};
-ghost use Rattle.listing.specs.Walk.{Stands, Begins, Fresh, lineRoom, listingRoom};
+ghost use Rattle.listing.specs.Trace.{tracedAt};
+ghost use Rattle.listing.specs.Walk.{Stands, Begins, Fresh, Roomy, lineRoom, listingRoom, entryRoom};
 use capture::reader;
 use table::Table;
 
@@ -140,4 +142,32 @@ pub fn list(file: &[u8], text: &mut [u8]) -> usize
     let mut output = output_room();
     let mut lengths = lengths_room();
     list_entries(file, &mut holding, &mut output, &mut lengths, text)
+}
+
+// Runs an entry and writes its trace at the start of the text: its line, the frames that it delivered, and the open rows afterwards.
+pub fn trace_entry(
+    file: &[u8],
+    walk: Walk,
+    holding: &mut [u8],
+    output: &mut [u8],
+    lengths: &mut [u16],
+    text: &mut [u8],
+) -> Listed
+    requires { ⌜ Stands (now file) walk (now holding) (now output) (now lengths) × (walk .index < entryCount headLength (now file)) ⌝ }
+    requires { ⌜ Roomy (now holding) (now output) (now lengths) × (entryRoom ≤ length (now text)) ⌝ }
+    ensures { λ r. ⌜ Wrote (now (text .entry)) (now (text .exit)) 0 (r .next) (tracedAt (now (file .entry)) (walk .index)) ⌝ }
+    ensures { λ r. ⌜ Stands (now (file .entry)) (r .walk) (now (holding .exit)) (now (output .exit)) (now (lengths .exit)) × (r .walk .index ≡ walk .index + 1) ⌝ }
+{
+    let listed = list_entry(file, walk, holding, output, lengths, text, 0);
+    let frames = listed.frames;
+    let behind_line = listed.next;
+    let behind_frames = trace::write_frames(text, behind_line, output, lengths, frames as usize);
+    let further = listed.walk;
+    let table = further.table;
+    let behind_rows = trace::write_rows(text, behind_frames, table, holding);
+    Listed {
+        next: behind_rows,
+        frames,
+        walk: further,
+    }
 }

@@ -1,6 +1,6 @@
 -- The laws of cutting and pasting lists, proved once. Every proof above cites these and opens neither `take`, `drop` nor `++`.
 use mathlib.Core.Path.{_≡_, refl, sym, ap, _∙_}
-use Prim.Native.Nat.{ℕ, suc, _+_, _-_, _≤_, _<_}
+use Prim.Native.Nat.{ℕ, zero, suc, _+_, _-_, _≤_, _<_}
 use native.Mathlib.Nat.{add-zero, add-assoc}
 use native.Mathlib.Numerals.{add-one}
 use native.Mathlib.Omega.{arith}
@@ -10,6 +10,7 @@ use lib.ListN.{length, take, drop, set, length-append, length-drop, take-append-
 use lib.Seq.{length-take-le, take-length, take-take, take-append-le, take-at, take-all, drop-at, drop-cons, drop-drop, set-split, append-snoc, take-add, take-append-seam, drop-append-seam, getD-drop, getD-take, getD-append-add, ext-getD}
 use Rattle.octets.specs.Bytes.{byteAt}
 use Rattle.octets.specs.Stretch.{part, rest, put, joined, lengths, cutBy}
+use Rattle.octets.specs.Count.{sumTo}
 
 -- Stretches read out.
 pub length-part : (l : List ℕ) (from n : ℕ) → from + n ≤ length l → length (part l from n) ≡ n
@@ -259,3 +260,41 @@ cut-joined [] behind = refl
 cut-joined (s ∷ a) behind =
     rw (append-assoc s (joined a) behind, take-append-seam s (joined a ++ behind), drop-append-seam s (joined a ++ behind))
     (ap (λ (l : List (List ℕ)). s ∷ l) (cut-joined a behind))
+
+-- Bytes taken apart by one length more. First, lengths added up.
+abbrev pub total : List ℕ → ℕ
+total [] = 0
+total (n ∷ more) = n + total more
+
+-- one length more
+pub total-more : (l : List ℕ) (n : ℕ) → total (l ++ (n ∷ [])) ≡ total l + n
+total-more [] n = omega arith
+total-more (m ∷ l) n = omega (arith, total-more l n)
+
+-- the stretches are those before and one more, which starts behind all of them
+pub cut-more : (l : List ℕ) (n : ℕ) (bytes : List ℕ) → cutBy (l ++ (n ∷ [])) bytes ≡ cutBy l bytes ++ (part bytes (total l) n ∷ [])
+unfolding cutBy part
+cut-more [] n bytes = refl
+cut-more (m ∷ l) n bytes =
+    ap (λ (s : List (List ℕ)). take m bytes ∷ s) (cut-more l n (drop m bytes))
+    ∙ ap (λ (behind : List ℕ). take m bytes ∷ (cutBy l (drop m bytes) ++ (take n behind ∷ []))) (drop-drop (total l) m bytes)
+
+-- one element more from the front
+pub part-more : (l : List ℕ) (i : ℕ) → i < length l → part l 0 (i + 1) ≡ part l 0 i ++ (byteAt l i ∷ [])
+part-more l i h = sym (part-part-front l i 1) ∙ ap (λ (one : List ℕ). part l 0 i ++ one) (part-one l i h)
+
+-- the first i elements added up, both ways
+pub total-part : (l : List ℕ) (i : ℕ) → i ≤ length l → total (part l 0 i) ≡ sumTo (byteAt l) i
+unfolding sumTo
+total-part l zero h = ap total (part-none l 0)
+total-part l (suc i) h =
+    ap (λ (n : ℕ). total (part l 0 n)) (sym (add-one i))
+    ∙ ap total (part-more l i (omega (arith, h)))
+    ∙ total-more (part l 0 i) (byteAt l i)
+    ∙ ap (λ (n : ℕ). n + byteAt l i) (total-part l i (omega (arith, h)))
+
+-- the lengths of stretches add up to what they have back to back
+pub total-lengths : (a : List (List ℕ)) → total (lengths a) ≡ length (joined a)
+unfolding lengths joined
+total-lengths [] = refl
+total-lengths (s ∷ a) = omega (arith, total-lengths a, length-append s (joined a))

@@ -1,0 +1,46 @@
+-- The trace of one entry: its line, its frames and the rows afterwards are those of the run.
+use Prim.Native.Nat.{ℕ, suc, _+_, _≤_}
+use mathlib.Core.Path.{_≡_, refl, sym, ap, subst, _∙_}
+use mathlib.Core.Bool.{false}
+use mathlib.Core.List.{List, map}
+use native.Mathlib.Numerals.{add-one}
+use lib.ListN.{length}
+use Rattle.octets.specs.Stretch.{joined}
+use Rattle.table.specs.declared.Table.{Table}
+use Rattle.table.specs.Broken.{broken}
+use Rattle.card.specs.Receive.{mostBytes, mostFrames, framesFound}
+use Rattle.card.specs.History.{Card}
+use Rattle.text.specs.Text.{Wrote}
+use Rattle.text.proofs.Writing.{wrote-then, wrote-as}
+use Rattle.listing.specs.declared.Walk.{Walk}
+use Rattle.listing.specs.Run.{Running, standing, answerAt}
+use Rattle.listing.specs.Listing.{lineAt}
+use Rattle.listing.specs.Trace.{frameLine, framesText, rowsText, tracedAt}
+use Rattle.listing.specs.Walk.{asRunning, Stands, Findable}
+use Rattle.listing.proofs.Standing.{never-broken, frames-of-entry, frames-findable}
+
+-- behind entry k
+module _ {file : List ℕ} {w : Walk} {holding output lens : List ℕ} (s : Stands file w holding output lens) (k : ℕ) (further : w .index ≡ k + 1) where
+  run-is : asRunning (w .table) holding output lens ≡ standing file (suc k)
+  run-is = s .its-run ∙ ap (standing file) (further ∙ add-one k)
+
+  pub table-whole : broken (w .table) ≡ false
+  table-whole = ap (λ (r : Running). broken (r .card .table)) run-is ∙ never-broken file (suc k)
+
+  module _ (frames : ℕ) (e : frames ≡ answerAt file k .frames) where
+    pub findable : mostBytes ≤ length output → mostFrames ≤ length lens → Findable output lens frames
+    findable output-long lens-long =
+        subst (Findable output lens) (sym e) (frames-findable file k output lens (ap (λ (r : Running). r .lengths) run-is) output-long lens-long)
+
+    frames-are : joined (map frameLine (framesFound frames lens output)) ≡ framesText (answerAt file k)
+    unfolding framesText
+    frames-are =
+        ap (λ (n : ℕ). joined (map frameLine (framesFound n lens output))) e
+        ∙ ap (λ (r : Running). joined (map frameLine (framesFound (answerAt file k .frames) (r .lengths) (r .output)))) run-is
+        ∙ ap (λ (l : List (List ℕ)). joined (map frameLine l)) (frames-of-entry file k)
+
+    pub entry-traced : {t₀ t₁ t₂ t₃ : List ℕ} {behind-line behind-frames next : ℕ} → Wrote t₀ t₁ 0 behind-line (lineAt file k) →
+        Wrote t₁ t₂ behind-line behind-frames (joined (map frameLine (framesFound frames lens output))) →
+        Wrote t₂ t₃ behind-frames next (rowsText (record { table = w .table; holding = holding })) → Wrote t₀ t₃ 0 next (tracedAt file k)
+    unfolding tracedAt
+    entry-traced a b c = wrote-then (wrote-then a (wrote-as frames-are b)) (wrote-as (ap (λ (r : Running). rowsText (r .card)) run-is) c)

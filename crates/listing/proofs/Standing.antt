@@ -1,0 +1,103 @@
+-- How a run stands: its table is never broken, and after an entry its frames lie in the slices.
+use Prim.Native.Nat.{ℕ, zero, suc, _+_, _≤_}
+use mathlib.Core.Path.{_≡_, refl, sym, ap, subst, _∙_}
+use mathlib.Core.Bool.{Bool, true, false, cond}
+use mathlib.Core.List.{List, []}
+use native.Mathlib.Omega.{arith}
+use lib.Dec.{eqb}
+use lib.ListN.{length}
+use Rattle.octets.specs.Bytes.{be32At, byteAt}
+use Rattle.octets.specs.Stretch.{part, cutBy}
+use Rattle.octets.specs.Count.{sumTo}
+use Rattle.octets.proofs.Counts.{sum-none}
+use Rattle.octets.proofs.Stretches.{part-none}
+use Rattle.packet.specs.Header.{overIp}
+use Rattle.table.specs.declared.Mode.{Mode}
+use Rattle.table.specs.declared.Mode.the-variants as mode
+use Rattle.table.specs.Broken.{broken}
+use Rattle.table.proofs.Keeping.{empty-unbroken, opened-keeps, closed-keeps}
+use Rattle.card.specs.Receive.{mostFrames, mostBytes, asSlices, framesFound}
+use Rattle.card.specs.History.{Card, Call, opens, closes, hands, Answer, framesOf, answer, after}
+use Rattle.card.proofs.Keeping.{received-keeps}
+use Rattle.card.proofs.Limits.{within-limits, lengths-add-up}
+use Rattle.capture.specs.File.{Entry, openPsp, openDmpt, closing, nthEntry}
+use Rattle.listing.specs.Run.{Running, callOf, outputAfter, lengthsAfter, answerTo, runOne, begin, standing, answerAt}
+use Rattle.listing.specs.Walk.{Findable}
+
+-- what holds of every call that an entry may stand for holds of the call that it stands for
+either : (P : Call → Type 0) (b : Bool) {x y : Call} → P x → P y → P (cond b x y)
+either P true p q = p
+either P false p q = q
+
+by-call : (r : Running) (e : Entry) (P : Call → Type 0) → ((m : Mode) (id : ℕ) → P (opens m id)) → ((id : ℕ) → P (closes id)) →
+    P (hands (e .body) (r .output) (r .lengths)) → P (callOf r e)
+by-call r e P on-open on-close on-data =
+    either P (eqb (e .kind) openPsp) (on-open mode.Psp (be32At (e .body) 0))
+    (either P (eqb (e .kind) openDmpt) (on-open mode.Dmpt (be32At (e .body) 0))
+    (either P (eqb (e .kind) closing) (on-close (be32At (e .body) 0)) on-data))
+
+-- no entry breaks the table
+run-keeps : (r : Running) (e : Entry) → broken (r .card .table) ≡ false → broken (runOne r e .card .table) ≡ false
+unfolding runOne after
+run-keeps r e whole =
+    by-call r e (λ (x : Call). broken (after (r .card) x .table) ≡ false)
+    (λ m id. opened-keeps (r .card .table) id m whole)
+    (λ id. closed-keeps (r .card .table) id whole)
+    (received-keeps overIp (r .card .table) (e .body) (asSlices (r .card .holding) (r .output) (r .lengths)) whole)
+
+pub never-broken : (file : List ℕ) (k : ℕ) → broken (standing file k .card .table) ≡ false
+unfolding standing begin
+never-broken file zero = empty-unbroken
+never-broken file (suc k) = run-keeps (standing file k) (nthEntry file k) (never-broken file k)
+
+-- without lengths there are no stretches
+nothing : (output more-output : List ℕ) → cutBy [] output ≡ cutBy [] more-output
+unfolding cutBy
+nothing output more-output = refl
+
+-- the frames of a call are those that its caller finds, also where the slices were not lent to it: then there are none
+none-found : (lens output more-lens more-output : List ℕ) → framesFound 0 lens output ≡ framesFound 0 more-lens more-output
+none-found lens output more-lens more-output =
+    ap (λ (l : List ℕ). cutBy l output) (part-none lens 0) ∙ nothing output more-output ∙ sym (ap (λ (l : List ℕ). cutBy l more-output) (part-none more-lens 0))
+
+frames-same : (r : Running) (e : Entry) → framesFound (answerTo r e .frames) (runOne r e .lengths) (runOne r e .output) ≡ framesOf (answerTo r e)
+unfolding runOne answer
+frames-same r e =
+    by-call r e
+    (λ (x : Call). framesFound (answer (r .card) x .frames) (lengthsAfter x (r .lengths) (answer (r .card) x)) (outputAfter x (r .output) (answer (r .card) x)) ≡ framesOf (answer (r .card) x))
+    (λ m id. none-found (r .lengths) (r .output) [] [])
+    (λ id. none-found (r .lengths) (r .output) [] [])
+    refl
+
+pub frames-of-entry : (file : List ℕ) (k : ℕ) → framesFound (answerAt file k .frames) (standing file (suc k) .lengths) (standing file (suc k) .output) ≡ framesOf (answerAt file k)
+unfolding standing answerAt
+frames-of-entry file k = frames-same (standing file k) (nthEntry file k)
+
+-- they are few and short
+abbrev Short : ℕ → List ℕ → Type 0
+Short count lens = (count ≤ mostFrames) × (sumTo (byteAt lens) count ≤ mostBytes)
+
+none-short : (lens : List ℕ) → Short 0 lens
+none-short lens = (omega arith, omega (arith, sum-none (byteAt lens)))
+
+frames-short : (r : Running) (e : Entry) → Short (answerTo r e .frames) (runOne r e .lengths)
+unfolding runOne answer
+frames-short r e =
+    let s = asSlices (r .card .holding) (r .output) (r .lengths) in
+    let few = within-limits overIp (r .card .table) (e .body) s in
+    by-call r e (λ (x : Call). Short (answer (r .card) x .frames) (lengthsAfter x (r .lengths) (answer (r .card) x)))
+    (λ m id. none-short (r .lengths))
+    (λ id. none-short (r .lengths))
+    (few .most-frames, omega (arith, few .most-bytes, lengths-add-up overIp (r .card .table) (e .body) s))
+
+pub frames-findable : (file : List ℕ) (k : ℕ) (output lens : List ℕ) → lens ≡ standing file (suc k) .lengths → mostBytes ≤ length output → mostFrames ≤ length lens →
+    Findable output lens (answerAt file k .frames)
+unfolding standing answerAt
+frames-findable file k output lens e output-long lens-long =
+    let short = frames-short (standing file k) (nthEntry file k) in
+    record {
+      few = short .0;
+      all-short = subst (λ (l : List ℕ). sumTo (byteAt l) (answerAt file k .frames) ≤ mostBytes) (sym e) (short .1);
+      lens-long = lens-long;
+      output-long = output-long;
+    }

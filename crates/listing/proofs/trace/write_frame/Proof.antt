@@ -1,0 +1,35 @@
+-- `listing::trace::write_frame` writes the three pieces of the line, one behind the other.
+use Rattle.listing.proofs.Tracing.{frame-written}
+use borrow.Author.Needs.{needs}
+use Rattle.listing.proofs.trace.write_frame.Statement.{statement}
+use Rattle.listing.proofs.trace.write_frame.Tie as tie
+
+slice-aggregate-write-words : tie.Need-slice-aggregate-write-words
+slice-aggregate-write-words c = search needs
+
+write-words-requires : tie.Need-write-words-requires
+write-words-requires c κs = search needs
+
+write-hex-requires : tie.Need-write-hex-requires
+write-hex-requires c κs = search needs
+
+write-byte-requires : tie.Need-write-byte-requires
+write-byte-requires c κs = search needs
+
+same-length : tie.Need-same-length
+same-length c = search needs
+
+returns : tie.Need-returns
+returns c =
+    frame-written (c .before .before .before .before .before .before .before .before .before .before .before .before .before .before .before .args .bytes .now) (c .before .before .before .before .before .before .before .before .before .before .before .before .before .before .before .args .from) (c .before .before .before .before .before .before .before .before .before .before .before .before .before .before .before .args .size) (c .before .before .before .before .before .before .before .before .before .before .write-words .ensures) (c .before .before .before .before .before .before .write-hex .ensures .0) (c .before .before .before .before .before .before .write-hex .ensures .1) (c .before .before .write-byte .ensures)
+
+pub write-frame-spec : {M : Type 1} → statement M
+write-frame-spec =
+    tie.close
+    (tie.spec
+    slice-aggregate-write-words
+    write-words-requires
+    write-hex-requires
+    write-byte-requires
+    same-length
+    returns)

@@ -1,0 +1,150 @@
+// What a trace shows behind an entry's line: the frames that the entry delivered, and the open rows with what their flows hold.
+ghost use mathlib.Core.Path.{_≡_};
+ghost use mathlib.Core.Bool.{false};
+ghost use mathlib.Core.List.{map};
+ghost use Prim.Native.Nat.{_+_, _*_, _<_, _≤_};
+ghost use lib.ListN.{length};
+ghost use Rattle.octets.specs.Stretch.{part, joined};
+ghost use Rattle.flow.specs.Flow.{flows, longest};
+ghost use Rattle.table.specs.Rows.{rows};
+ghost use Rattle.table.specs.Broken.{broken};
+ghost use Rattle.card.specs.Receive.{holdingSize, placeOf, framesFound};
+ghost use Rattle.text.specs.Text.{Wrote};
+ghost use Rattle.listing.specs.Trace.{frameLine, hexOrDash, flowText, kindNumber, rowLine, rowText, rowsText};
+ghost use Rattle.listing.specs.Walk.{Findable, frameRoom, framesRoom, flowRoom, rowLineRoom, rowRoom, rowsRoom, HeldFew};
+use flow::FLOWS;
+use flow::Flow;
+use table::Kind;
+use table::ROWS;
+use table::Row;
+use table::Table;
+
+// A frame's length as a number to count with. The contract says its bound, which a sum needs.
+fn wide(length: u16) -> usize
+    ensures { λ r. ⌜ (r ≡ length) × (r < 65536) ⌝ }
+{
+    length as usize
+}
+
+// Writes the line of one frame: `size` bytes from place `from` on.
+fn write_frame(text: &mut [u8], at: usize, bytes: &[u8], from: usize, size: usize) -> usize
+    requires { ⌜ (at + frameRoom + 2 * size ≤ length (now text)) × (from + size ≤ length (now bytes)) ⌝ }
+    ensures { λ r. ⌜ Wrote (now (text .entry)) (now (text .exit)) at r (frameLine (part (now (bytes .entry)) from size)) ⌝ }
+    ensures { λ r. ⌜ r ≡ at + frameRoom + 2 * size ⌝ }
+{
+    let behind_word = text::write_words(text, at, b" frame ");
+    let behind_bytes = text::write_hex(text, behind_word, bytes, from, size);
+    text::write_byte(text, behind_bytes, b'\n')
+}
+
+// Writes a line for each of the frames that stand back to back in the output.
+pub fn write_frames(text: &mut [u8], at: usize, output: &[u8], lengths: &[u16], count: usize) -> usize
+    requires { ⌜ Findable (now output) (now lengths) count × (at + framesRoom ≤ length (now text)) ⌝ }
+    ensures { λ r. ⌜ Wrote (now (text .entry)) (now (text .exit)) at r
+        (joined (map frameLine (framesFound count (now (lengths .entry)) (now (output .entry))))) ⌝ }
+    ensures { λ r. ⌜ r ≤ at + framesRoom ⌝ }
+{
+    let mut next = at;
+    let mut from: usize = 0;
+    let mut i: usize = 0;
+    while i < count {
+        let size = wide(lengths[i]);
+        next = write_frame(text, next, output, from, size);
+        from += size;
+        i += 1;
+    }
+    next
+}
+
+// Writes the bytes that a flow holds, or a dash.
+fn write_held(text: &mut [u8], at: usize, holding: &[u8], from: usize, count: usize) -> usize
+    requires { ⌜ (at + 1 + 2 * count ≤ length (now text)) × (from + count ≤ length (now holding)) ⌝ }
+    ensures { λ r. ⌜ Wrote (now (text .entry)) (now (text .exit)) at r (hexOrDash (part (now (holding .entry)) from count)) ⌝ }
+    ensures { λ r. ⌜ r ≤ at + 1 + 2 * count ⌝ }
+{
+    if count == 0 {
+        return text::write_byte(text, at, b'-');
+    }
+    text::write_hex(text, at, holding, from, count)
+}
+
+// Writes the line of flow k of row r, unless the flow is fresh.
+fn write_flow(text: &mut [u8], at: usize, r: usize, k: usize, flow: Flow, holding: &[u8]) -> usize
+    requires { ⌜ (r < rows) × (k < flows) × (flow .held ≤ longest) ⌝ }
+    requires { ⌜ (holdingSize ≤ length (now holding)) × (at + flowRoom ≤ length (now text)) ⌝ }
+    ensures { λ n. ⌜ Wrote (now (text .entry)) (now (text .exit)) at n (flowText (now (holding .entry)) r k flow) ⌝ }
+    ensures { λ n. ⌜ n ≤ at + flowRoom ⌝ }
+{
+    if !flow.heard {
+        return at;
+    }
+    let behind_word = text::write_words(text, at, b" flow ");
+    let behind_row = text::write_decimal(text, behind_word, r as u32);
+    let behind_flow = text::write_column(text, behind_row, k as u32);
+    let behind_expected = text::write_column(text, behind_flow, flow.expected as u32);
+    let behind_held = text::write_column(text, behind_expected, flow.held as u32);
+    let behind_space = text::write_byte(text, behind_held, b' ');
+    let place = card::place_of(r, k);
+    let behind_bytes = write_held(text, behind_space, holding, place, wide(flow.held));
+    text::write_byte(text, behind_bytes, b'\n')
+}
+
+// The number of a row's kind.
+fn kind_number(kind: Kind) -> u32
+    ensures { λ n. ⌜ n ≡ kindNumber kind ⌝ }
+{
+    if table::is_dmpt(kind) {
+        return packet::KIND_DMPT;
+    }
+    packet::KIND_PSP
+}
+
+// Writes the line of row r itself.
+fn write_row_line(text: &mut [u8], at: usize, r: usize, row: Row) -> usize
+    requires { ⌜ (r < rows) × (at + rowLineRoom ≤ length (now text)) ⌝ }
+    ensures { λ n. ⌜ Wrote (now (text .entry)) (now (text .exit)) at n (rowLine r row) ⌝ }
+    ensures { λ n. ⌜ n ≤ at + rowLineRoom ⌝ }
+{
+    let behind_word = text::write_words(text, at, b" row ");
+    let behind_row = text::write_decimal(text, behind_word, r as u32);
+    let behind_id = text::write_column(text, behind_row, row.id);
+    let kind = row.kind;
+    let behind_kind = text::write_column(text, behind_id, kind_number(kind));
+    text::write_byte(text, behind_kind, b'\n')
+}
+
+// Writes row r and its flows, unless the row is closed.
+fn write_row(text: &mut [u8], at: usize, r: usize, row: Row, holding: &[u8]) -> usize
+    requires { ⌜ (r < rows) × HeldFew row ⌝ }
+    requires { ⌜ (holdingSize ≤ length (now holding)) × (at + rowRoom ≤ length (now text)) ⌝ }
+    ensures { λ n. ⌜ Wrote (now (text .entry)) (now (text .exit)) at n (rowText (now (holding .entry)) r row) ⌝ }
+    ensures { λ n. ⌜ n ≤ at + rowRoom ⌝ }
+{
+    let kind = row.kind;
+    if table::is_closed(kind) {
+        return at;
+    }
+    let mut next = write_row_line(text, at, r, row);
+    let mut k: usize = 0;
+    while k < FLOWS {
+        next = write_flow(text, next, r, k, row.flows[k], holding);
+        k += 1;
+    }
+    next
+}
+
+// Writes every open row.
+pub fn write_rows(text: &mut [u8], at: usize, table: Table, holding: &[u8]) -> usize
+    requires { ⌜ broken table ≡ false ⌝ }
+    requires { ⌜ (holdingSize ≤ length (now holding)) × (at + rowsRoom ≤ length (now text)) ⌝ }
+    ensures { λ n. ⌜ Wrote (now (text .entry)) (now (text .exit)) at n (rowsText (record { table = table; holding = now (holding .entry) })) ⌝ }
+    ensures { λ n. ⌜ n ≤ at + rowsRoom ⌝ }
+{
+    let mut next = at;
+    let mut r: usize = 0;
+    while r < ROWS {
+        next = write_row(text, next, r, table.rows[r], holding);
+        r += 1;
+    }
+    next
+}
