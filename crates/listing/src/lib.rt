@@ -1,5 +1,5 @@
 // Running a capture from an empty table, and the text that it prints: the listing, whole, and the trace, entry by entry.
-mod line;
+pub mod line;
 mod run;
 mod trace;
 
@@ -23,6 +23,9 @@ const HEADING_ROOM: usize = 37;
 const LINE_ROOM: usize = text::MOST_DIGITS + 1 + 5 + 5 * (1 + text::MOST_DIGITS) + 1;
 
 pub const LISTING_ROOM: usize = HEADING_ROOM + LINE_ROOM * capture::MOST_ENTRIES;
+
+// Room for the trace of any entry: its line, the lines of its frames, and all rows with all flows holding all they can.
+pub const ENTRY_ROOM: usize = LINE_ROOM + trace::FRAMES_ROOM + trace::ROWS_ROOM;
 
 // Where a run stands: before entry `index`, whose body starts at `start`, with the table as it is there.
 pub struct Walk {

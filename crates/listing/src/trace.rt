@@ -19,6 +19,19 @@ use table::ROWS;
 use table::Row;
 use table::Table;
 
+// Room for the lines of a call's frames: in each a word, and the end of the line; and two digits for each byte.
+pub const FRAMES_ROOM: usize = 8 * card::MOST_FRAMES + 2 * card::MOST_BYTES;
+
+// Room for a column; for the line of a flow: the word, the row, three columns, a space, a dash or two digits for each byte, the end of the
+// line; for that of a row: the word, the row, two columns and the end of the line; and for all rows with their flows.
+const COLUMN_ROOM: usize = 1 + text::MOST_DIGITS;
+
+const FLOW_ROOM: usize = 6 + text::MOST_DIGITS + 3 * COLUMN_ROOM + 1 + (1 + 2 * Flow::LONGEST as usize) + 1;
+
+const ROW_LINE_ROOM: usize = 5 + text::MOST_DIGITS + 2 * COLUMN_ROOM + 1;
+
+pub const ROWS_ROOM: usize = (ROW_LINE_ROOM + FLOW_ROOM * FLOWS) * ROWS;
+
 // A frame's length as a number to count with. The contract says its bound, which a sum needs.
 fn wide(length: u16) -> usize
     ensures { λ r. ⌜ (r ≡ length) × (r < 65536) ⌝ }

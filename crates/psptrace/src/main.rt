@@ -1,0 +1,72 @@
+// psptrace < CAPTURE
+//
+// Lists a capture as psplist does, and behind each entry's line shows what the card did: the frames that the entry delivered, and how the
+// open rows and their flows stand afterwards, with the bytes that they hold. A trace may be long, so it is written entry by entry; the text
+// of each is what `listing::trace_entry` made.
+ghost use mathlib.Core.Path.{_≡_};
+ghost use Prim.Native.Nat.{_+_, _≤_};
+ghost use lib.ListN.{length};
+ghost use Rattle.capture.specs.File.{longestFile};
+ghost use Rattle.listing.specs.Walk.{Fresh, Roomy, entryRoom};
+use capture::reader;
+use libc::STDIN_FILENO;
+use libc::STDOUT_FILENO;
+
+fn main() {
+    let mut file = file_room();
+    let read = io::read_full(STDIN_FILENO, &mut file);
+    let mut text = text_room();
+    trace(&file[..read], &mut text);
+}
+
+// One byte more than a capture may have, so that a longer one is seen to be too long. The contracts say how long the rooms are, which
+// lending one as a slice needs.
+fn file_room() -> [u8; capture::LONGEST_FILE + 1]
+    ensures { λ r. ⌜ longestFile + 1 ≡ length r ⌝ }
+{
+    [0; capture::LONGEST_FILE + 1]
+}
+
+fn text_room() -> [u8; listing::ENTRY_ROOM]
+    ensures { λ r. ⌜ entryRoom ≡ length r ⌝ }
+{
+    [0; listing::ENTRY_ROOM]
+}
+
+// Traces a capture; or says that it is refused.
+fn trace(file: &[u8], text: &mut [u8])
+    requires { ⌜ entryRoom ≤ length (now text) ⌝ }
+{
+    let refused = reader::check(file);
+    if refused != refusal::NONE {
+        let length = listing::line::write_refused(text, 0, refused);
+        io::write_all(STDOUT_FILENO, &text[..length]);
+        return;
+    }
+    let length = listing::line::write_heading(text, 0);
+    io::write_all(STDOUT_FILENO, &text[..length]);
+    let mut holding = listing::holding_room();
+    let mut output = listing::output_room();
+    let mut lengths = listing::lengths_room();
+    trace_entries(file, &mut holding, &mut output, &mut lengths, text);
+}
+
+// Traces the entries of a sound file, one after another.
+fn trace_entries(
+    file: &[u8],
+    holding: &mut [u8],
+    output: &mut [u8],
+    lengths: &mut [u16],
+    text: &mut [u8],
+)
+    requires { ⌜ Fresh (now file) (now holding) (now output) (now lengths) × Roomy (now holding) (now output) (now lengths) × (entryRoom ≤ length (now text)) ⌝ }
+{
+    let count = reader::entry_count(file);
+    let mut walk = listing::begin(file);
+    while walk.index < count {
+        let traced = listing::trace_entry(file, walk, holding, output, lengths, text);
+        let length = traced.next;
+        io::write_all(STDOUT_FILENO, &text[..length]);
+        walk = traced.walk;
+    }
+}
