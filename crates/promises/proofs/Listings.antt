@@ -1,0 +1,118 @@
+-- Document 01's capture, listed and traced by the definitions: session 0x101 opened, packet A, packet B twice, the session closed. The
+-- listing is the paper's own, word for word.
+use Prim.Native.Nat.{ℕ}
+use mathlib.Core.Path.{_≡_, refl}
+use mathlib.Core.List.{List, [], _∷_, _++_}
+use lib.ListN.{length}
+use Rattle.octets.specs.Stretch.{part, rest, put, joined, lengths, cutBy}
+use Rattle.octets.specs.Count.{any, least, sumTo, upTo}
+use Rattle.flow.specs.Numbers.{ahead, next}
+use Rattle.packet.specs.Segments.{bodyAt, segmentAt, segments}
+use Rattle.packet.specs.Psp.{wanted}
+use Rattle.table.specs.Broken.{broken}
+use Rattle.table.specs.Calls.{opened, closed}
+use Rattle.card.specs.Join.{settledBy, settled, fateBy, fate, atGap, inOrder}
+use Rattle.card.specs.Hear.{pspFate, hear}
+use Rattle.card.specs.Receive.{carriedOut, refused, receivedBy, received}
+use Rattle.card.specs.History.{answer, after}
+use Rattle.text.specs.Text.{ascii, digits, decimal, column, hex}
+use Rattle.capture.specs.File.{bodyStart, fileRefusal, Entry, nthEntry, fileOf}
+use Rattle.capture.proofs.Examples.{capture}
+use Rattle.listing.specs.Run.{begin, runOne, standing, answerAt}
+use Rattle.listing.specs.Listing.{columns, line, lineAt, refusedLine, listingBy, listing}
+use Rattle.listing.specs.Trace.{frameLine, framesText, flowLine, flowText, rowLine, rowText, rowsText, tracedAt, traceBy, trace}
+
+pub listed : listing capture
+    ≡ ascii "n what code frames bytes dropped gap\n"
+    ++ ascii "0 open 0 0 0 0 0\n"
+    ++ ascii "1 data 0 1 6 0 0\n"
+    ++ ascii "2 data 0 1 9 0 0\n"
+    ++ ascii "3 data 12 0 0 0 0\n"
+    ++ ascii "4 close 0 0 0 0 0\n"
+unfolding listing listingBy lineAt line columns decimal digits column fileRefusal bodyStart nthEntry begin runOne standing answerAt answer after
+    opened closed broken received receivedBy carriedOut refused hear pspFate settledBy settled fateBy fate atGap inOrder wanted bodyAt segmentAt segments
+    ahead next part rest put joined lengths any least sumTo upTo
+listed = refl
+
+pub traced : trace capture
+    ≡ ascii "n what code frames bytes dropped gap\n"
+    ++ ascii "0 open 0 0 0 0 0\n"
+    ++ ascii " row 0 257 1\n"
+    ++ ascii "1 data 0 1 6 0 0\n"
+    ++ ascii " frame 111213141516\n"
+    ++ ascii " row 0 257 1\n"
+    ++ ascii " flow 0 1 0 2 2122\n"
+    ++ ascii "2 data 0 1 9 0 0\n"
+    ++ ascii " frame 212223242526272829\n"
+    ++ ascii " row 0 257 1\n"
+    ++ ascii " flow 0 1 1 0 -\n"
+    ++ ascii "3 data 12 0 0 0 0\n"
+    ++ ascii " row 0 257 1\n"
+    ++ ascii " flow 0 1 1 0 -\n"
+    ++ ascii "4 close 0 0 0 0 0\n"
+unfolding trace traceBy tracedAt framesText frameLine rowsText rowText rowLine flowText flowLine hex cutBy lineAt line columns decimal digits column fileRefusal bodyStart nthEntry begin runOne standing answerAt answer after
+    opened closed broken received receivedBy carriedOut refused hear pspFate settledBy settled fateBy fate atGap inOrder wanted bodyAt segmentAt segments
+    ahead next part rest put joined lengths any least sumTo upTo
+traced = refl
+
+-- Two channels use the same flow number at the same time, and each has half a frame: the frame of the first comes out whole, and the close of
+-- the second drops the byte that it held. A D-MPT session takes the row that came free, and what is closed cannot be closed again.
+abbrev opening : ℕ → ℕ → Entry
+opening kind id = record { kind = kind; body = 0x00 ∷ 0x00 ∷ 0x01 ∷ id ∷ [] }
+
+abbrev piece : ℕ → ℕ → ℕ → List ℕ → Entry
+piece id number mark bytes =
+    record { kind = 4; body = 0x00 ∷ 0x00 ∷ 0x01 ∷ id ∷ 0x41 ∷ 0x01 ∷ 0x00 ∷ number ∷ mark ∷ length bytes ∷ bytes }
+
+abbrev two-channels : List ℕ
+two-channels =
+    fileOf
+    (opening 1 0x01 ∷ opening 1 0x02
+    ∷ piece 0x01 5 0x80 (0xAA ∷ 0xBB ∷ []) ∷ piece 0x02 9 0x80 (0xCC ∷ []) ∷ piece 0x01 6 0x40 (0xDD ∷ [])
+    ∷ opening 3 0x02 ∷ opening 2 0x03 ∷ opening 3 0x02 ∷ [])
+
+pub two-traced : trace two-channels
+    ≡ ascii "n what code frames bytes dropped gap\n"
+    ++ ascii "0 open 0 0 0 0 0\n"
+    ++ ascii " row 0 257 1\n"
+    ++ ascii "1 open 0 0 0 0 0\n"
+    ++ ascii " row 0 257 1\n"
+    ++ ascii " row 1 258 1\n"
+    ++ ascii "2 data 0 0 0 0 0\n"
+    ++ ascii " row 0 257 1\n"
+    ++ ascii " flow 0 1 6 2 aabb\n"
+    ++ ascii " row 1 258 1\n"
+    ++ ascii "3 data 0 0 0 0 0\n"
+    ++ ascii " row 0 257 1\n"
+    ++ ascii " flow 0 1 6 2 aabb\n"
+    ++ ascii " row 1 258 1\n"
+    ++ ascii " flow 1 1 10 1 cc\n"
+    ++ ascii "4 data 0 1 3 0 0\n"
+    ++ ascii " frame aabbdd\n"
+    ++ ascii " row 0 257 1\n"
+    ++ ascii " flow 0 1 7 0 -\n"
+    ++ ascii " row 1 258 1\n"
+    ++ ascii " flow 1 1 10 1 cc\n"
+    ++ ascii "5 close 0 0 0 1 0\n"
+    ++ ascii " row 0 257 1\n"
+    ++ ascii " flow 0 1 7 0 -\n"
+    ++ ascii "6 open 0 0 0 0 0\n"
+    ++ ascii " row 0 257 1\n"
+    ++ ascii " flow 0 1 7 0 -\n"
+    ++ ascii " row 1 259 2\n"
+    ++ ascii "7 close 25 0 0 0 0\n"
+    ++ ascii " row 0 257 1\n"
+    ++ ascii " flow 0 1 7 0 -\n"
+    ++ ascii " row 1 259 2\n"
+unfolding trace traceBy tracedAt framesText frameLine rowsText rowText rowLine flowText flowLine hex cutBy lineAt line columns decimal digits column fileOf fileRefusal bodyStart nthEntry begin runOne standing answerAt answer after
+    opened closed broken received receivedBy carriedOut refused hear pspFate settledBy settled fateBy fate atGap inOrder wanted bodyAt segmentAt segments
+    ahead next part rest put joined lengths any least sumTo upTo
+two-traced = refl
+
+-- A file with one byte left over prints one line, traced or not.
+abbrev left-over : List ℕ
+left-over = capture ++ (0 ∷ [])
+
+pub refused-listed : (listing left-over ≡ ascii "refused 45\n") × (trace left-over ≡ ascii "refused 45\n")
+unfolding listing listingBy trace traceBy refusedLine column decimal digits fileRefusal bodyStart any sumTo
+refused-listed = (refl, refl)
