@@ -1,6 +1,6 @@
 """Whether the documents name what is there.
 
-In README.md and docs/, every path in backquotes that begins with a folder of this repository exists, and every
+In README.md, docs/ and the pages of examples/ and second/, every path in backquotes that begins with a folder of this repository exists, and every
 `file`: `name`, `name` names declarations of that file. Every must-fail edit stands in docs/PROMISES.md, and every edit named there
 exists. Prints what is wrong and ends with status 1; ends with 0 where nothing is."""
 import glob
@@ -8,7 +8,7 @@ import os
 import re
 import sys
 
-FOLDERS = ("crates/", "docs/", "bin/", "host/", "include/", ".ci/")
+FOLDERS = ("crates/", "docs/", "bin/", "host/", "include/", "second/", "tests/", "examples/", ".ci/")
 NAMED = re.compile(r"`([^`\s]+\.(?:antt|rt|h))`: ((?:`[^`]+`(?:, | and )?)+)")
 
 
@@ -54,7 +54,7 @@ def wrong_edits():
         yield f"docs/PROMISES.md: there is no must-fail edit {edit}"
 
 
-documents = ["README.md", *sorted(glob.glob("docs/**/*.md", recursive=True))]
+documents = ["README.md", *sorted(glob.glob("docs/**/*.md", recursive=True)), "examples/README.md", "second/README.md"]
 wrong = [line for document in documents for line in wrong_in(document)] + list(wrong_edits())
 print("\n".join(wrong) or f"{len(documents)} documents name what is there")
 sys.exit(1 if wrong else 0)

@@ -6,10 +6,10 @@ use mathlib.Core.List.{List, [], _∷_}
 use native.Mathlib.Omega.{arith}
 use lib.Dec.{eqb, ltb, leb}
 use lib.ListN.{length}
-use borrow.Author.Tests.{lt-ltb, le-ltb, le-leb, lt-leb, leb-true, ltb-false, eq-eqb, ne-eqb, eqb-true, not-false}
+use borrow.Author.Tests.{lt-ltb, le-ltb, le-leb, lt-leb, ltb-false, eq-eqb, ne-eqb, eqb-true, not-false}
 use Rattle.refusal.specs.Refusal.{first, _when_}
 use Rattle.refusal.proofs.Laws.{none-applies, none-first}
-use Rattle.octets.specs.Count.{any, sumTo}
+use Rattle.octets.specs.Count.{any}
 use Rattle.octets.specs.Stretch.{part}
 use Rattle.octets.proofs.Counts.{or-false-right, or-same, any-none, any-more, none-at, sum-none, sum-more, sum-within}
 use Rattle.octets.proofs.Stretches.{length-part}
@@ -190,12 +190,19 @@ sound-passes file sound =
     let long : headLength ≤ length file = omega (arith, sound .contents-inside) in
     let too-short : (ltb (length file) headLength || (leb n mostEntries && ltb (length file) (headLength + entryLength * n))) ≡ false =
     rw (le-ltb (length file) headLength long, le-leb n mostEntries (sound .few), le-ltb (length file) (headLength + entryLength * n) (sound .contents-inside)) refl in
-    none-first (fileRefusals headLength entryLength file)
-    (le-ltb longestFile (length file) (sound .short),
-    (too-short,
-    (le-ltb mostEntries n (sound .few),
-    (sound .none-wrong,
-    (ap not (eq-eqb (bodyStart headLength entryLength file n) (length file) (sound .ends)), tt)))))
+    none-first (fileRefusals headLength entryLength file) (
+      le-ltb longestFile (length file) (sound .short),
+      (
+        too-short,
+        (
+          le-ltb mostEntries n (sound .few),
+          (
+            sound .none-wrong,
+            (ap not (eq-eqb (bodyStart headLength entryLength file n) (length file) (sound .ends)), tt),
+          ),
+        ),
+      ),
+    )
 
 -- where a walk stands, the entry and its body lie in the file
 starts-before : (file : List ℕ) (k n : ℕ) → k < n → bodyStart headLength entryLength file k + bodyLength headLength entryLength file k ≤ bodyStart headLength entryLength file n

@@ -1,11 +1,11 @@
 -- A sound capture file is the file of its entries (`reads-back`); and the other way round, the file of entries that may be written is sound
 -- (`written-sound`), and those entries are read from it (`written-reads`).
-use Prim.Native.Nat.{ℕ, zero, suc, _+_, _*_, _/_, _%_, _<_, _≤_}
+use Prim.Native.Nat.{ℕ, zero, suc, _+_, _*_, _<_, _≤_}
 use mathlib.Core.Path.{_≡_, refl, sym, ap, subst, _∙_}
-use mathlib.Core.Bool.{Bool, true, false, not, _&&_, _||_}
-use mathlib.Core.List.{List, [], _∷_, _++_, map, append-assoc, append-nil}
+use mathlib.Core.Bool.{Bool, false, not, _||_}
+use mathlib.Core.List.{List, [], _∷_, _++_, map, append-nil}
 use native.Mathlib.Omega.{arith}
-use lib.Dec.{eqb, ltb, leb}
+use lib.Dec.{eqb}
 use lib.ListN.{length, length-append}
 use lib.Seq.{append-snoc}
 use borrow.Author.Tests.{eqb-true, not-false}
@@ -19,8 +19,8 @@ use Rattle.octets.proofs.Counts.{or-false-left, or-false-right, none-at, sum-wi
 use Rattle.capture.specs.Write.{Right, Writable}
 use Rattle.capture.proofs.Writing.{contents-length, file-length}
 use Rattle.capture.proofs.Checking.{Sound, is-sound, sound-passes}
-use Rattle.capture.specs.File.{headLength, entryLength, longestFile, mostEntries, bodyIn, kinds, isKind, takesLength, entryCount, kindAt, secondAt, bodyLength, bodyStart}
-use Rattle.capture.specs.File.{wrongParts, wrongEntry, fileRefusals, fileRefusal, Entry, nthEntry, entries, contentOf, bodyOf, fileOf}
+use Rattle.capture.specs.File.{headLength, entryLength, bodyIn, kinds, isKind, takesLength, entryCount, kindAt, secondAt, bodyLength, bodyStart}
+use Rattle.capture.specs.File.{wrongParts, wrongEntry, fileRefusal, Entry, nthEntry, entries, contentOf, bodyOf, fileOf}
 
 -- three stretches back to back, each of which is as it was
 pub three-same : {a b c x y z : List ℕ} → a ≡ x → b ≡ y → c ≡ z → a ++ b ++ c ≡ x ++ y ++ z
@@ -165,8 +165,14 @@ module _ (es : List Entry) (writable : Writable es) where
     body-short : length (e .body) < 65536
     body-short =
         let all : bodies es ≡ bodies before ++ e .body ++ bodies behind = ap bodies split ∙ joined-apart bodyOf before e behind in
-        omega (arith, writable .short, file-length es, ap length all, length-append (bodies before ++ e .body) (bodies behind),
-        length-append (bodies before) (e .body))
+        omega (
+          arith,
+          writable .short,
+          file-length es,
+          ap length all,
+          length-append (bodies before ++ e .body) (bodies behind),
+          length-append (bodies before) (e .body),
+        )
 
     -- the entry's part of the contents stands in its place
     content-read : part (fileOf es) (entryAt (length before)) entryLength ≡ contentOf e

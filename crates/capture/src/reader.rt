@@ -3,7 +3,6 @@
 ghost use mathlib.Core.Path.{_≡_};
 ghost use Prim.Native.Nat.{_+_, _*_, _≤_};
 ghost use lib.ListN.{length};
-ghost use Rattle.octets.specs.Stretch.{part};
 ghost use Rattle.octets.specs.Count.{any};
 ghost use Rattle.capture.specs.File.{headLength, entryLength, mostEntries, entryCount, kindAt, bodyLength, bodyStart, wrongParts, wrongEntry, nthEntry, PermitsCheck, StandsAt};
 use crate::CLOSE;

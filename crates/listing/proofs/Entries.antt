@@ -1,15 +1,13 @@
 -- The trace of one entry: its line, its frames and the rows afterwards are those of the run.
 use Prim.Native.Nat.{ℕ, suc, _+_, _≤_}
-use mathlib.Core.Path.{_≡_, refl, sym, ap, subst, _∙_}
+use mathlib.Core.Path.{_≡_, sym, ap, subst, _∙_}
 use mathlib.Core.Bool.{false}
 use mathlib.Core.List.{List, map}
 use native.Mathlib.Numerals.{add-one}
 use lib.ListN.{length}
 use Rattle.octets.specs.Stretch.{joined}
-use Rattle.table.specs.declared.Table.{Table}
 use Rattle.table.specs.Broken.{broken}
 use Rattle.card.specs.Receive.{mostBytes, mostFrames, framesFound}
-use Rattle.card.specs.History.{Card}
 use Rattle.text.specs.Text.{Wrote}
 use Rattle.text.proofs.Writing.{wrote-then, wrote-as}
 use Rattle.listing.specs.declared.Walk.{Walk}

@@ -1,7 +1,7 @@
 -- Running one entry: the call that it stands for, and what that call comes to.
-use Prim.Native.Nat.{ℕ, _+_, _<_, _≤_}
+use Prim.Native.Nat.{ℕ, _+_, _<_}
 use mathlib.Core.Path.{_≡_, refl, sym, ap, subst, _∙_}
-use mathlib.Core.Bool.{Bool, true, false, cond}
+use mathlib.Core.Bool.{true}
 use mathlib.Core.List.{List}
 use native.Mathlib.Omega.{arith}
 use lib.Dec.{eqb}
@@ -9,13 +9,14 @@ use lib.ListN.{length}
 use borrow.Author.Tests.{eq-eqb, ne-eqb, eqb-true}
 use Rattle.octets.specs.Bytes.{be32At}
 use Rattle.table.specs.declared.Table.{Table}
+use Rattle.table.specs.declared.Mode.{Mode}
 use Rattle.table.specs.declared.Mode.the-variants as mode
 use Rattle.table.specs.Calls.{opened, closed}
 use Rattle.card.specs.declared.Received.{Received}
-use Rattle.card.specs.Receive.{Slices, asSlices, Outcome, PermitsReceive}
-use Rattle.card.specs.History.{Card, Call, opens, closes, hands, Answer, handed, answer, after}
+use Rattle.card.specs.Receive.{asSlices, PermitsReceive}
+use Rattle.card.specs.History.{Call, opens, closes, hands, handed, answer, after}
 use Rattle.capture.specs.File.{Entry, openPsp, openDmpt, closing, idBody, bodyIn, kinds, takesLength}
-use Rattle.listing.specs.Run.{Running, callOf, outputAfter, lengthsAfter, answerTo, runOne}
+use Rattle.listing.specs.Run.{Running, callOf, outputAfter, lengthsAfter, runOne}
 use Rattle.listing.specs.Walk.{asRunning, answered, Counts, RunsTo}
 
 abbrev entryOf : ℕ → List ℕ → Entry
@@ -40,42 +41,37 @@ module _ (t : Table) (holding output lens : List ℕ) (kind : ℕ) (body : List 
   abbrev before : Running
   before = asRunning t holding output lens
 
-  module _ (psp : kind ≡ openPsp) where
-    psp-call : callOf before (entryOf kind body) ≡ opens mode.Psp (be32At body 0)
-    psp-call = rw (eq-eqb kind openPsp psp) refl
+  -- an entry that opens, as PSP or as D-MPT
+  opened-as : (asked : Mode) (id : ℕ) (r : Received) → callOf before (entryOf kind body) ≡ opens asked (be32At body 0) → id ≡ be32At body 0 →
+      r ≡ answered (opened t id asked .code) 0 (opened t id asked .table) → RunsTo before (entryOf kind body) r holding output lens
+  unfolding answer after
+  opened-as asked id r x i e =
+      let e′ : r ≡ answered (opened t (be32At body 0) asked .code) 0 (opened t (be32At body 0) asked .table) =
+      e ∙ ap (λ (y : ℕ). answered (opened t y asked .code) 0 (opened t y asked .table)) i in
+      subst (λ (y : Received). RunsTo before (entryOf kind body) y holding output lens) (sym e′)
+      (ran-as before (entryOf kind body) (opens asked (be32At body 0)) _ holding output lens x
+      (record { its-code = refl; its-frames = refl; its-bytes = refl; its-dropped = refl; its-gap = refl }) refl)
 
+  -- a body that has to be a session ID can be read as one
+  id-inside : takesLength (bodyIn kinds kind) (length body) ≡ eqb (length body) idBody → takesLength (bodyIn kinds kind) (length body) ≡ true → 0 + 3 < length body
+  id-inside e takes = omega (arith, eqb-true (length body) idBody (sym e ∙ takes))
+
+  module _ (psp : kind ≡ openPsp) where
     pub psp-body : takesLength (bodyIn kinds kind) (length body) ≡ true → 0 + 3 < length body
-    psp-body takes = let e : eqb (length body) idBody ≡ true = rw (eq-eqb kind openPsp psp) at takes in omega (arith, eqb-true (length body) idBody e)
+    psp-body = id-inside (rw (eq-eqb kind openPsp psp) refl)
 
     pub opens-psp : (id : ℕ) (r : Received) → id ≡ be32At body 0 → r ≡ answered (opened t id mode.Psp .code) 0 (opened t id mode.Psp .table) →
         RunsTo before (entryOf kind body) r holding output lens
-    unfolding answer after
-    opens-psp id r i e =
-        let e′ : r ≡ answered (opened t (be32At body 0) mode.Psp .code) 0 (opened t (be32At body 0) mode.Psp .table) =
-        e ∙ ap (λ (x : ℕ). answered (opened t x mode.Psp .code) 0 (opened t x mode.Psp .table)) i in
-        subst (λ (x : Received). RunsTo before (entryOf kind body) x holding output lens) (sym e′)
-        (ran-as before (entryOf kind body) (opens mode.Psp (be32At body 0)) _ holding output lens psp-call
-        (record { its-code = refl; its-frames = refl; its-bytes = refl; its-dropped = refl; its-gap = refl }) refl)
+    opens-psp id r = opened-as mode.Psp id r (rw (eq-eqb kind openPsp psp) refl)
 
   module _ (other : kind ≡ openPsp → ⊥) where
     module _ (dmpt : kind ≡ openDmpt) where
-      dmpt-call : callOf before (entryOf kind body) ≡ opens mode.Dmpt (be32At body 0)
-      dmpt-call = rw (ne-eqb kind openPsp other, eq-eqb kind openDmpt dmpt) refl
-
       pub dmpt-body : takesLength (bodyIn kinds kind) (length body) ≡ true → 0 + 3 < length body
-      dmpt-body takes =
-          let e : eqb (length body) idBody ≡ true = rw (ne-eqb kind openPsp other, eq-eqb kind openDmpt dmpt) at takes in
-          omega (arith, eqb-true (length body) idBody e)
+      dmpt-body = id-inside (rw (ne-eqb kind openPsp other, eq-eqb kind openDmpt dmpt) refl)
 
       pub opens-dmpt : (id : ℕ) (r : Received) → id ≡ be32At body 0 → r ≡ answered (opened t id mode.Dmpt .code) 0 (opened t id mode.Dmpt .table) →
           RunsTo before (entryOf kind body) r holding output lens
-      unfolding answer after
-      opens-dmpt id r i e =
-          let e′ : r ≡ answered (opened t (be32At body 0) mode.Dmpt .code) 0 (opened t (be32At body 0) mode.Dmpt .table) =
-          e ∙ ap (λ (x : ℕ). answered (opened t x mode.Dmpt .code) 0 (opened t x mode.Dmpt .table)) i in
-          subst (λ (x : Received). RunsTo before (entryOf kind body) x holding output lens) (sym e′)
-          (ran-as before (entryOf kind body) (opens mode.Dmpt (be32At body 0)) _ holding output lens dmpt-call
-          (record { its-code = refl; its-frames = refl; its-bytes = refl; its-dropped = refl; its-gap = refl }) refl)
+      opens-dmpt id r = opened-as mode.Dmpt id r (rw (ne-eqb kind openPsp other, eq-eqb kind openDmpt dmpt) refl)
 
     module _ (not-dmpt : kind ≡ openDmpt → ⊥) where
       module _ (close : kind ≡ closing) where
@@ -83,9 +79,7 @@ module _ (t : Table) (holding output lens : List ℕ) (kind : ℕ) (body : List 
         close-call = rw (ne-eqb kind openPsp other, ne-eqb kind openDmpt not-dmpt, eq-eqb kind closing close) refl
 
         pub close-body : takesLength (bodyIn kinds kind) (length body) ≡ true → 0 + 3 < length body
-        close-body takes =
-            let e : eqb (length body) idBody ≡ true = rw (ne-eqb kind openPsp other, ne-eqb kind openDmpt not-dmpt, eq-eqb kind closing close) at takes in
-            omega (arith, eqb-true (length body) idBody e)
+        close-body = id-inside (rw (ne-eqb kind openPsp other, ne-eqb kind openDmpt not-dmpt, eq-eqb kind closing close) refl)
 
         pub closes-row : (id : ℕ) (r : Received) → id ≡ be32At body 0 → r ≡ answered (closed t id .code) (closed t id .dropped) (closed t id .table) →
             RunsTo before (entryOf kind body) r holding output lens

@@ -1,5 +1,5 @@
 -- How a run stands: its table is never broken, and after an entry its frames lie in the slices.
-use Prim.Native.Nat.{ℕ, zero, suc, _+_, _≤_}
+use Prim.Native.Nat.{ℕ, zero, suc, _≤_}
 use mathlib.Core.Path.{_≡_, refl, sym, ap, subst, _∙_}
 use mathlib.Core.Bool.{Bool, true, false, cond}
 use mathlib.Core.List.{List, []}
@@ -7,7 +7,7 @@ use native.Mathlib.Omega.{arith}
 use lib.Dec.{eqb}
 use lib.ListN.{length}
 use Rattle.octets.specs.Bytes.{be32At, byteAt}
-use Rattle.octets.specs.Stretch.{part, cutBy}
+use Rattle.octets.specs.Stretch.{cutBy}
 use Rattle.octets.specs.Count.{sumTo}
 use Rattle.octets.proofs.Counts.{sum-none}
 use Rattle.octets.proofs.Stretches.{part-none}
@@ -17,7 +17,7 @@ use Rattle.table.specs.declared.Mode.the-variants as mode
 use Rattle.table.specs.Broken.{broken}
 use Rattle.table.proofs.Keeping.{empty-unbroken, opened-keeps, closed-keeps}
 use Rattle.card.specs.Receive.{mostFrames, mostBytes, asSlices, framesFound}
-use Rattle.card.specs.History.{Card, Call, opens, closes, hands, Answer, framesOf, answer, after}
+use Rattle.card.specs.History.{Call, opens, closes, hands, framesOf, answer, after}
 use Rattle.card.proofs.Keeping.{received-keeps}
 use Rattle.card.proofs.Limits.{within-limits, lengths-add-up}
 use Rattle.capture.specs.File.{Entry, openPsp, openDmpt, closing, nthEntry}

@@ -1,5 +1,5 @@
 -- The lines of a trace, piece by piece: what stands behind each call that writes, and the loops over frames, flows and rows.
-use Prim.Native.Nat.{ℕ, zero, suc, _+_, _*_, _<_, _≤_}
+use Prim.Native.Nat.{ℕ, _+_, _*_, _<_, _≤_}
 use mathlib.Core.Path.{_≡_, refl, sym, ap, _∙_}
 use mathlib.Core.Bool.{Bool, true, false, cond}
 use mathlib.Core.List.{List, [], _∷_, _++_, map}
@@ -20,7 +20,6 @@ use Rattle.table.proofs.Keeping.{flows-whole}
 use Rattle.card.specs.Receive.{mostBytes, holdingSize, placeOf, framesFound}
 use Rattle.text.specs.Text.{ascii, decimal, column, hex, space, newline, mostDigits, Wrote}
 use Rattle.text.proofs.Writing.{wrote-length, wrote-then, wrote-none, wrote-as}
-use Rattle.text.proofs.Pieces.{Pieces, pieces-begin, pieces-room, pieces-turn, pieces-end}
 use Rattle.listing.specs.Trace.{frameLine, hexOrDash, flowLine, flowText, kindNumber, rowLine, rowText, rowsText}
 use Rattle.listing.specs.Walk.{columnRoom, frameRoom, framesRoom, flowRoom, rowLineRoom, rowRoom, rowsRoom, Findable, HeldFew}
 
@@ -101,9 +100,10 @@ module _ {before : List ℕ} {at : ℕ} {output lens : List ℕ} {count : ℕ} {
   pub framing-end : count ≤ i → Wrote before text at next (joined (map frameLine (framesFound count lens output))) × (next ≤ at + framesRoom)
   framing-end past =
       let all : i ≡ count = omega (arith, f .within, past) in
-      let sum : from ≡ sumTo (byteAt lens) count = f .from-is ∙ ap (sumTo (byteAt lens)) all in
-      (wrote-as (ap (λ (n : ℕ). joined (map frameLine (framesFound n lens output))) all) (f .wrote),
-      omega (arith, f .next-is, all, sum, found .few, found .all-short))
+      let sum : from ≡ sumTo (byteAt lens) count = f .from-is ∙ ap (sumTo (byteAt lens)) all in (
+        wrote-as (ap (λ (n : ℕ). joined (map frameLine (framesFound n lens output))) all) (f .wrote),
+        omega (arith, f .next-is, all, sum, found .few, found .all-short),
+      )
 
 -- The bytes that a flow holds, or a dash: it holds none.
 pub held-none : {a b : List ℕ} {at next : ℕ} (holding : List ℕ) (from count : ℕ) → count ≡ 0 → Wrote a b at next (ascii "-") →
@@ -129,9 +129,10 @@ held-some holding from count some inside w e =
 pub flow-fresh : (a : List ℕ) (at : ℕ) (holding : List ℕ) (r k : ℕ) (f : Flow) → f .heard ≡ false → at + flowRoom ≤ length a →
     Wrote a a at at (flowText holding r k f) × (at ≤ at + flowRoom)
 unfolding flowText
-flow-fresh a at holding r k f unheard long =
-    (wrote-as (ap (λ (h : Bool). cond h (flowLine r k f (part holding (placeOf r k) (f .held))) []) (sym unheard)) (wrote-none a at (omega (arith, long))),
-    omega arith)
+flow-fresh a at holding r k f unheard long = (
+  wrote-as (ap (λ (h : Bool). cond h (flowLine r k f (part holding (placeOf r k) (f .held))) []) (sym unheard)) (wrote-none a at (omega (arith, long))),
+  omega arith,
+)
 
 -- the place of a flow lies in the holding slice
 pub place-inside : (r k held size : ℕ) → r < rows → k < flows → held ≤ longest → holdingSize ≤ size → placeOf r k + held ≤ size
@@ -188,9 +189,10 @@ module _ {a b : List ℕ} {at behind-held : ℕ} (r k : ℕ) (f : Flow) (few : f
       unfolding flowText
       flow-written {e} {next} heard end =
           let one : behind-space ≡ behind-held + 1 = gap .next-place in
-          let last : next ≡ behind-bytes + 1 = end .next-place in
-          (wrote-as (ap (λ (b : Bool). cond b (flowLine r k f (part holding (placeOf r k) (f .held))) []) (sym heard)) (line-written end),
-          omega (arith, one, last, bytes-short, numbers .1, same, few))
+          let last : next ≡ behind-bytes + 1 = end .next-place in (
+            wrote-as (ap (λ (b : Bool). cond b (flowLine r k f (part holding (placeOf r k) (f .held))) []) (sym heard)) (line-written end),
+            omega (arith, one, last, bytes-short, numbers .1, same, few),
+          )
 
 -- The line of a row: a word, the row's number, its ID and the number of its kind.
 pub row-line-written : {a b c d e g : List ℕ} {at behind-word behind-row behind-id behind-kind next : ℕ} (r : ℕ) (row : Row) (kind : ℕ) → kind ≡ kindNumber (row .kind) →
@@ -212,9 +214,10 @@ flowsOf holding r row k = flowText holding r k (flowAt row k)
 pub row-closed : (a : List ℕ) (at : ℕ) (holding : List ℕ) (r : ℕ) (row : Row) → isClosed (row .kind) ≡ true → at + rowRoom ≤ length a →
     Wrote a a at at (rowText holding r row) × (at ≤ at + rowRoom)
 unfolding rowText
-row-closed a at holding r row closed long =
-    (wrote-as (ap (λ (b : Bool). cond b [] (rowLine r row ++ joined (upTo (flowsOf holding r row) flows))) (sym closed)) (wrote-none a at (omega (arith, long))),
-    omega arith)
+row-closed a at holding r row closed long = (
+  wrote-as (ap (λ (b : Bool). cond b [] (rowLine r row ++ joined (upTo (flowsOf holding r row) flows))) (sym closed)) (wrote-none a at (omega (arith, long))),
+  omega arith,
+)
 
 -- the line of an open row, and its flows behind it
 pub row-written : {a b c : List ℕ} {at behind-line next : ℕ} (holding : List ℕ) (r : ℕ) (row : Row) → isClosed (row .kind) ≡ false →
@@ -222,9 +225,10 @@ pub row-written : {a b c : List ℕ} {at behind-line next : ℕ} (holding : List
     Wrote b c behind-line next (joined (upTo (flowsOf holding r row) flows)) × (next ≤ behind-line + flowRoom * flows) →
     Wrote a c at next (rowText holding r row) × (next ≤ at + rowRoom)
 unfolding rowText
-row-written holding r row unclosed v v-short all =
-    (wrote-as (ap (λ (b : Bool). cond b [] (rowLine r row ++ joined (upTo (flowsOf holding r row) flows))) (sym unclosed)) (wrote-then v (all .0)),
-    omega (arith, v-short, all .1))
+row-written holding r row unclosed v v-short all = (
+  wrote-as (ap (λ (b : Bool). cond b [] (rowLine r row ++ joined (upTo (flowsOf holding r row) flows))) (sym unclosed)) (wrote-then v (all .0)),
+  omega (arith, v-short, all .1),
+)
 
 -- All rows. First, the text of each.
 abbrev pub rowsOf : List ℕ → Table → ℕ → List ℕ

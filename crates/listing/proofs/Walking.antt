@@ -2,23 +2,19 @@
 use Prim.Native.Nat.{ℕ, zero, suc, _+_, _*_, _<_, _≤_}
 use mathlib.Core.Path.{_≡_, refl, sym, ap, subst, _∙_}
 use mathlib.Core.Bool.{true}
-use mathlib.Core.List.{List, [], _++_}
+use mathlib.Core.List.{List}
 use native.Mathlib.Numerals.{add-one}
 use native.Mathlib.Omega.{arith}
 use lib.ListN.{length, replicate}
-use Rattle.octets.specs.Stretch.{joined}
-use Rattle.octets.specs.Count.{upTo}
-use Rattle.octets.proofs.Counts.{up-to-more}
-use Rattle.octets.proofs.Stretches.{joined-one-more}
 use Rattle.table.specs.declared.Table.{Table}
 use Rattle.table.specs.Rows.{empty}
 use Rattle.card.specs.declared.Received.{Received}
-use Rattle.card.specs.Receive.{holdingSize, mostBytes, mostFrames}
-use Rattle.card.specs.History.{Answer}
+use Rattle.card.specs.Receive.{holdingSize, mostBytes}
 use Rattle.text.specs.Text.{Wrote}
-use Rattle.text.proofs.Writing.{wrote-none, wrote-as, wrote-then, wrote-length}
-use Rattle.capture.specs.File.{Entry, headLength, entryLength, mostEntries, bodyIn, kinds, takesLength, entryCount, kindAt, bodyLength, bodyStart, fileRefusal, nthEntry, StandsAt}
-use Rattle.capture.proofs.Checking.{is-sound, start-first, start-next, entry-inside, body-inside, body-long, entry-right}
+use Rattle.text.proofs.Writing.{wrote-as, wrote-then}
+use Rattle.text.proofs.Pieces.{Pieces, pieces-begin, pieces-room, pieces-turn, pieces-end}
+use Rattle.capture.specs.File.{Entry, headLength, entryLength, mostEntries, bodyIn, kinds, takesLength, entryCount, kindAt, bodyStart, fileRefusal, nthEntry, StandsAt}
+use Rattle.capture.proofs.Checking.{is-sound, start-first, start-next, body-inside, body-long, entry-right}
 use Rattle.listing.specs.declared.Walk.{Walk}
 use Rattle.listing.specs.Run.{Running, answerTo, runOne, begin, standing, answerAt}
 use Rattle.listing.specs.Listing.{heading, line, lineAt, refusedLine, listingBy, listing}
@@ -97,49 +93,42 @@ stands-first {file} {holding} {output} {lens} {w} f b =
           ∙ ap (standing file) (sym (b .at-first));
     }
 
-none-yet : (file : List ℕ) (n : ℕ) → n ≡ 0 → [] ≡ joined (upTo (lineAt file) n)
-unfolding joined upTo
-none-yet file n z = sym (ap (λ (m : ℕ). joined (upTo (lineAt file) m)) z)
-
 -- The lines of a sound file, one after another, from the place behind the heading on.
 pub record Listing (file heading-text : List ℕ) (first : ℕ) (text : List ℕ) (next : ℕ) (w : Walk) (holding output lens : List ℕ) : Type 0 where
   pub stands : Stands file w holding output lens
-  pub wrote : Wrote heading-text text first next (joined (upTo (lineAt file) (w .index)))
-  pub room : next ≤ first + lineRoom * w .index
+  pub lines : Pieces (lineAt file) (entryCount headLength file) lineRoom heading-text first text next (w .index)
 
 pub listing-begin : {file heading-text : List ℕ} {first : ℕ} {w : Walk} {holding output lens : List ℕ} → Stands file w holding output lens → w .index ≡ 0 →
     first ≤ length heading-text → Listing file heading-text first heading-text first w holding output lens
 listing-begin {file} {heading-text} {first} {w} s z inside =
     record {
       stands = s;
-      wrote = wrote-as (none-yet file (w .index) z) (wrote-none heading-text first inside);
-      room = omega (arith, z);
+      lines =
+          subst (Pieces (lineAt file) (entryCount headLength file) lineRoom heading-text first heading-text first) (sym z)
+          (pieces-begin (lineAt file) (entryCount headLength file) lineRoom heading-text first inside);
     }
 
 module _ {file heading-text : List ℕ} {first : ℕ} {text : List ℕ} {next : ℕ} {w : Walk} {holding output lens : List ℕ}
     (l : Listing file heading-text first text next w holding output lens) where
   pub line-room : w .index < entryCount headLength file → listingRoom ≤ length heading-text → first ≤ headingRoom → next + lineRoom ≤ length text
-  line-room more room short = omega (arith, l .room, index-few (l .stands) more, wrote-length (l .wrote), room, short)
+  line-room more room short =
+      pieces-room (l .lines) more (omega (arith, room, short, is-sound file (l .stands .sound) .few))
 
-  pub listing-turn : {text′ : List ℕ} {next′ : ℕ} {w′ : Walk} {holding′ output′ lens′ : List ℕ} → Wrote text text′ next next′ (lineAt file (w .index)) → next′ ≤ next + lineRoom →
+  pub listing-turn : {text′ : List ℕ} {next′ : ℕ} {w′ : Walk} {holding′ output′ lens′ : List ℕ} → w .index < entryCount headLength file →
+      Wrote text text′ next next′ (lineAt file (w .index)) → next′ ≤ next + lineRoom →
       Stands file w′ holding′ output′ lens′ → w′ .index ≡ w .index + 1 → Listing file heading-text first text′ next′ w′ holding′ output′ lens′
-  listing-turn {text′} {next′} {w′} {holding′} {output′} {lens′} wrote few s further =
+  listing-turn {text′} {next′} {w′} more wrote few s further =
       record {
         stands = s;
-        wrote =
-            wrote-as (sym (joined-one-more (upTo (lineAt file) (w .index)) (lineAt file (w .index)))
-            ∙ ap joined (sym (up-to-more (lineAt file) (w .index)))
-            ∙ ap (λ (n : ℕ). joined (upTo (lineAt file) n)) (sym further))
-            (wrote-then (l .wrote) wrote);
-        room = omega (arith, l .room, few, further);
+        lines =
+            subst (Pieces (lineAt file) (entryCount headLength file) lineRoom heading-text first text′ next′) (sym further)
+            (pieces-turn (l .lines) more wrote few);
       }
 
   pub listing-end : {before : List ℕ} → Wrote before heading-text 0 first heading → entryCount headLength file ≤ w .index → Wrote before text 0 next (listing file)
   unfolding listing listingBy
   listing-end headed past =
-      let all : w .index ≡ entryCount headLength file = omega (arith, l .stands .within, past) in
-      wrote-as (ap (λ (n : ℕ). heading ++ joined (upTo (lineAt file) n)) all ∙ ap (λ (c : ℕ). listingBy c file) (sym (l .stands .sound)))
-      (wrote-then headed (l .wrote))
+      wrote-as (ap (λ (c : ℕ). listingBy c file) (sym (l .stands .sound))) (wrote-then headed (pieces-end (l .lines) past .0))
 
 -- the listing of a refused file
 pub listing-refused : (file : List ℕ) (number : ℕ) → number ≡ fileRefusal file → (number ≡ 0 → ⊥) → refusedLine number ≡ listing file

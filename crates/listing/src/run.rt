@@ -1,10 +1,9 @@
 // Running a capture: an entry is an open, a close or a packet, and the card goes from entry to entry.
 ghost use mathlib.Core.Path.{_≡_};
 ghost use mathlib.Core.Bool.{true};
-ghost use Prim.Native.Nat.{_≤_};
 ghost use lib.ListN.{length};
 ghost use Rattle.table.specs.Calls.{opened, closed};
-ghost use Rattle.capture.specs.File.{idBody, bodyIn, kinds, takesLength};
+ghost use Rattle.capture.specs.File.{bodyIn, kinds, takesLength};
 ghost use Rattle.listing.specs.Walk.{asRunning, answered, RunsTo};
 use card::Received;
 use table::Mode;

@@ -8,7 +8,7 @@ ghost use Rattle.octets.specs.Stretch.{part, joined};
 ghost use Rattle.flow.specs.Flow.{flows, longest};
 ghost use Rattle.table.specs.Rows.{rows};
 ghost use Rattle.table.specs.Broken.{broken};
-ghost use Rattle.card.specs.Receive.{holdingSize, placeOf, framesFound};
+ghost use Rattle.card.specs.Receive.{holdingSize, framesFound};
 ghost use Rattle.text.specs.Text.{Wrote};
 ghost use Rattle.listing.specs.Trace.{frameLine, hexOrDash, flowText, kindNumber, rowLine, rowText, rowsText};
 ghost use Rattle.listing.specs.Walk.{Findable, frameRoom, framesRoom, flowRoom, rowLineRoom, rowRoom, rowsRoom, HeldFew};
@@ -26,7 +26,12 @@ pub const FRAMES_ROOM: usize = 8 * card::MOST_FRAMES + 2 * card::MOST_BYTES;
 // line; for that of a row: the word, the row, two columns and the end of the line; and for all rows with their flows.
 const COLUMN_ROOM: usize = 1 + text::MOST_DIGITS;
 
-const FLOW_ROOM: usize = 6 + text::MOST_DIGITS + 3 * COLUMN_ROOM + 1 + (1 + 2 * Flow::LONGEST as usize) + 1;
+const FLOW_ROOM: usize = 6
+    + text::MOST_DIGITS
+    + 3 * COLUMN_ROOM
+    + 1
+    + (1 + 2 * Flow::LONGEST as usize)
+    + 1;
 
 const ROW_LINE_ROOM: usize = 5 + text::MOST_DIGITS + 2 * COLUMN_ROOM + 1;
 
@@ -51,7 +56,13 @@ fn write_frame(text: &mut [u8], at: usize, bytes: &[u8], from: usize, size: usiz
 }
 
 // Writes a line for each of the frames that stand back to back in the output.
-pub fn write_frames(text: &mut [u8], at: usize, output: &[u8], lengths: &[u16], count: usize) -> usize
+pub fn write_frames(
+    text: &mut [u8],
+    at: usize,
+    output: &[u8],
+    lengths: &[u16],
+    count: usize,
+) -> usize
     requires { ⌜ Findable (now output) (now lengths) count × (at + framesRoom ≤ length (now text)) ⌝ }
     ensures { λ r. ⌜ Wrote (now (text .entry)) (now (text .exit)) at r
         (joined (map frameLine (framesFound count (now (lengths .entry)) (now (output .entry))))) ⌝ }

@@ -1,12 +1,12 @@
 -- Texts one behind the other are one text; and the digits of a number.
 use Prim.Native.Nat.{ℕ, zero, suc, _+_, _*_, _/_, _%_, _<_, _≤_}
 use mathlib.Core.Path.{_≡_, refl, sym, ap, _∙_}
-use mathlib.Core.Bool.{Bool, true, false, cond}
-use mathlib.Core.Logic.{_⊎_, inl, inr, ⊎-elim}
+use mathlib.Core.Bool.{true, false, cond}
+use mathlib.Core.Logic.{_⊎_, ⊎-elim}
 use mathlib.Core.List.{List, [], _∷_, _++_, map, append-assoc, append-nil}
 use native.Mathlib.Omega.{arith}
 use lib.Dec.{ltb}
-use lib.ListN.{length, set, length-append, length-set}
+use lib.ListN.{length, set, length-append}
 use borrow.Author.Tests.{lt-ltb, le-ltb, ltb-true, ltb-false}
 use Rattle.octets.specs.Bytes.{byteAt}
 use Rattle.octets.specs.Stretch.{part, put, joined}
@@ -29,6 +29,10 @@ wrote-then {a} {b} {c} {at} {middle} {next} {s} {t} v w =
       next-place = omega (arith, v .next-place, w .next-place, length-append s t);
       inside = omega (arith, v .next-place, w .inside, wrote-length v, length-append s t);
     }
+
+-- what is written, and the place behind it, leave nothing open
+pub wrote-unique : {a b c : List ℕ} {at next further : ℕ} {s : List ℕ} → Wrote a b at next s → Wrote a c at further s → (b ≡ c) × (next ≡ further)
+wrote-unique v w = (v .there ∙ sym (w .there), v .next-place ∙ sym (w .next-place))
 
 pub wrote-none : (a : List ℕ) (at : ℕ) → at ≤ length a → Wrote a a at at []
 wrote-none a at h = record { there = sym (put-nil a at); next-place = omega arith; inside = omega (arith, h) }
@@ -61,8 +65,8 @@ digits-enough (suc a) (suc b) n h k =
     ⊎-elim
     (λ (one : ltb n 10 ≡ true). rw one refl)
     (λ (more : ltb n 10 ≡ false).
-      let ten = ltb-false n 10 more in
-      ap (λ (l : List ℕ). cond (ltb n 10) ((48 + n) ∷ []) (l ++ ((48 + n % 10) ∷ []))) (digits-enough a b (n / 10) (omega (arith, ten)) (omega (arith, ten))))
+    let ten = ltb-false n 10 more in
+    ap (λ (l : List ℕ). cond (ltb n 10) ((48 + n) ∷ []) (l ++ ((48 + n % 10) ∷ []))) (digits-enough a b (n / 10) (omega (arith, ten)) (omega (arith, ten))))
     (true-or-false (ltb n 10))
 
 pub decimal-one : (n : ℕ) → n ≤ 9 → decimal n ≡ (48 + n) ∷ []

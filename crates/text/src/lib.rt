@@ -58,13 +58,13 @@ pub fn write_decimal(text: &mut [u8], at: usize, number: u32) -> usize
 {
     let next = at + digit_count(number);
     let mut place = next;
-    let mut left = number;
-    while 9 < left {
+    let mut rest = number;
+    while 9 < rest {
         place -= 1;
-        text[place] = digit_byte(left % 10);
-        left /= 10;
+        text[place] = digit_byte(rest % 10);
+        rest /= 10;
     }
-    text[at] = digit_byte(left);
+    text[at] = digit_byte(rest);
     next
 }
 
@@ -83,11 +83,7 @@ fn hex_digit(digit: u8) -> u8
     requires { ⌜ digit < 16 ⌝ }
     ensures { λ r. ⌜ r ≡ hexDigit digit ⌝ }
 {
-    if digit < 10 {
-        48 + digit
-    } else {
-        87 + digit
-    }
+    if digit < 10 { 48 + digit } else { 87 + digit }
 }
 
 // Writes `count` bytes in hexadecimal, from place `from` on.

@@ -3,7 +3,7 @@ use Prim.Native.Nat.{_<_}
 use Rattle.capture.specs.File.{headLength, entryCount}
 use native.Mathlib.Omega.{arith}
 use Prim.Native.Nat.{_-_}
-use mathlib.Core.Path.{_≡_, refl, sym, _∙_}
+use mathlib.Core.Path.{_≡_, refl, _∙_}
 use lib.ListN.{length}
 use Rattle.text.proofs.Writing.{wrote-length}
 use Rattle.listing.proofs.Walking.{stands-first, head-inside, Listing, listing-begin, line-room, listing-turn, listing-end}
@@ -49,9 +49,8 @@ loop-less c =
 loop-again : tie.Need-loop-again Inv-loop μ-loop
 loop-again c =
     let l = c .before .before .before .before .before .before .before .before .before .before .before .before .before .before .before .before .loop .inv in
-    let e = c .before .before .before .before .before .before .before .before .before .list-entry in
-    (
-      listing-turn (l .0) (e .ensures .0 .0) (e .ensures .0 .1) (e .ensures .1 .0) (e .ensures .1 .1 .0),
+    let e = c .before .before .before .before .before .before .before .before .before .list-entry in (
+      listing-turn (l .0) (omega (arith, c .before .before .before .before .before .before .before .before .before .before .before .before .before .before .if1 .taken, c .before .before .before .before .before .before .before .before .before .before .before .before .before .before .before .before .before .before .before .before .before .before .entry-count .ensures)) (e .ensures .0 .0) (e .ensures .0 .1) (e .ensures .1 .0) (e .ensures .1 .1 .0),
       e .kept .1 .1 .0 ∙ l .1,
       e .kept .1 .1 .1 .0 ∙ l .2,
       e .kept .1 .1 .1 .1 .0 ∙ l .3,
@@ -67,7 +66,7 @@ same-length-3 : tie.Need-same-length-3 Inv-loop μ-loop
 same-length-3 c = c .before .before .loop .inv .3
 
 same-length-4 : tie.Need-same-length-4 Inv-loop μ-loop
-same-length-4 c = wrote-length (c .before .before .loop .inv .0 .wrote) ∙ wrote-length (c .before .before .before .before .before .write-heading .ensures)
+same-length-4 c = wrote-length (c .before .before .loop .inv .0 .lines .wrote) ∙ wrote-length (c .before .before .before .before .before .write-heading .ensures)
 
 returns : tie.Need-returns Inv-loop μ-loop
 returns c =

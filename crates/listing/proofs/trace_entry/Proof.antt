@@ -14,8 +14,7 @@ cast-write-frames c = search needs
 write-frames-requires : tie.Need-write-frames-requires
 write-frames-requires c κs =
     let l = c .before .before .before .before .before .before .before .before .before .before .before .list-entry in
-    let p = c .before .before .before .before .before .before .before .before .before .before .before .before .before .before .before .before .before .before .before .before .before .pre in
-    (
+    let p = c .before .before .before .before .before .before .before .before .before .before .before .before .before .before .before .before .before .before .before .before .before .pre in (
       findable (l .ensures .1 .0) _ (l .ensures .1 .1 .0) _ (l .ensures .1 .1 .1) (omega (arith, p .1 .0 .output-long, l .kept .1 .1 .1 .0)) (omega (arith, p .1 .0 .lens-long, l .kept .1 .1 .1 .1 .0)),
       omega (arith, p .1 .1, l .ensures .0 .1, l .kept .1 .1 .1 .1 .1 .0),
     )
@@ -24,8 +23,7 @@ write-rows-requires : tie.Need-write-rows-requires
 write-rows-requires c κs =
     let l = c .before .before .before .before .before .before .before .before .before .before .before .before .before .before .before .before .before .before .list-entry in
     let p = c .before .before .before .before .before .before .before .before .before .before .before .before .before .before .before .before .before .before .before .before .before .before .before .before .before .before .before .before .pre in
-    let f = c .before .before .before .before .before .before .write-frames in
-    (
+    let f = c .before .before .before .before .before .before .write-frames in (
       table-whole (l .ensures .1 .0) _ (l .ensures .1 .1 .0),
       (omega (arith, p .1 .0 .holding-long, l .kept .1 .1 .0), omega (arith, p .1 .1, l .ensures .0 .1, l .kept .1 .1 .1 .1 .1 .0, f .ensures .1, f .kept .0)),
     )
@@ -44,8 +42,7 @@ same-length-4 c = search needs
 
 returns : tie.Need-returns
 returns c =
-    let l = c .before .before .before .before .before .before .before .before .before .before .before .before .before .before .before .before .before .before .before .before .before .list-entry in
-    (
+    let l = c .before .before .before .before .before .before .before .before .before .before .before .before .before .before .before .before .before .before .before .before .before .list-entry in (
       entry-traced (l .ensures .1 .0) _ (l .ensures .1 .1 .0) _ (l .ensures .1 .1 .1) (l .ensures .0 .0) (c .before .before .before .before .before .before .before .before .before .write-frames .ensures .0) (c .before .before .write-rows .ensures .0),
       (l .ensures .1 .0, l .ensures .1 .1 .0),
     )

@@ -1,6 +1,6 @@
 -- `psptrace::trace_entries` is safe, and the run that it shows is the definition's, since each turn goes on from where the run stands.
 use native.Mathlib.Omega.{arith}
-use Prim.Native.Nat.{_-_, _<_, _≤_}
+use Prim.Native.Nat.{_-_, _<_}
 use mathlib.Core.Path.{_≡_, refl, sym, _∙_}
 use lib.ListN.{length}
 use lib.Seq.{length-take-le}
@@ -33,8 +33,7 @@ trace-entry-requires : tie.Need-trace-entry-requires Inv-loop μ-loop
 trace-entry-requires c κs =
     let l = c .before .before .before .before .before .before .loop .inv in
     let p = c .before .before .before .before .before .before .before .before .before .before .before .before .before .before .pre in
-    let more : c .before .before .before .before .before .before .loop .walk .index < entryCount headLength (c .before .before .before .before .before .before .before .before .before .before .before .before .before .before .args .file .now) = omega (arith, c .before .before .before .before .if1 .taken, c .before .before .before .before .before .before .before .before .entry-count .ensures) in
-    (
+    let more : c .before .before .before .before .before .before .loop .walk .index < entryCount headLength (c .before .before .before .before .before .before .before .before .before .before .before .before .before .before .args .file .now) = omega (arith, c .before .before .before .before .if1 .taken, c .before .before .before .before .before .before .before .before .entry-count .ensures) in (
       (l .0, more),
       (
         record { holding-long = omega (arith, p .1 .holding-long, l .1); output-long = omega (arith, p .1 .output-long, l .2); lens-long = omega (arith, p .1 .lens-long, l .3) },
@@ -61,8 +60,7 @@ loop-less c =
 loop-again : tie.Need-loop-again Inv-loop μ-loop
 loop-again c =
     let l = c .before .before .before .before .before .before .before .before .before .before .before .before .before .before .before .before .before .before .loop .inv in
-    let e = c .before .before .before .before .before .before .before .before .before .before .before .trace-entry in
-    (
+    let e = c .before .before .before .before .before .before .before .before .before .before .before .trace-entry in (
       e .ensures .1 .0,
       e .kept .1 .1 .0 ∙ l .1,
       e .kept .1 .1 .1 .0 ∙ l .2,

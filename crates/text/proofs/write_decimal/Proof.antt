@@ -8,10 +8,10 @@ use Rattle.text.proofs.write_decimal.Statement.{statement}
 use Rattle.text.proofs.write_decimal.Tie as tie
 
 abbrev Inv-loop : tie.InvT-loop
-Inv-loop text₀ at number next place₀ left₀ text place left = Spelling text₀ at number text place left
+Inv-loop text₀ at number next place₀ rest₀ text place rest = Spelling text₀ at number text place rest
 
 abbrev μ-loop : tie.MeasureT-loop
-μ-loop text₀ at number next place₀ left₀ text place left = left
+μ-loop text₀ at number next place₀ rest₀ text place rest = rest
 
 digit-count-requires : tie.Need-digit-count-requires Inv-loop μ-loop
 digit-count-requires c κs = search needs

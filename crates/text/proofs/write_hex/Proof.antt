@@ -2,7 +2,6 @@
 use Prim.Native.Nat.{_+_, _-_}
 use native.Mathlib.Omega.{arith}
 use lib.ListN.{length-set}
-use mathlib.Core.Path.{_∙_}
 use Rattle.text.proofs.Writing.{Hexing, wrote-length, hexing-begin, both-inside, hexing-turn, hexing-end}
 use borrow.Author.Needs.{needs}
 use Rattle.text.proofs.write_hex.Statement.{statement}

@@ -24,9 +24,10 @@ same-length : tie.Need-same-length
 same-length c = search needs
 
 returns : tie.Need-returns
-returns c =
-    (columns-written _ (c .before .before .before .before .before .before .before .before .before .before .before .before .before .before .before .before .before .before .write-column .ensures .0) (c .before .before .before .before .before .before .before .before .before .before .before .before .before .before .write-column2 .ensures .0) (c .before .before .before .before .before .before .before .before .before .before .write-column3 .ensures .0) (c .before .before .before .before .before .before .write-column4 .ensures .0) (c .before .before .write-column5 .ensures .0),
-    omega (arith, c .before .before .before .before .before .before .before .before .before .before .before .before .before .before .before .before .before .before .write-column .ensures .1, c .before .before .before .before .before .before .before .before .before .before .before .before .before .before .write-column2 .ensures .1, c .before .before .before .before .before .before .before .before .before .before .write-column3 .ensures .1, c .before .before .before .before .before .before .write-column4 .ensures .1, c .before .before .write-column5 .ensures .1))
+returns c = (
+  columns-written _ (c .before .before .before .before .before .before .before .before .before .before .before .before .before .before .before .before .before .before .write-column .ensures .0) (c .before .before .before .before .before .before .before .before .before .before .before .before .before .before .write-column2 .ensures .0) (c .before .before .before .before .before .before .before .before .before .before .write-column3 .ensures .0) (c .before .before .before .before .before .before .write-column4 .ensures .0) (c .before .before .write-column5 .ensures .0),
+  omega (arith, c .before .before .before .before .before .before .before .before .before .before .before .before .before .before .before .before .before .before .write-column .ensures .1, c .before .before .before .before .before .before .before .before .before .before .before .before .before .before .write-column2 .ensures .1, c .before .before .before .before .before .before .before .before .before .before .write-column3 .ensures .1, c .before .before .before .before .before .before .write-column4 .ensures .1, c .before .before .write-column5 .ensures .1),
+)
 
 pub write-columns-spec : {M : Type 1} → statement M
 write-columns-spec =

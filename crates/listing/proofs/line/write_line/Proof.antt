@@ -24,9 +24,10 @@ same-length : tie.Need-same-length
 same-length c = search needs
 
 returns : tie.Need-returns
-returns c =
-    (line-written (c .before .before .before .before .before .before .before .before .before .before .before .before .before .before .before .before .before .before .before .before .before .args .index) (c .before .before .before .before .before .before .before .before .before .before .before .before .before .before .before .before .before .before .before .before .before .args .kind) _ (c .before .before .before .before .before .before .before .before .before .before .before .before .before .before .before .before .before .before .write-decimal .ensures .0) (c .before .before .before .before .before .before .before .before .before .before .before .before .before .before .write-byte .ensures) (c .before .before .before .before .before .before .before .before .before .before .write-kind .ensures .0) (c .before .before .before .before .before .before .write-columns .ensures .0) (c .before .before .write-byte2 .ensures),
-    omega (arith, c .before .before .before .before .before .before .before .before .before .before .before .before .before .before .before .before .before .before .write-decimal .ensures .1, c .before .before .before .before .before .before .before .before .before .before .before .before .before .before .write-byte .ensures .next-place, c .before .before .before .before .before .before .before .before .before .before .write-kind .ensures .1, c .before .before .before .before .before .before .write-columns .ensures .1, c .before .before .write-byte2 .ensures .next-place))
+returns c = (
+  line-written (c .before .before .before .before .before .before .before .before .before .before .before .before .before .before .before .before .before .before .before .before .before .args .index) (c .before .before .before .before .before .before .before .before .before .before .before .before .before .before .before .before .before .before .before .before .before .args .kind) _ (c .before .before .before .before .before .before .before .before .before .before .before .before .before .before .before .before .before .before .write-decimal .ensures .0) (c .before .before .before .before .before .before .before .before .before .before .before .before .before .before .write-byte .ensures) (c .before .before .before .before .before .before .before .before .before .before .write-kind .ensures .0) (c .before .before .before .before .before .before .write-columns .ensures .0) (c .before .before .write-byte2 .ensures),
+  omega (arith, c .before .before .before .before .before .before .before .before .before .before .before .before .before .before .before .before .before .before .write-decimal .ensures .1, c .before .before .before .before .before .before .before .before .before .before .before .before .before .before .write-byte .ensures .next-place, c .before .before .before .before .before .before .before .before .before .before .write-kind .ensures .1, c .before .before .before .before .before .before .write-columns .ensures .1, c .before .before .write-byte2 .ensures .next-place),
+)
 
 pub write-line-spec : {M : Type 1} → statement M
 write-line-spec =
