@@ -1,13 +1,15 @@
--- A capture that is not refused carries every frame, whole and in order, and its packets keep the rules that demand 3 supposes of any sender.
+-- A capture that is not refused carries every frame, whole and in order, and its packets keep the rules that demand 3 supposes of any sender. It
+-- passes the check of capture files, and its entries are read from it as they were meant.
 use Prim.Native.Nat.{ℕ, zero, suc, _+_, _<_}
-use mathlib.Core.Path.{_≡_, refl, sym, _∙_}
+use mathlib.Core.Path.{_≡_, refl, sym, ap, _∙_}
 use mathlib.Core.Bool.{Bool, true, false, cond}
-use mathlib.Core.List.{List, [], map}
+use mathlib.Core.List.{List, [], _∷_, map}
 use native.Mathlib.Omega.{arith}
 use lib.Dec.{eqb}
 use lib.ListN.{length, replicate, length-replicate}
-use borrow.Author.Tests.{eqb-true}
+use borrow.Author.Tests.{eqb-true, eq-eqb, ltb-false}
 use Rattle.refusal.specs.Refusal.{first}
+use Rattle.refusal.proofs.Laws.{none-applies}
 use Rattle.octets.specs.Stretch.{joined, cutBy}
 use Rattle.sender.specs.Send.{sendRefusals}
 use Rattle.sender.specs.Series.{Job, Turn, askedFor}
@@ -15,11 +17,18 @@ use Rattle.octets.specs.Each.{Each}
 use Rattle.sender.specs.Rules.{Pieces, KeepsRules}
 use Rattle.sender.proofs.Sending as sending
 use Rattle.sender.proofs.Series.{Sound, Usable, code-is, sends-all}
-use Rattle.pspsend.specs.Capture.{turnFor, atFirst, packetsFor, entriesFor, captureRefusals, firstAnswer, makeRefusal}
+use Rattle.capture.specs.File.{longestFile, mostEntries, fileRefusal, entries, fileOf}
+use Rattle.capture.specs.Write.{Right, Writable}
+use Rattle.capture.proofs.ReadsBack.{written-sound, written-reads}
+use Rattle.pspsend.specs.Capture.{dataOf, turnFor, atFirst, packetsFor, entriesFor, captureRefusals, firstAnswer, makeRefusal}
 
 each-same : (P : Turn → Type 0) (t : Turn) (n : ℕ) → P t → Each P (replicate n t)
 each-same P t zero p = tt
 each-same P t (suc n) p = (p, each-same P t n p)
+
+packets-right : (packets : List (List ℕ)) → Each Right (map dataOf packets)
+packets-right [] = tt
+packets-right (p ∷ more) = (record { its-kind = refl; its-length = refl }, packets-right more)
 
 module _ (job : Job) (limit number : ℕ) (made : makeRefusal job limit number ≡ 0) where
   first-passed : firstAnswer job limit number ≡ 0
@@ -48,3 +57,21 @@ module _ (job : Job) (limit number : ℕ) (made : makeRefusal job limit number �
       let sound : Sound job = record { addressed = p .addressed; four-bytes = four-bytes; frames-sound = p .frames-sound } in
       sends-all job sound (replicate (length (job .bytes) + 1) (turnFor limit)) number two-bytes (each-same Usable (turnFor limit) (length (job .bytes) + 1) usable)
       (omega (arith, length-replicate {A = Turn} (length (job .bytes) + 1) (turnFor limit)))
+
+  -- The capture passes the check of capture files, and its entries are read from it as they were meant.
+  in-limits : first (captureRefusals (entriesFor job limit number)) ≡ 0
+  unfolding makeRefusal
+  in-limits = sym (ap (λ (t : Bool). cond t (first (captureRefusals (entriesFor job limit number))) (firstAnswer job limit number)) (eq-eqb (firstAnswer job limit number) 0 first-passed)) ∙ made
+
+  writable : Writable (entriesFor job limit number)
+  unfolding entriesFor
+  writable =
+      let n = none-applies (captureRefusals (entriesFor job limit number)) refl in-limits in
+      record {
+        few = ltb-false mostEntries (length (entriesFor job limit number)) (n .1 .0);
+        short = ltb-false longestFile (length (fileOf (entriesFor job limit number))) (n .0);
+        right = (record { its-kind = refl; its-length = refl }, packets-right (packetsFor job limit number));
+      }
+
+  pub made-reads : (fileRefusal (fileOf (entriesFor job limit number)) ≡ 0) × (entries (fileOf (entriesFor job limit number)) ≡ entriesFor job limit number)
+  made-reads = (written-sound (entriesFor job limit number) writable, written-reads (entriesFor job limit number) writable)
