@@ -1,13 +1,14 @@
 -- A capture file (document 01, "Capture file and listing"): contents first, then bodies. Two bytes say how many entries there are; then comes
 -- an entry for each, of four bytes: its kind, a zero byte and the length of its body; then the bodies back to back. Kinds 1 to 3 have a
 -- session ID as body, and a data entry has a packet. How many bytes stand before the entries, and how many an entry has, are parameters of
--- what reads a file: `head` and `width`.
+-- all that reads a file by place and of its refusals: `head` and `width`. From `fileRefusal` on they are those of this form, 2 and 4.
 use Prim.Native.Nat.{ℕ, _+_, _-_, _*_, _<_}
 use mathlib.Core.Path.{_≡_}
 use mathlib.Core.Bool.{Bool, true, false, not, cond, _&&_, _||_}
 use mathlib.Core.List.{List, [], _∷_, _++_, map}
 use lib.Dec.{eqb, ltb, leb}
 use lib.ListN.{length}
+use denote.Ref.{RefT}
 use Rattle.refusal.specs.Refusal.{Refusal, _when_, first}
 use Rattle.octets.specs.Bytes.{byteAt, be16At, two}
 use Rattle.octets.specs.Stretch.{part, joined}
@@ -70,12 +71,13 @@ isKind (exactly n) = true
 isKind anyLength = true
 isKind noKind = false
 
+-- (of what is no kind there is nothing to ask here: it is refused as such)
 abbrev pub takesLength : Body → ℕ → Bool
 takesLength (exactly n) size = eqb size n
 takesLength anyLength size = true
 takesLength noKind size = true
 
--- Reading: how many entries there are, which is the last of what stands before them; and the parts of entry k.
+-- Reading: how many entries there are, as the last two bytes before the entries say; and the parts of entry k.
 abbrev pub entryCount : ℕ → List ℕ → ℕ
 entryCount head file = be16At file (head - 2)
 
@@ -139,9 +141,15 @@ bodyOf e = e .body
 unfoldable pub fileOf : List Entry → List ℕ
 fileOf es = two (length es) ++ joined (map contentOf es) ++ joined (map bodyOf es)
 
--- What the check permits.
+-- What the check permits; and an entry's body, handed out as the stretch of the file that it is: `ptr` is where a slice stands in memory, the
+-- block and the place in it, and `now` the bytes there. A copy, or equal bytes from elsewhere in the file, will not do.
 abbrev pub PermitsCheck : List ℕ → ℕ → Type 0
 PermitsCheck file answer = answer ≡ fileRefusal file
+
+pub record PermitsBody (file : RefT (List ℕ)) (index : ℕ) (answer : RefT (List ℕ)) : Type 0 where
+  pub in-the-file : answer .ptr .0 ≡ file .ptr .0
+  pub at-its-place : answer .ptr .1 ≡ file .ptr .1 + bodyStart headLength entryLength (file .now) index
+  pub its-bytes : answer .now ≡ (nthEntry (file .now) index) .body
 
 -- Where a walk through the entries stands: before entry `index`, whose body starts at `start`. There is no byte behind the last body.
 pub record StandsAt (file : List ℕ) (index start : ℕ) : Type 0 where

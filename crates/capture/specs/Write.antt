@@ -29,7 +29,7 @@ fileLength w = headLength + entryLength * w .entries + w .bytes
 abbrev pub within : Writer → Bool
 within w = leb (w .entries) mostEntries && leb (fileLength w) longestFile
 
--- the order of document 01 (42, 44 and 45 cannot apply to a file that is written here)
+-- the order of document 01. (42 and 45 cannot apply to a file that is written here; 44 does not, where every entry is `Right`: `written-sound`.)
 abbrev pub writeRefusals : Writer → List Refusal
 writeRefusals w =
     41 when ltb longestFile (fileLength w)

@@ -64,7 +64,7 @@ fn is_within(writer: Writer) -> bool
     (writer.entries <= MOST_ENTRIES) & (length <= LONGEST_FILE)
 }
 
-// Refusals 41 and 43 of the file; or 0, and then all that was added stands in it.
+// Refusals 41 and 43 of the file; or 0: then no entry was left out for want of room.
 pub fn refuse(writer: Writer) -> u32
     requires { ⌜ (writer .entries ≤ 4294967296) × (writer .bytes ≤ 4294967296 * 65536 + 65536) ⌝ }
     ensures { λ r. ⌜ r ≡ first (writeRefusals writer) ⌝ }
@@ -109,7 +109,7 @@ fn store(contents: &mut [u8], bodies: &mut [u8], writer: Writer, kind: u8, body:
     octets::copy(bodies, writer.bytes, body, 0, size);
 }
 
-// Writes how many entries there are.
+// Writes how many entries there are. (Whether they are too many is for `refuse` to say.)
 pub fn finish(contents: &mut [u8], writer: Writer)
     requires { ⌜ (headLength ≤ length (now contents)) × (writer .entries < 65536) ⌝ }
     ensures { λ _. ⌜ now (contents .exit) ≡ put (now (contents .entry)) 0 (two (writer .entries)) ⌝ }

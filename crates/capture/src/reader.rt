@@ -4,7 +4,7 @@ ghost use mathlib.Core.Path.{_≡_};
 ghost use Prim.Native.Nat.{_+_, _*_, _≤_};
 ghost use lib.ListN.{length};
 ghost use Rattle.octets.specs.Count.{any};
-ghost use Rattle.capture.specs.File.{headLength, entryLength, mostEntries, entryCount, kindAt, bodyLength, bodyStart, wrongParts, wrongEntry, nthEntry, PermitsCheck, StandsAt};
+ghost use Rattle.capture.specs.File.{headLength, entryLength, mostEntries, entryCount, kindAt, bodyLength, bodyStart, wrongParts, wrongEntry, PermitsCheck, PermitsBody, StandsAt};
 use crate::CLOSE;
 use crate::DATA;
 use crate::ENTRY_LENGTH;
@@ -25,7 +25,7 @@ pub fn entry_count(file: &[u8]) -> usize
     octets::read_u16(file, HEAD_LENGTH - 2) as usize
 }
 
-// The kind of entry k.
+// The kind of entry k. (That k is small is asked only so that its place can be reckoned without overflow.)
 pub fn kind_at(file: &[u8], k: usize) -> u8
     requires { ⌜ (headLength + entryLength * k + entryLength ≤ length (now file)) × (k ≤ mostEntries) ⌝ }
     ensures { λ r. ⌜ r ≡ kindAt headLength entryLength (now (file .entry)) k ⌝ }
@@ -101,10 +101,10 @@ pub fn check(file: &[u8]) -> u32
     refusal::NONE
 }
 
-// The body of an entry: `size` bytes of the file itself, from `start` on.
+// The body of the entry at which a walk stands: a stretch of the file itself.
 pub fn body_at(file: &[u8], index: usize, start: usize) -> &[u8]
     requires { ⌜ StandsAt (now file) index start ⌝ }
-    ensures { λ r. ⌜ now r ≡ (nthEntry (now (file .entry)) index) .body ⌝ }
+    ensures { λ r. ⌜ PermitsBody (file .entry) index r ⌝ }
 {
     let end = start + length_at(file, index);
     &file[start..end]

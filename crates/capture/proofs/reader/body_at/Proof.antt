@@ -1,6 +1,6 @@
 -- `capture::reader::body_at` is right since the bodies of a sound file fill it exactly (`body-inside`).
 use native.Mathlib.Omega.{arith}
-use mathlib.Core.Path.{_∙_}
+use mathlib.Core.Path.{refl, _∙_}
 use Rattle.octets.proofs.Stretches.{sliced-part}
 use Rattle.capture.proofs.Checking.{entry-inside, body-inside, body-is}
 use borrow.Author.Needs.{needs}
@@ -24,8 +24,12 @@ part-result-end c = body-inside (c .before .before .pre) (c .length-at .ensures 
 
 returns : tie.Need-returns
 returns c =
-    sliced-part _ _ _ _ (omega arith)
-    ∙ body-is (c .before .before .before .pre) (c .before .length-at .ensures .0)
+    let p = c .before .before .before .pre in
+    record {
+      in-the-file = refl;
+      at-its-place = omega (arith, p .its-start);
+      its-bytes = sliced-part _ _ _ _ (omega arith) ∙ body-is p (c .before .length-at .ensures .0);
+    }
 
 pub body-at-spec : {M : Type 1} → statement M
 body-at-spec =
