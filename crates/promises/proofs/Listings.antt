@@ -2,13 +2,18 @@
 -- listing is the paper's own, word for word.
 use Prim.Native.Nat.{ℕ}
 use mathlib.Core.Path.{_≡_, refl}
+use mathlib.Core.Bool.{true}
 use mathlib.Core.List.{List, [], _∷_, _++_}
-use lib.ListN.{length}
+use lib.ListN.{length, replicate}
 use Rattle.octets.specs.Stretch.{part, rest, put, joined, lengths, cutBy}
 use Rattle.octets.specs.Count.{any, least, sumTo, upTo}
+use Rattle.flow.specs.declared.Flow.{Flow}
 use Rattle.flow.specs.Numbers.{ahead, next}
+use Rattle.flow.specs.Flow.{fresh}
 use Rattle.packet.specs.Segments.{bodyAt, segmentAt, segments}
 use Rattle.packet.specs.Psp.{wanted}
+use Rattle.table.specs.declared.Kind.the-variants as kind
+use Rattle.table.specs.declared.Row.{Row}
 use Rattle.table.specs.Broken.{broken}
 use Rattle.table.specs.Calls.{opened, closed}
 use Rattle.card.specs.Join.{settledBy, settled, fateBy, fate, atGap, inOrder}
@@ -116,3 +121,66 @@ left-over = capture ++ (0 ∷ [])
 pub refused-listed : (listing left-over ≡ ascii "refused 45\n") × (trace left-over ≡ ascii "refused 45\n")
 unfolding listing listingBy trace traceBy refusedLine column decimal digits fileRefusal bodyStart any sumTo
 refused-listed = (refl, refl)
+
+-- a line with a different number in every column
+pub one-line : line 999 2 (record { code = 12; frames = 127; bytes = 6140; dropped = 2049; gap = 32767; output = []; lengths = [] })
+    ≡ ascii "999 open 12 127 6140 2049 32767\n"
+unfolding line columns decimal digits column
+one-line = refl
+
+-- session 0x10101 on flow 3: a byte held; another opened meanwhile; after a gap of 2 two whole frames and a byte held; closed
+abbrev gapped : List ℕ
+gapped =
+    fileOf
+    (record { kind = 1; body = 0x00 ∷ 0x01 ∷ 0x01 ∷ 0x01 ∷ [] }
+    ∷ record { kind = 4; body = 0x00 ∷ 0x01 ∷ 0x01 ∷ 0x01 ∷ 0x43 ∷ 0x01 ∷ 0x00 ∷ 0x05 ∷ 0x80 ∷ 0x01 ∷ 0xAA ∷ [] }
+    ∷ record { kind = 1; body = 0x00 ∷ 0x00 ∷ 0x01 ∷ 0x01 ∷ [] }
+    ∷ record { kind = 4; body = 0x00 ∷ 0x01 ∷ 0x01 ∷ 0x01 ∷ 0x43 ∷ 0x03 ∷ 0x00 ∷ 0x08 ∷ 0xC0 ∷ 0x02 ∷ 0xC0 ∷ 0x01 ∷ 0x80 ∷ 0x01 ∷ 0xB1 ∷ 0xB2 ∷ 0xB3 ∷ 0xB4 ∷ [] }
+    ∷ record { kind = 4; body = [] }
+    ∷ record { kind = 3; body = 0x00 ∷ 0x01 ∷ 0x01 ∷ 0x01 ∷ [] } ∷ [])
+
+pub gap-traced : trace gapped
+    ≡ ascii "n what code frames bytes dropped gap\n"
+    ++ ascii "0 open 0 0 0 0 0\n"
+    ++ ascii " row 0 65793 1\n"
+    ++ ascii "1 data 0 0 0 0 0\n"
+    ++ ascii " row 0 65793 1\n"
+    ++ ascii " flow 0 3 6 1 aa\n"
+    ++ ascii "2 open 0 0 0 0 0\n"
+    ++ ascii " row 0 65793 1\n"
+    ++ ascii " flow 0 3 6 1 aa\n"
+    ++ ascii " row 1 257 1\n"
+    ++ ascii "3 data 0 2 3 1 2\n"
+    ++ ascii " frame b1b2\n"
+    ++ ascii " frame b3\n"
+    ++ ascii " row 0 65793 1\n"
+    ++ ascii " flow 0 3 9 1 b4\n"
+    ++ ascii " row 1 257 1\n"
+    ++ ascii "4 data 2 0 0 0 0\n"
+    ++ ascii " row 0 65793 1\n"
+    ++ ascii " flow 0 3 9 1 b4\n"
+    ++ ascii " row 1 257 1\n"
+    ++ ascii "5 close 0 0 0 1 0\n"
+    ++ ascii " row 1 257 1\n"
+unfolding trace traceBy tracedAt framesText frameLine rowsText rowText rowLine flowText flowLine hex cutBy lineAt line columns decimal digits column fileOf fileRefusal bodyStart nthEntry begin runOne standing answerAt answer after
+    opened closed broken received receivedBy carriedOut refused hear pspFate settledBy settled fateBy fate atGap inOrder wanted bodyAt segmentAt segments
+    ahead next part rest put joined lengths any least sumTo upTo
+gap-traced = refl
+
+-- six rows, and four flows in the last
+abbrev openRow : ℕ → List Flow → Row
+openRow id fs = record { id = id; kind = kind.Psp; flows = fs }
+
+abbrev someFlow : ℕ → Flow
+someFlow n = record { heard = true; expected = n; held = 0 }
+
+pub six-rows : rowsText (record {
+  table = record {
+    rows = openRow 1 (replicate 4 fresh) ∷ openRow 2 (replicate 4 fresh) ∷ openRow 3 (replicate 4 fresh) ∷ openRow 4 (replicate 4 fresh)
+        ∷ openRow 5 (replicate 4 fresh) ∷ openRow 6 (someFlow 10 ∷ someFlow 11 ∷ someFlow 12 ∷ someFlow 13 ∷ []) ∷ [];
+  };
+  holding = [];
+})
+    ≡ ascii " row 0 1 1\n row 1 2 1\n row 2 3 1\n row 3 4 1\n row 4 5 1\n row 5 6 1\n flow 5 0 10 0 -\n flow 5 1 11 0 -\n flow 5 2 12 0 -\n flow 5 3 13 0 -\n"
+unfolding rowsText rowText rowLine flowText flowLine hex column decimal digits joined upTo part
+six-rows = refl
