@@ -18,7 +18,7 @@ use Rattle.capture.proofs.Checking.{is-sound, start-first, start-next, body-ins
 use Rattle.listing.specs.declared.Walk.{Walk}
 use Rattle.listing.specs.Run.{Running, answerTo, runOne, begin, standing, answerAt}
 use Rattle.listing.specs.Listing.{heading, line, lineAt, refusedLine, listingBy, listing}
-use Rattle.listing.specs.Walk.{asRunning, Counts, RunsTo, numbersOf, Stands, Begins, Fresh, headingRoom, lineRoom, listingRoom}
+use Rattle.listing.specs.Walk.{asRunning, Counts, RunsTo, numbersOf, Stands, Begins, Unused, headingRoom, lineRoom, listingRoom}
 use Rattle.listing.proofs.Lines.{line-same}
 
 module _ {file : List ℕ} {w : Walk} {holding output lens : List ℕ} (s : Stands file w holding output lens) (more : w .index < entryCount headLength file) where
@@ -78,7 +78,7 @@ module _ {file : List ℕ} {w : Walk} {holding output lens : List ℕ} (s : Stan
           }
 
 -- Before the first entry the run stands as it begins.
-pub stands-first : {file holding output lens : List ℕ} {w : Walk} → Fresh file holding output lens → Begins file w → Stands file w holding output lens
+pub stands-first : {file holding output lens : List ℕ} {w : Walk} → Unused file holding output lens → Begins file w → Stands file w holding output lens
 unfolding standing begin
 stands-first {file} {holding} {output} {lens} {w} f b =
     record {

@@ -1,4 +1,5 @@
--- What the runner's functions are held to, in the words of the definitions beside this file. Nobody outside needs these.
+-- What the runner's functions are held to, in the words of the definitions beside this file, and the room that texts need. Who calls the runner
+-- needs these; whoever wants to know what is printed does not.
 use Prim.Native.Nat.{ℕ, _+_, _*_, _<_, _≤_}
 use mathlib.Core.Path.{_≡_}
 use mathlib.Core.List.{List, []}
@@ -56,14 +57,14 @@ pub record Begins (file : List ℕ) (w : Walk) : Type 0 where
   pub empty-table : w .table ≡ empty
 
 -- a sound file, and slices of zeros to run it with
-pub record Fresh (file holding output lens : List ℕ) : Type 0 where
+pub record Unused (file holding output lens : List ℕ) : Type 0 where
   pub sound : fileRefusal file ≡ 0
   pub holding-zero : holding ≡ replicate holdingSize 0
   pub output-zero : output ≡ replicate mostBytes 0
   pub lens-zero : lens ≡ replicate mostFrames 0
 
 -- slices that are large enough for any call
-pub record Roomy (holding output lens : List ℕ) : Type 0 where
+pub record Enough (holding output lens : List ℕ) : Type 0 where
   pub holding-long : holdingSize ≤ length holding
   pub output-long : mostBytes ≤ length output
   pub lens-long : mostFrames ≤ length lens

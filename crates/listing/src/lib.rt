@@ -12,7 +12,7 @@ ghost use Rattle.capture.specs.File.{headLength, entryCount, fileRefusal};
 ghost use Rattle.listing.specs.Run.{answerAt};
 ghost use Rattle.listing.specs.Listing.{lineAt, listing};
 ghost use Rattle.listing.specs.Trace.{tracedAt};
-ghost use Rattle.listing.specs.Walk.{Stands, Begins, Fresh, Roomy, lineRoom, listingRoom, entryRoom};
+ghost use Rattle.listing.specs.Walk.{Stands, Begins, Unused, Enough, lineRoom, listingRoom, entryRoom};
 use capture::reader;
 use table::Table;
 
@@ -118,7 +118,7 @@ fn list_entries(
     lengths: &mut [u16],
     text: &mut [u8],
 ) -> usize
-    requires { ⌜ Fresh (now file) (now holding) (now output) (now lengths) × (listingRoom ≤ length (now text)) ⌝ }
+    requires { ⌜ Unused (now file) (now holding) (now output) (now lengths) × (listingRoom ≤ length (now text)) ⌝ }
     ensures { λ r. ⌜ Wrote (now (text .entry)) (now (text .exit)) 0 r (listing (now (file .entry))) ⌝ }
 {
     let count = reader::entry_count(file);
@@ -157,9 +157,10 @@ pub fn trace_entry(
     text: &mut [u8],
 ) -> Listed
     requires { ⌜ Stands (now file) walk (now holding) (now output) (now lengths) × (walk .index < entryCount headLength (now file)) ⌝ }
-    requires { ⌜ Roomy (now holding) (now output) (now lengths) × (entryRoom ≤ length (now text)) ⌝ }
+    requires { ⌜ Enough (now holding) (now output) (now lengths) × (entryRoom ≤ length (now text)) ⌝ }
     ensures { λ r. ⌜ Wrote (now (text .entry)) (now (text .exit)) 0 (r .next) (tracedAt (now (file .entry)) (walk .index)) ⌝ }
-    ensures { λ r. ⌜ Stands (now (file .entry)) (r .walk) (now (holding .exit)) (now (output .exit)) (now (lengths .exit)) × (r .walk .index ≡ walk .index + 1) ⌝ }
+    ensures { λ r. ⌜ Stands (now (file .entry)) (r .walk) (now (holding .exit)) (now (output .exit)) (now (lengths .exit)) ⌝ }
+    ensures { λ r. ⌜ (r .walk .index ≡ walk .index + 1) × (r .frames ≡ (answerAt (now (file .entry)) (walk .index)) .frames) ⌝ }
 {
     let listed = list_entry(file, walk, holding, output, lengths, text, 0);
     let frames = listed.frames;

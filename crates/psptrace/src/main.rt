@@ -7,7 +7,7 @@ ghost use mathlib.Core.Path.{_≡_};
 ghost use Prim.Native.Nat.{_+_, _≤_};
 ghost use lib.ListN.{length};
 ghost use Rattle.capture.specs.File.{longestFile};
-ghost use Rattle.listing.specs.Walk.{Fresh, Roomy, entryRoom};
+ghost use Rattle.listing.specs.Walk.{Unused, Enough, entryRoom};
 use capture::reader;
 use libc::STDIN_FILENO;
 use libc::STDOUT_FILENO;
@@ -59,7 +59,7 @@ fn trace_entries(
     lengths: &mut [u16],
     text: &mut [u8],
 )
-    requires { ⌜ Fresh (now file) (now holding) (now output) (now lengths) × Roomy (now holding) (now output) (now lengths) × (entryRoom ≤ length (now text)) ⌝ }
+    requires { ⌜ Unused (now file) (now holding) (now output) (now lengths) × Enough (now holding) (now output) (now lengths) × (entryRoom ≤ length (now text)) ⌝ }
 {
     let count = reader::entry_count(file);
     let mut walk = listing::begin(file);

@@ -44,7 +44,7 @@ returns : tie.Need-returns
 returns c =
     let l = c .before .before .before .before .before .before .before .before .before .before .before .before .before .before .before .before .before .before .before .before .before .list-entry in (
       entry-traced (l .ensures .1 .0) _ (l .ensures .1 .1 .0) _ (l .ensures .1 .1 .1) (l .ensures .0 .0) (c .before .before .before .before .before .before .before .before .before .write-frames .ensures .0) (c .before .before .write-rows .ensures .0),
-      (l .ensures .1 .0, l .ensures .1 .1 .0),
+      (l .ensures .1 .0, l .ensures .1 .1),
     )
 
 pub trace-entry-spec : {M : Type 1} → statement M
