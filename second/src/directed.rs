@@ -3,9 +3,12 @@
 //! They do not depend on a seed. Cases that do not disturb one another share a capture, so that few programs have to be
 //! started; each function below is one theme, and each capture's name tells what it is about.
 
+use std::collections::BTreeSet;
+
 use crate::capture::{Capture, Entry, LONGEST_FILE, MOST_ENTRIES};
 use crate::card::LONGEST_FRAME;
 use crate::craft::{dmpt, header, pattern, psp, psp_with, BEGIN, END, MIDDLE, S, WHOLE};
+use crate::faults::Faults;
 use crate::packet::{Kind, HEADER_BYTES, LONGEST_PACKET, MPEG_BYTES};
 
 /// A capture file with a name that tells its kind.
@@ -60,14 +63,37 @@ impl Case {
 pub fn captures() -> Vec<NamedCapture> {
     let mut all = vec![paper()];
     all.extend(joined_lengths());
-    all.extend([gaps_psp(), gaps_dmpt(), refused_numbers(), sizes_psp(), sizes_dmpt()]);
+    all.extend([gaps_psp(), gaps_dmpt(), refused_numbers()]);
+    all.extend(layouts());
+    all.extend([rows(), same_flow_of_sessions(), flows_apart(), closes(), reopened(), strangers()]);
+    all.extend(files());
+    all
+}
+
+/// Those that are about a packet's layout more than about tables, numbers and files.
+fn layouts() -> Vec<NamedCapture> {
+    let mut all = vec![sizes_psp(), sizes_dmpt()];
     all.extend([marks(), empty_segments(), segment_counts(), long_sums(), cut_tables()]);
     all.extend([every_byte_4_psp(), every_byte_4_dmpt(), byte_5_dmpt(), every_byte_5_psp()]);
     all.extend([null_pids(), sync_bytes(), unsequenced_dmpt()]);
     all.extend([orders_psp(), orders_dmpt(), orders_other()]);
-    all.extend([rows(), same_flow_of_sessions(), flows_apart(), closes(), reopened(), strangers()]);
-    all.extend(files());
     all
+}
+
+/// The packets of those captures, each once, for the packet check without a table.
+pub fn packets() -> Vec<Vec<u8>> {
+    let mut seen = BTreeSet::new();
+    let mut packets = Vec::new();
+    for NamedCapture { name, file } in [paper()].into_iter().chain(layouts()) {
+        let capture = Capture::read(&file, Faults::NONE).unwrap_or_else(|_| panic!("{name} is a sound file"));
+        for entry in capture.entries {
+            match entry {
+                Entry::Data(packet) if seen.insert(packet.clone()) => packets.push(packet),
+                _ => {}
+            }
+        }
+    }
+    packets
 }
 
 /// The capture of document 01, 'Capture file and listing', by its first packets A and B.

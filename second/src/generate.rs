@@ -442,8 +442,8 @@ fn renumber(dice: &mut Dice, packet: &mut [u8]) {
     packet[6..8].copy_from_slice(&number.to_be_bytes());
 }
 
-/// Damages a packet in one of several ways.
-fn damage_packet(dice: &mut Dice, packet: &mut Vec<u8>) {
+/// Damages a packet, which has at least a header, in one of several ways.
+pub fn damage_packet(dice: &mut Dice, packet: &mut Vec<u8>) {
     let length = packet.len();
     match dice.below(9) {
         0 => packet.truncate(dice.below(length)),
@@ -466,7 +466,7 @@ fn damage_packet(dice: &mut Dice, packet: &mut Vec<u8>) {
 }
 
 /// Flips one to three bits of the bytes from `low` to below `high`, as far as there are any.
-fn flip_bits(dice: &mut Dice, bytes: &mut [u8], low: usize, high: usize) {
+pub fn flip_bits(dice: &mut Dice, bytes: &mut [u8], low: usize, high: usize) {
     let high = high.min(bytes.len());
     if low >= high {
         return;

@@ -2,7 +2,7 @@
 //!
 //! This file has the commands. What they do stands in the modules: `packet` and `card` receive, `sender` sends,
 //! `capture` reads and writes files, `listing` prints; `directed`, `generate`, `sends` and `plan` make what is compared,
-//! `compare` compares it, and `faults` makes this program wrong on purpose.
+//! `compare` compares it, `packets` asks for the packet check alone, and `faults` makes this program wrong on purpose.
 
 mod capture;
 mod card;
@@ -14,6 +14,7 @@ mod faults;
 mod generate;
 mod listing;
 mod packet;
+mod packets;
 mod plan;
 mod sender;
 mod sends;
@@ -27,6 +28,7 @@ use compare::{Outcome, Setup};
 use faults::Faults;
 use listing::Detail;
 use packet::Refusal;
+use packets::Record;
 use plan::{Job, Plan};
 use sender::Order;
 
@@ -35,6 +37,8 @@ second list < CAPTURE
 second trace < CAPTURE
 second check KIND < PACKET
 second send SESSION FLOW NUMBER L < FRAMES > CAPTURE
+second packets SEED COUNT > RECORDS
+second verdicts [--fault NAME] < RECORDS
 second generate SEED COUNT FOLDER
 second compare [--fault NAME] --list COMMAND --trace COMMAND --send COMMAND SEED COUNT
 second faults";
@@ -67,6 +71,8 @@ fn run(words: &[String]) -> io::Result<u8> {
             number: number(first)?,
             limit: number(limit)?,
         }),
+        ["packets", seed, count] => packets(number(seed)?, number(count)?),
+        ["verdicts", rest @ ..] => verdicts(rest),
         ["generate", seed, count, folder] => generate(number(seed)?, number(count)?, Path::new(folder)),
         ["compare", rest @ ..] => compare(rest),
         ["faults"] => list_faults(),
@@ -113,6 +119,27 @@ fn send(order: Order) -> io::Result<u8> {
     }
 }
 
+/// Writes records for `verdicts` and for the proved check.
+fn packets(seed: u64, count: usize) -> io::Result<u8> {
+    let mut output = io::BufWriter::new(io::stdout().lock());
+    for record in packets::records(seed, count) {
+        output.write_all(&record.write())?;
+    }
+    output.flush()?;
+    Ok(0)
+}
+
+fn verdicts(words: &[&str]) -> io::Result<u8> {
+    let mut words = words.to_vec();
+    let faults = faults_named(take_option(&mut words, "--fault"))?;
+    if !words.is_empty() {
+        return Err(unusable(USAGE));
+    }
+    let records = Record::read_all(&standard_input()?).ok_or_else(|| unusable("the records end inside one"))?;
+    io::stdout().lock().write_all(packets::verdicts(&records, faults).as_bytes())?;
+    Ok(0)
+}
+
 /// Writes the captures and frames files that a comparison of this seed and count uses.
 fn generate(seed: u64, count: usize, folder: &Path) -> io::Result<u8> {
     fs::create_dir_all(folder)?;
@@ -137,10 +164,7 @@ fn generate(seed: u64, count: usize, folder: &Path) -> io::Result<u8> {
 fn compare(words: &[&str]) -> io::Result<u8> {
     let mut words = words.to_vec();
     let fault = take_option(&mut words, "--fault");
-    let faults = match fault {
-        None => Faults::NONE,
-        Some(name) => Faults::named(name).ok_or_else(|| unusable(&format!("there is no fault {name}")))?,
-    };
+    let faults = faults_named(fault)?;
     let mut program = |option: &str| -> io::Result<Vec<String>> {
         let command = take_option(&mut words, option).ok_or_else(|| unusable(USAGE))?;
         Ok(command.split_whitespace().map(str::to_string).collect())
@@ -163,6 +187,14 @@ fn compare(words: &[&str]) -> io::Result<u8> {
         Outcome::Equal => 0,
         Outcome::Different { .. } | Outcome::Incomplete => DIFFERENT,
     })
+}
+
+/// The fault of the name given, if one is given.
+fn faults_named(name: Option<&str>) -> io::Result<Faults> {
+    match name {
+        None => Ok(Faults::NONE),
+        Some(name) => Faults::named(name).ok_or_else(|| unusable(&format!("there is no fault {name}"))),
+    }
 }
 
 /// Takes an option and the word after it out of the words; answers that word.
