@@ -4,3 +4,4 @@ pub mod Walking
 pub mod Tracing
 pub mod Standing
 pub mod Entries
+pub mod Histories
