@@ -1,4 +1,4 @@
-//! The second program: document 01 once more, written from the paper alone, to be compared with the proved programs.
+//! The second program: document 01 once more, written apart from the proved programs, to be compared with them.
 //!
 //! This file has the commands. What they do stands in the modules: `packet` and `card` receive, `sender` sends,
 //! `capture` reads and writes files, `listing` prints; `directed`, `generate`, `sends` and `plan` make what is compared,
