@@ -12,11 +12,11 @@ use Rattle.refusal.specs.Refusal.{first}
 use Rattle.refusal.proofs.Laws.{none-applies}
 use Rattle.octets.specs.Stretch.{joined, cutBy}
 use Rattle.sender.specs.Send.{sendRefusals}
-use Rattle.sender.specs.Series.{Job, Turn, askedFor}
+use Rattle.sender.specs.Series.{Job, Turn, Sound, Usable, askedFor}
 use Rattle.octets.specs.Each.{Each}
 use Rattle.sender.specs.Rules.{Pieces, KeepsRules}
 use Rattle.sender.proofs.Sending as sending
-use Rattle.sender.proofs.Series.{Sound, Usable, code-is, sends-all}
+use Rattle.sender.proofs.Series.{code-is, sends-all}
 use Rattle.capture.specs.File.{longestFile, mostEntries, fileRefusal, entries, fileOf}
 use Rattle.capture.specs.Write.{Right, Writable}
 use Rattle.capture.proofs.ReadsBack.{written-sound, written-reads}

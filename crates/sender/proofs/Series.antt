@@ -24,9 +24,9 @@ use Rattle.packet.specs.Check.{kindPsp, check}
 use Rattle.sender.specs.declared.Position.{Position}
 use Rattle.sender.specs.Cut.{frameLength, frameStart, indexOf}
 use Rattle.sender.specs.Packet.{bodyOf}
-use Rattle.sender.specs.Send.{Asked, badAddress, badLimit, badFrames, outside, sendRefusals, written, refused, sentBy, sent}
+use Rattle.sender.specs.Send.{Asked, outside, sendRefusals, written, refused, sentBy, sent}
 use Rattle.sender.specs.Carried.{Carried}
-use Rattle.sender.specs.Series.{Job, Turn, askedFor, packetLeft, seriesPackets, seriesEnd}
+use Rattle.sender.specs.Series.{Job, Turn, Sound, Usable, startOfFrame, askedFor, packetLeft, seriesPackets, seriesEnd}
 use Rattle.octets.specs.Each.{Each}
 use Rattle.sender.specs.Rules.{Pieces, Addressed, segmentsOf, allSegments, KeepsRules}
 use Rattle.sender.proofs.Positions.{Framed, framed, Inside, place-within, carried-append, carried-place, carried-bytes}
@@ -60,16 +60,6 @@ pub code-is : (a : Asked) → (sent a) .answer .code ≡ first (sendRefusals a)
 unfolding sent
 code-is a = code-by a (first (sendRefusals a))
 
--- What a job and its calls must have so that nothing but the end of the frames refuses one.
-pub record Sound (job : Job) : Type 0 where
-  pub addressed : badAddress (job .session) (job .flow) ≡ false
-  pub four-bytes : job .session < 4294967296
-  pub frames-sound : badFrames (length (job .bytes)) (job .lens) ≡ false
-
-pub record Usable (turn : Turn) : Type 0 where
-  pub limited : badLimit (turn .limit) ≡ false
-  pub output-long : turn .limit + idLength ≤ length (turn .output)
-
 -- what is known of the packets of a series, and of where it ends
 pub record Kept (job : Job) (number : ℕ) (at : Position) (packets : List (List ℕ)) (end : Position) (turns : ℕ) : Type 0 where
   pub passing : Each (λ p. check overIp kindPsp p ≡ 0) packets
@@ -79,9 +69,6 @@ pub record Kept (job : Job) (number : ℕ) (at : Position) (packets : List (List
   pub farther : indexOf (job .lens) at + length packets ≤ indexOf (job .lens) end
   pub ends-inside : Inside (job .lens) end
   pub done : (end .frame ≡ length (job .lens)) ⊎ (length packets ≡ turns)
-
-abbrev pub startOfFrame : ℕ → Position
-startOfFrame i = record { frame = i; offset = 0 }
 
 module _ (job : Job) (sound : Sound job) where
   inside-start : (i : ℕ) → i ≤ length (job .lens) → Inside (job .lens) (startOfFrame i)

@@ -1,12 +1,15 @@
 -- Calls one after another, each from the position and the number that the one before gave back. Session, flow and frames are the same in
 -- all of them; the limit and the output may be others each time. The series stops at the first call that is refused.
-use Prim.Native.Nat.{ℕ}
-use mathlib.Core.Bool.{cond}
+use Prim.Native.Nat.{ℕ, _+_, _<_, _≤_}
+use mathlib.Core.Path.{_≡_}
+use mathlib.Core.Bool.{false, cond}
 use mathlib.Core.List.{List, [], _∷_}
 use lib.Dec.{eqb}
+use lib.ListN.{length}
 use Rattle.octets.specs.Stretch.{part}
+use Rattle.packet.specs.Header.{idLength}
 use Rattle.sender.specs.declared.Position.{Position}
-use Rattle.sender.specs.Send.{Asked, SendOutcome, sent}
+use Rattle.sender.specs.Send.{Asked, badAddress, badLimit, badFrames, SendOutcome, sent}
 
 -- what all calls of a series are given, and what each is given by itself
 pub record Job : Type 0 where
@@ -18,6 +21,20 @@ pub record Job : Type 0 where
 pub record Turn : Type 0 where
   pub limit : ℕ
   pub output : List ℕ
+
+-- What a job and its calls must have so that nothing but the end of the frames refuses one.
+pub record Sound (job : Job) : Type 0 where
+  pub addressed : badAddress (job .session) (job .flow) ≡ false
+  pub four-bytes : job .session < 4294967296
+  pub frames-sound : badFrames (length (job .bytes)) (job .lens) ≡ false
+
+pub record Usable (turn : Turn) : Type 0 where
+  pub limited : badLimit (turn .limit) ≡ false
+  pub output-long : turn .limit + idLength ≤ length (turn .output)
+
+-- the position before the first byte of frame i
+abbrev pub startOfFrame : ℕ → Position
+startOfFrame i = record { frame = i; offset = 0 }
 
 abbrev pub askedFor : Job → ℕ → Position → Turn → Asked
 askedFor job number at turn =

@@ -1,0 +1,83 @@
+-- Demand 3 (document 01, mission 3 and "Demand 3 and the next rule suppose"). Frames of 1 to 2,048 bytes are cut for one freshly opened
+-- PSP flow by any sender that keeps the published rules and this paper's limits; the network loses, repeats and delays packets within the
+-- bound. What comes out is precisely the frames whose every packet arrived before any packet sent after it, unaltered and in sending order.
+-- So where packets are only lost, one lost fewer never takes away or alters a frame.
+use Prim.Native.Nat.{ℕ, zero, suc, _≤_, _<_}
+use mathlib.Core.Path.{_≡_}
+use mathlib.Core.List.{List, [], _∷_, map, List·Memᴰ, Sublistᴰ}
+use lib.ListN.{length, getD}
+use Rattle.octets.specs.Stretch.{joined}
+use Rattle.octets.specs.Each.{Each}
+use Rattle.table.specs.declared.Mode.the-variants as mode
+use Rattle.card.specs.History.{Card, Call, opens, answer, after, afterAll, emptyCard}
+use Rattle.sender.specs.Rules.{Pieces, KeepsRules}
+use Rattle.promises.specs.Words.{packetsTo, framesOut, LongEnough, StaysOpen}
+use Rattle.promises.specs.Arrivals.{Window, Whole, Kept}
+
+-- What was sent, by a sender that keeps the rules: the sizes of frames and packets, the marks, the numbers and the order are in `KeepsRules`.
+pub record Sending : Type 0 where
+  pub session : ℕ
+  pub flow : ℕ
+  pub start : ℕ
+  pub frames : List Pieces
+  pub unfinished : Pieces
+  pub packets : List (List ℕ)
+  pub keeps-rules : KeepsRules session flow start frames unfinished packets
+
+-- A run of a card: any calls from an empty table, then the session's opening as PSP, then any calls again, none of which closes it. Among them
+-- its flow gets the sender's packets, and no others, in the order of `arrivals`. What else is called, for other sessions and other flows,
+-- before and after, refused or not, is left open.
+pub record Run (s : Sending) : Type 0 where
+  pub holding : List ℕ
+  pub before : List Call
+  pub calls : List Call
+  pub arrivals : List ℕ
+  pub opens-now : (answer (afterAll (emptyCard holding) before) (opens mode.Psp (s .session))) .code ≡ 0
+  pub stays-open : StaysOpen (s .session) calls
+  pub long-enough : LongEnough (s .session) (s .flow) holding calls
+  pub only-these : packetsTo (s .session) (s .flow) calls ≡ map (λ x. getD (s .packets) x []) arrivals
+  pub were-sent : Each (λ x. x < length (s .packets)) arrivals
+  pub in-window : Window arrivals
+
+-- the card when the session has been opened, and what comes out of the flow from then on
+abbrev pub openedCard : (s : Sending) → Run s → Card
+openedCard s r = after (afterAll (emptyCard (r .holding)) (r .before)) (opens mode.Psp (s .session))
+
+abbrev pub comesOut : (s : Sending) → Run s → List (List ℕ)
+comesOut s r = framesOut (s .session) (s .flow) (openedCard s r) (r .calls)
+
+-- frame number i arrived whole in this run
+abbrev pub WholeIn : (s : Sending) → Run s → ℕ → Type 0
+WholeIn s r i = Whole (r .arrivals) (s .frames) (s .packets) i
+
+-- `demand-3`
+abbrev pub Demand3 : Type 0
+Demand3 = (s : Sending) (r : Run s) → Kept (WholeIn s r) 0 (s .frames) (comesOut s r)
+
+-- numbers that rise, from `from` on: as arrivals, packets that are only lost; as frames, frames in sending order and none twice
+abbrev pub Rising : ℕ → List ℕ → Type 0
+Rising from [] = Unit {0}
+Rising from (x ∷ more) = (from ≤ x) × Rising (suc x) more
+
+-- The frames that come out of a run, by their numbers, so that two frames with equal bytes are told apart: in sending order, exactly those
+-- that arrived whole, and what comes out is their bytes.
+pub record ComeOut (s : Sending) (r : Run s) (numbers : List ℕ) : Type 0 where
+  pub in-order : Rising 0 numbers
+  pub were-sent : Each (λ i. i < length (s .frames)) numbers
+  pub all-whole : Each (WholeIn s r) numbers
+  pub no-other : (i : ℕ) → i < length (s .frames) → WholeIn s r i → List·Memᴰ i numbers
+  pub their-bytes : comesOut s r ≡ map (λ i. joined (getD (s .frames) i [])) numbers
+
+-- `fewer-lost`: what arrives in the first run arrives in the second too. Then each frame that comes out of the first comes out of the second.
+pub record NoneLost (s : Sending) (more fewer : Run s) : Type 0 where
+  pub of-more : List ℕ
+  pub of-fewer : List ℕ
+  pub come-out : ComeOut s more of-more
+  pub come-out-too : ComeOut s fewer of-fewer
+  pub among : Sublistᴰ of-more of-fewer
+
+abbrev pub FewerLost : Type 0
+FewerLost =
+    (s : Sending) (more fewer : Run s) →
+    Rising 0 (more .arrivals) → Rising 0 (fewer .arrivals) → Sublistᴰ (more .arrivals) (fewer .arrivals) →
+    NoneLost s more fewer

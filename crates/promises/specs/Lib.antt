@@ -1,0 +1,10 @@
+pub mod Words
+pub mod Arrivals
+pub mod Demand
+pub mod Account
+pub mod Isolation
+pub mod Limits
+pub mod Refusals
+pub mod Unique
+pub mod RoundTrip
+pub mod Marked

@@ -1,0 +1,18 @@
+-- A refusal (document 01, "Refusal numbers"): it returns its number and all counts 0, and changes nothing; a refused send gives back the position
+-- and the number that it was given. For every table, packet and slices.
+use Prim.Native.Nat.{ℕ}
+use mathlib.Core.Path.{_≡_}
+use mathlib.Core.List.{List}
+use Rattle.card.specs.History.{Card, Call, hands, answer, after}
+use Rattle.sender.specs.Send.{Asked, sent}
+
+-- `refusals-change-nothing`
+pub record RefusalsChangeNothing : Type 0 where
+  pub table-and-places : (c : Card) (x : Call) → ((answer c x) .code ≡ 0 → ⊥) → after c x ≡ c
+  pub counts : (c : Card) (x : Call) → ((answer c x) .code ≡ 0 → ⊥) →
+      ((answer c x) .frames ≡ 0) × ((answer c x) .bytes ≡ 0) × ((answer c x) .dropped ≡ 0) × ((answer c x) .gap ≡ 0)
+  pub slices : (c : Card) (packet out lens : List ℕ) → ((answer c (hands packet out lens)) .code ≡ 0 → ⊥) →
+      ((answer c (hands packet out lens)) .output ≡ out) × ((answer c (hands packet out lens)) .lengths ≡ lens)
+  pub sends : (a : Asked) → ((sent a) .answer .code ≡ 0 → ⊥) →
+      ((sent a) .answer .length ≡ 0) × ((sent a) .answer .position ≡ a .position)
+      × ((sent a) .answer .number ≡ a .number) × ((sent a) .output ≡ a .output)
