@@ -18,29 +18,8 @@ use Rattle.table.specs.Calls.{kindOf, isOpen}
 use Rattle.card.specs.Hear.{Heard, judgedOf, hear, recordAfter}
 use Rattle.card.specs.Receive.{placeOf, asSlices, tooSmall, packetRefusals}
 use Rattle.card.specs.History.{Card, Call, opens, closes, hands, framesOf, answer, after, afterAll, emptyCard}
-use Rattle.card.proofs.Step.{Shaped}
-use Rattle.promises.specs.Words.{ofSession, ofFlow, handsTo, closesIt}
-
--- a card that calls from an empty table can have come to: six rows of four flows, and not broken
-pub record Good (c : Card) : Type 0 where
-  pub shaped : Shaped (c .table)
-  pub whole : broken (c .table) ≡ false
-
-pub good-empty : (holding : List ℕ) → Good (emptyCard holding)
-good-empty holding = ?good-empty
-
-pub good-after : (c : Card) (x : Call) → Good c → Good (after c x)
-good-after c x g = ?good-after
-
-pub good-all : (c : Card) (calls : List Call) → Good c → Good (afterAll c calls)
-good-all c calls g = ?good-all
-
--- no call changes the length of the holding slice
-pub holding-kept : (c : Card) (x : Call) → Good c → length ((after c x) .holding) ≡ length (c .holding)
-holding-kept c x g = ?holding-kept
-
-pub holding-kept-all : (c : Card) (calls : List Call) → Good c → length ((afterAll c calls) .holding) ≡ length (c .holding)
-holding-kept-all c calls g = ?holding-kept-all
+use Rattle.promises.specs.Words.{ofFlow, handsTo, closesIt}
+use Rattle.promises.proofs.Good.{Good}
 
 -- A flow of an open session: the session's kind, the flow's record, and the bytes that it holds.
 pub record Stands (c : Card) (session flow : ℕ) (kind : Kind) (f : Flow) (held : List ℕ) : Type 0 where
@@ -67,11 +46,7 @@ pub hands-code : (c : Card) (packet out lens : List ℕ) (session flow : ℕ) (k
     (answer c (hands packet out lens)) .code ≡ cond ((judgedOf f (sub overIp packet)) .late) 12 0
 hands-code c packet out lens session flow kind f held g s of-it large early passed = ?hands-code
 
--- .. a number other than 0 changes nothing, ..
-pub refused-stays : (c : Card) (x : Call) → ((answer c x) .code ≡ 0 → ⊥) → after c x ≡ c
-refused-stays c x refused = ?refused-stays
-
--- .. and with 0 the flow has heard it, and its caller finds the frames.
+-- .. and with 0 the flow has heard it, and its caller finds the frames. (Any other number changes nothing: `refused-stays`.)
 pub stands-heard : (c : Card) (packet out lens : List ℕ) (session flow : ℕ) (kind : Kind) (f : Flow) (held : List ℕ) → Good c →
     Stands c session flow kind f held → ofFlow session flow packet ≡ true → (answer c (hands packet out lens)) .code ≡ 0 →
     let h = hear (isDmpt kind) f held (sub overIp packet) in
