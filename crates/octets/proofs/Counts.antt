@@ -78,6 +78,12 @@ unfolding any least
 least-none p zero h = refl
 least-none p (suc n) h = simp (or-false-left (any p n) (p n) h, or-false-right (any p n) (p n) h)
 
+pub least-same : (p q : ℕ → Bool) (n : ℕ) → ((k : ℕ) → k < n → p k ≡ q k) → least p n ≡ least q n
+unfolding least
+least-same p q zero h = refl
+least-same p q (suc n) h =
+    simp (any-same p q n (λ k l. h k (omega arith)), least-same p q n (λ k l. h k (omega arith)), h n (omega arith))
+
 -- none below i passes, and i does
 pub least-at : (p : ℕ → Bool) (n i : ℕ) → any p i ≡ false → p i ≡ true → i < n → least p n ≡ i
 unfolding any least

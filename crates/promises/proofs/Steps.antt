@@ -1,25 +1,40 @@
 -- How a call changes a card, seen from one flow of one session: its own packet is heard by it, and nothing else that is called touches its
 -- record, its bytes or its row, short of its session's close. Everything that is said of histories rests on these steps.
-use Prim.Native.Nat.{ℕ, _<_, _≤_}
-use mathlib.Core.Path.{_≡_}
-use mathlib.Core.Bool.{Bool, true, false, cond}
-use mathlib.Core.List.{List, []}
-use lib.ListN.{length}
+use Prim.Native.Nat.{ℕ, zero, suc, _<_, _≤_}
+use mathlib.Core.Path.{_≡_, refl, sym, ap, subst, _∙_}
+use mathlib.Core.Bool.{Bool, true, false, not, cond, _&&_, true≢false}
+use mathlib.Core.Logic.{_⊎_, inl, inr, ⊎-elim}
+use mathlib.Core.List.{List, [], _∷_, _++_}
+use native.Mathlib.Omega.{arith}
+use lib.Dec.{eqb, leb, ltb}
+use lib.ListN.{length, set, getD-replicate}
+use lib.Seq.{getD-set-same, getD-set-other}
+use borrow.Author.Tests.{eqb-true, eqb-false, eq-eqb, ne-eqb, ltb-true, ltb-false, lt-ltb, leb-true, le-leb, not-false}
 use Rattle.octets.specs.Stretch.{part}
-use Rattle.refusal.specs.Refusal.{first}
+use Rattle.octets.proofs.Counts.{true-or-false, least-same, least-passes, none-at}
+use Rattle.octets.proofs.Stretches.{part-none}
+use Rattle.refusal.specs.Refusal.{Refusal, first, _when_}
+use Rattle.refusal.proofs.Laws.{numbered, first-passed}
 use Rattle.flow.specs.declared.Flow.{Flow}
-use Rattle.flow.specs.Flow.{fresh, flows}
-use Rattle.packet.specs.Header.{overIp, sub, beforeSession, flowId}
+use Rattle.flow.specs.Flow.{fresh, flows, longest}
+use Rattle.packet.specs.Header.{overIp, sub, sessionId, beforeSession, flowId, shortestPacket}
 use Rattle.table.specs.declared.Kind.{Kind}
+use Rattle.table.specs.declared.Kind.the-variants as kind
 use Rattle.table.specs.declared.Mode.{Mode}
-use Rattle.table.specs.Rows.{rows, isDmpt, rowAt, flowAt, find}
+use Rattle.table.specs.declared.Mode.the-variants as mode
+use Rattle.table.specs.declared.Row.{Row}
+use Rattle.table.specs.declared.Table.{Table}
+use Rattle.table.specs.Rows.{rows, isClosed, isDmpt, rowAt, flowAt, closedRow, openIn, find, freeIn, lowestFree, withRow}
 use Rattle.table.specs.Broken.{broken}
-use Rattle.table.specs.Calls.{kindOf, isOpen}
+use Rattle.table.specs.Calls.{kindOf, isOpen, freshRow, opened, closed}
+use Rattle.table.proofs.Keeping.{FlowWhole, flows-whole, opened-there, opened-table, opened-code, Opens, opens, afterOpen, closed-table, closed-code, Closes, closes, afterClose}
 use Rattle.card.specs.Hear.{Heard, judgedOf, hear, recordAfter}
-use Rattle.card.specs.Receive.{placeOf, asSlices, tooSmall, packetRefusals}
-use Rattle.card.specs.History.{Card, Call, opens, closes, hands, framesOf, answer, after, afterAll, emptyCard}
-use Rattle.promises.specs.Words.{ofFlow, handsTo, closesIt}
-use Rattle.promises.proofs.Good.{Good}
+use Rattle.card.specs.Receive.{placeOf, Slices, asSlices, tooSmall, rowOf, toDmpt, flowOf, heardBy, earlyRefusals, packetRefusals, flowRefusals, dataRefusals, received}
+use Rattle.card.specs.History.{Card, Call, opens as opensCall, closes as closesCall, hands, framesOf, answer, after, afterAll, emptyCard}
+use Rattle.card.proofs.Accepted.{received-code, accepted, flow-there}
+use Rattle.card.proofs.Step.{Shaped, StepOf, one-flow-step}
+use Rattle.promises.specs.Words.{ofSession, ofFlow, handsTo, closesIt}
+use Rattle.promises.proofs.Good.{Good, refused-stays}
 
 -- A flow of an open session: the session's kind, the flow's record, and the bytes that it holds.
 pub record Stands (c : Card) (session flow : ℕ) (kind : Kind) (f : Flow) (held : List ℕ) : Type 0 where
@@ -28,28 +43,269 @@ pub record Stands (c : Card) (session flow : ℕ) (kind : Kind) (f : Flow) (held
   pub its-record : flowAt (rowAt (c .table) (find (c .table) session)) flow ≡ f
   pub its-bytes : part (c .holding) (placeOf (find (c .table) session) flow) (f .held) ≡ held
 
--- an open that is not refused begins with fresh flows
-pub stands-opened : (c : Card) (session flow : ℕ) (asked : Mode) → Good c → flow < flows → (answer c (opens asked session)) .code ≡ 0 →
-    Stands (after c (opens asked session)) session flow (kindOf asked) fresh []
-stands-opened c session flow asked g l z = ?stands-opened
+-- It stands as before where its session is found as before, and its row, record and bytes are as before.
+stands-by : (c d : Card) (session flow : ℕ) (kind : Kind) (f : Flow) (held : List ℕ) → Stands c session flow kind f held →
+    ((i : ℕ) → i < rows → openIn (d .table) session i ≡ openIn (c .table) session i) →
+    (let r = find (c .table) session in
+    (rowAt (d .table) r .kind ≡ rowAt (c .table) r .kind)
+    × (flowAt (rowAt (d .table) r) flow ≡ flowAt (rowAt (c .table) r) flow)
+    × (part (d .holding) (placeOf r flow) (f .held) ≡ part (c .holding) (placeOf r flow) (f .held))) →
+    Stands d session flow kind f held
+stands-by c d session flow kind f held s same as-before =
+    let found : find (d .table) session ≡ find (c .table) session = least-same (openIn (d .table) session) (openIn (c .table) session) rows same in
+    record {
+      is-there = rw found (s .is-there);
+      of-kind = rw found (as-before .0 ∙ s .of-kind);
+      its-record = rw found (as-before .1 ∙ s .its-record);
+      its-bytes = rw found (as-before .2 ∙ s .its-bytes);
+    }
 
--- a call that neither hands it a packet nor closes its session leaves a flow as it was
-pub stands-stay : (c : Card) (x : Call) (session flow : ℕ) (kind : Kind) (f : Flow) (held : List ℕ) → Good c → flow < flows →
-    Stands c session flow kind f held → handsTo session flow x ≡ false → closesIt session x ≡ false →
-    Stands (after c x) session flow kind f held
-stands-stay c x session flow kind f held g l s other stays = ?stands-stay
+-- the row where a session is found has it open
+found-open : (t : Table) (session : ℕ) → find t session < rows → openIn t session (find t session) ≡ true
+found-open t session l = least-passes (openIn t session) rows l
 
--- A packet of the flow, handed in. Which number it is answered, with slices that are long enough: ..
-pub hands-code : (c : Card) (packet out lens : List ℕ) (session flow : ℕ) (kind : Kind) (f : Flow) (held : List ℕ) → Good c →
-    Stands c session flow kind f held → ofFlow session flow packet ≡ true → tooSmall (asSlices (c .holding) out lens) ≡ false →
-    first (beforeSession overIp packet) ≡ 0 → first (packetRefusals (isDmpt kind) (sub overIp packet)) ≡ 0 →
-    (answer c (hands packet out lens)) .code ≡ cond ((judgedOf f (sub overIp packet)) .late) 12 0
-hands-code c packet out lens session flow kind f held g s of-it large early passed = ?hands-code
+and-true : (a b : Bool) → (a && b) ≡ true → (a ≡ true) × (b ≡ true)
+and-true true b e = (refl, e)
+and-true false b e = absurd (true≢false (sym e))
 
--- .. and with 0 the flow has heard it, and its caller finds the frames. (Any other number changes nothing: `refused-stays`.)
-pub stands-heard : (c : Card) (packet out lens : List ℕ) (session flow : ℕ) (kind : Kind) (f : Flow) (held : List ℕ) → Good c →
-    Stands c session flow kind f held → ofFlow session flow packet ≡ true → (answer c (hands packet out lens)) .code ≡ 0 →
-    let h = hear (isDmpt kind) f held (sub overIp packet) in
-    Stands (after c (hands packet out lens)) session flow kind (recordAfter h) (h .fate .held)
+-- a row replaced, seen from another
+other-row : (t : Table) (i : ℕ) (row : Row) (j : ℕ) → (j ≡ i → ⊥) → rowAt (withRow t i row) j ≡ rowAt t j
+other-row t i row j other = getD-set-other (t .rows) i j row (record { id = 0; kind = kind.Closed; flows = [] }) other
+
+-- A row replaced in which the session was not open and is not open now.
+module _ (t : Table) (session i : ℕ) (row : Row) (six : length (t .rows) ≡ rows) (inside : i < rows)
+    (was-not : openIn t session i ≡ false) (is-not : (not (isClosed (row .kind)) && eqb (row .id) session) ≡ false) where
+  same-open : (j : ℕ) → j < rows → openIn (withRow t i row) session j ≡ openIn t session j
+  same-open j l = by (true-or-false (eqb j i))
+    where
+      by : (eqb j i ≡ true) ⊎ (eqb j i ≡ false) → openIn (withRow t i row) session j ≡ openIn t session j
+      by (inl e) =
+          rw (eqb-true j i e, getD-set-same (t .rows) i row (record { id = 0; kind = kind.Closed; flows = [] }) (omega (arith, six)), was-not) is-not
+      by (inr e) = rw (other-row t i row j (eqb-false j i e)) refl
+
+  not-its-row : find t session < rows → find t session ≡ i → ⊥
+  not-its-row l e = true≢false (sym (found-open t session l) ∙ ap (openIn t session) e ∙ was-not)
+
+  -- so every flow of the session stands as it stood
+  row-elsewhere : (holding : List ℕ) (flow : ℕ) (k : Kind) (f : Flow) (held : List ℕ) →
+      Stands (record { table = t; holding = holding }) session flow k f held → Stands (record { table = withRow t i row; holding = holding }) session flow k f held
+  row-elsewhere holding flow k f held s =
+      let there = other-row t i row (find t session) (not-its-row (s .is-there)) in
+      stands-by (record { table = t; holding = holding }) (record { table = withRow t i row; holding = holding }) session flow k f held s same-open
+      (ap (λ (x : Row). x .kind) there, ap (λ (x : Row). flowAt x flow) there, refl)
+
+-- Opening another session: the fresh row was free.
+fresh-not : (id session : ℕ) (asked : Mode) → (id ≡ session → ⊥) → (not (isClosed (freshRow id asked .kind)) && eqb (freshRow id asked .id) session) ≡ false
+fresh-not id session mode.Psp other = ne-eqb id session other
+fresh-not id session mode.Dmpt other = ne-eqb id session other
+
+free-not : (t : Table) (session i : ℕ) → freeIn t i ≡ true → openIn t session i ≡ false
+free-not t session i free = rw free refl
+
+open-stays : (c : Card) (asked : Mode) (id session flow : ℕ) (k : Kind) (f : Flow) (held : List ℕ) → Good c → Stands c session flow k f held →
+    opened (c .table) id asked .code ≡ 0 → Stands (after c (opensCall asked id)) session flow k f held
+unfolding after
+open-stays c asked id session flow k f held g s z =
+    let t = c .table in
+    let o = opens t id (sym (opened-code t id asked) ∙ z) in
+    let other : (id ≡ session → ⊥) =
+    λ e. true≢false (sym (found-open t session (s .is-there)) ∙ ap (λ (i : ℕ). openIn t i (find t session)) (sym e) ∙ none-at (openIn t id) rows (find t session) (o .absent) (s .is-there)) in
+    rw (opened-table t id asked z)
+    (row-elsewhere t session (lowestFree t) (freshRow id asked) (g .shaped .six) (o .room)
+    (free-not t session (lowestFree t) (least-passes (freeIn t) rows (o .room))) (fresh-not id session asked other) (c .holding) flow k f held s)
+
+-- .. and where another session is open, this one is not
+none-right : (a b : Bool) → b ≡ false → (a && b) ≡ false
+none-right true b e = e
+none-right false b e = refl
+
+in-another : (t : Table) (id session : ℕ) → find t id < rows → (id ≡ session → ⊥) → openIn t session (find t id) ≡ false
+in-another t id session l other =
+    let its = and-true (not (isClosed (rowAt t (find t id) .kind))) (eqb (rowAt t (find t id) .id) id) (found-open t id l) in
+    none-right (not (isClosed (rowAt t (find t id) .kind))) (eqb (rowAt t (find t id) .id) session)
+    (ne-eqb (rowAt t (find t id) .id) session (λ e. other (sym (eqb-true (rowAt t (find t id) .id) id (its .1)) ∙ e)))
+
+close-stays : (c : Card) (id session flow : ℕ) (k : Kind) (f : Flow) (held : List ℕ) → Good c → Stands c session flow k f held →
+    (id ≡ session → ⊥) → closed (c .table) id .code ≡ 0 → Stands (after c (closesCall id)) session flow k f held
+unfolding after
+close-stays c id session flow k f held g s other z =
+    let t = c .table in
+    let d = closes t id (sym (closed-code t id) ∙ z) in
+    rw (closed-table t id z)
+    (row-elsewhere t session (find t id) closedRow (g .shaped .six) (d .there) (in-another t id session (d .there) other) refl (c .holding) flow k f held s)
+
+-- A packet handed in. Its session's row, and the flow there, are told by the packet.
+of-session : (session flow : ℕ) (packet : List ℕ) → ofFlow session flow packet ≡ true → (sessionId overIp packet ≡ session) × (flowId (sub overIp packet) ≡ flow)
+of-session session flow packet e =
+    let both = and-true (ofSession session packet) (eqb (flowId (sub overIp packet)) flow) e in
+    let id = and-true (leb shortestPacket (length packet)) (eqb (sessionId overIp packet) session) (both .0) in
+    (eqb-true (sessionId overIp packet) session (id .1), eqb-true (flowId (sub overIp packet)) flow (both .1))
+
+is-of : (session flow : ℕ) (packet : List ℕ) → shortestPacket ≤ length packet → sessionId overIp packet ≡ session → flowId (sub overIp packet) ≡ flow →
+    ofFlow session flow packet ≡ true
+is-of session flow packet long id k =
+    rw (le-leb shortestPacket (length packet) long, eq-eqb (sessionId overIp packet) session id, eq-eqb (flowId (sub overIp packet)) flow k) refl
+
+-- two sessions that are open in one row are one
+one-row : (t : Table) (a b : ℕ) → find t a < rows → find t b < rows → find t a ≡ find t b → a ≡ b
+one-row t a b l m e =
+    let of-a = and-true (not (isClosed (rowAt t (find t a) .kind))) (eqb (rowAt t (find t a) .id) a) (found-open t a l) in
+    let of-b = and-true (not (isClosed (rowAt t (find t b) .kind))) (eqb (rowAt t (find t b) .id) b) (found-open t b m) in
+    sym (eqb-true (rowAt t (find t a) .id) a (of-a .1)) ∙ ap (λ (i : ℕ). rowAt t i .id) e ∙ eqb-true (rowAt t (find t b) .id) b (of-b .1)
+
+-- an accepted packet of another flow
+module _ (c : Card) (packet out lens : List ℕ) (g : Good c) (z : answer c (hands packet out lens) .code ≡ 0) where
+  abbrev lent : Slices
+  lent = asSlices (c .holding) out lens
+
+  abbrev its-row : ℕ
+  its-row = rowOf overIp (c .table) packet
+
+  abbrev its-flow : ℕ
+  its-flow = flowId (sub overIp packet)
+
+  step : StepOf its-row its-flow (heardBy (c .table) its-row (sub overIp packet) lent) (c .table) lent (received overIp (c .table) packet lent)
+  unfolding answer
+  step = one-flow-step overIp (c .table) packet lent (g .shaped) z
+
+  abbrev d : Card
+  d = after c (hands packet out lens)
+
+  same-id : (i : ℕ) → (rowAt (d .table) i .id ≡ rowAt (c .table) i .id) × (rowAt (d .table) i .kind ≡ rowAt (c .table) i .kind)
+  unfolding after
+  same-id i =
+      ⊎-elim
+      (λ (e : eqb i its-row ≡ true). rw (eqb-true i its-row e) (step .its-session))
+      (λ (e : eqb i its-row ≡ false).
+      let there = step .other-rows i (eqb-false i its-row e) in (ap (λ (x : Row). x .id) there, ap (λ (x : Row). x .kind) there))
+      (true-or-false (eqb i its-row))
+
+  same-sessions : (session i : ℕ) → openIn (d .table) session i ≡ openIn (c .table) session i
+  same-sessions session i = rw (same-id i .0, same-id i .1) refl
+
+  module _ (session flow : ℕ) (k : Kind) (f : Flow) (held : List ℕ) (inside : flow < flows) (s : Stands c session flow k f held) where
+    abbrev r : ℕ
+    r = find (c .table) session
+
+    -- of another flow, or of another session
+    apart : ofFlow session flow packet ≡ false → r ≡ its-row → flow ≡ its-flow → ⊥
+    unfolding answer
+    apart not-of e q =
+        let a = accepted overIp (c .table) packet lent z in
+        let same : sessionId overIp packet ≡ session = sym (one-row (c .table) session (sessionId overIp packet) (s .is-there) (a .found) e) in
+        true≢false (sym (is-of session flow packet (a .early .not-short) same (sym q)) ∙ not-of)
+
+    same-record : ofFlow session flow packet ≡ false → flowAt (rowAt (d .table) r) flow ≡ flowAt (rowAt (c .table) r) flow
+    unfolding after
+    same-record not-of =
+        ⊎-elim
+        (λ (e : eqb r its-row ≡ true).
+        let here = eqb-true r its-row e in
+        rw here (step .other-flows flow (apart not-of here)))
+        (λ (e : eqb r its-row ≡ false). ap (λ (x : Row). flowAt x flow) (step .other-rows r (eqb-false r its-row e)))
+        (true-or-false (eqb r its-row))
+
+    few : f .held ≤ longest
+    few = subst (λ (x : Flow). x .held ≤ longest) (s .its-record) (flows-whole (c .table) (g .whole) r flow (s .is-there) inside .fits)
+
+    hands-stays : ofFlow session flow packet ≡ false → Stands d session flow k f held
+    unfolding after
+    hands-stays not-of =
+        stands-by c d session flow k f held s (λ i l. same-sessions session i)
+        (same-id r .1, same-record not-of, step .other-places r flow (f .held) (s .is-there) inside (apart not-of) few)
+
+    -- of this flow: what it hears is told by its own record and bytes
+    heard-is : ofFlow session flow packet ≡ true → heardBy (c .table) its-row (sub overIp packet) lent ≡ hear (isDmpt k) f held (sub overIp packet)
+    heard-is of-it =
+        let id = of-session session flow packet of-it in
+        rw (id .0, id .1, s .of-kind, s .its-record, s .its-bytes) refl
+
+    heard-stands : ofFlow session flow packet ≡ true →
+        let h = hear (isDmpt k) f held (sub overIp packet) in
+        Stands d session flow k (recordAfter h) (h .fate .held) × (framesOf (answer c (hands packet out lens)) ≡ h .fate .delivered)
+    unfolding after answer
+    heard-stands of-it =
+        let id = of-session session flow packet of-it in
+        let found : find (d .table) session ≡ r = least-same (openIn (d .table) session) (openIn (c .table) session) rows (λ i l. same-sessions session i) in
+        let here : its-row ≡ r = ap (find (c .table)) (id .0) in
+        let known = rw (heard-is of-it, here, id .1) at step in (
+          record {
+            is-there = rw found (s .is-there);
+            of-kind = rw found (same-id r .1 ∙ s .of-kind);
+            its-record = rw found (known .its-record);
+            its-bytes = rw found (known .its-place);
+          },
+          known .frames-found,
+        )
+
+-- A call that neither hands it a packet nor closes its session leaves a flow as it was. ..
+by-number : (c : Card) (x : Call) (session flow : ℕ) (k : Kind) (f : Flow) (held : List ℕ) → Stands c session flow k f held →
+    (answer c x .code ≡ 0 → Stands (after c x) session flow k f held) → Stands (after c x) session flow k f held
+by-number c x session flow k f held s accepts =
+    ⊎-elim
+    (λ (e : eqb (answer c x .code) 0 ≡ true). accepts (eqb-true (answer c x .code) 0 e))
+    (λ (e : eqb (answer c x .code) 0 ≡ false). rw (refused-stays c x (eqb-false (answer c x .code) 0 e)) s)
+    (true-or-false (eqb (answer c x .code) 0))
+
+pub stands-stay : (c : Card) (x : Call) (session flow : ℕ) (k : Kind) (f : Flow) (held : List ℕ) → Good c → flow < flows →
+    Stands c session flow k f held → handsTo session flow x ≡ false → closesIt session x ≡ false →
+    Stands (after c x) session flow k f held
+unfolding answer
+stands-stay c (opensCall asked id) session flow k f held g l s other stays =
+    by-number c (opensCall asked id) session flow k f held s (λ z. open-stays c asked id session flow k f held g s z)
+stands-stay c (closesCall id) session flow k f held g l s other stays =
+    by-number c (closesCall id) session flow k f held s (λ z. close-stays c id session flow k f held g s (eqb-false id session stays) z)
+stands-stay c (hands packet out lens) session flow k f held g l s other stays =
+    by-number c (hands packet out lens) session flow k f held s (λ z. hands-stays c packet out lens g z session flow k f held l s other)
+
+-- .. One that hands it a packet and is not refused has it hear that packet, and its caller finds the frames. ..
+pub stands-heard : (c : Card) (packet out lens : List ℕ) (session flow : ℕ) (k : Kind) (f : Flow) (held : List ℕ) → Good c → flow < flows →
+    Stands c session flow k f held → ofFlow session flow packet ≡ true → answer c (hands packet out lens) .code ≡ 0 →
+    let h = hear (isDmpt k) f held (sub overIp packet) in
+    Stands (after c (hands packet out lens)) session flow k (recordAfter h) (h .fate .held)
     × (framesOf (answer c (hands packet out lens)) ≡ h .fate .delivered)
-stands-heard c packet out lens session flow kind f held g s of-it z = ?stands-heard
+stands-heard c packet out lens session flow k f held g l s of-it z = heard-stands c packet out lens g z session flow k f held l s of-it
+
+-- .. And with slices that are long enough, a packet that passes the check is refused only where it is late.
+pub hands-code : (c : Card) (packet out lens : List ℕ) (session flow : ℕ) (k : Kind) (f : Flow) (held : List ℕ) → Good c →
+    Stands c session flow k f held → ofFlow session flow packet ≡ true → tooSmall (asSlices (c .holding) out lens) ≡ false →
+    first (beforeSession overIp packet) ≡ 0 → first (packetRefusals (isDmpt k) (sub overIp packet)) ≡ 0 →
+    (answer c (hands packet out lens)) .code ≡ cond ((judgedOf f (sub overIp packet)) .late) 12 0
+unfolding answer
+hands-code c packet out lens session flow k f held g s of-it large early passed =
+    let t = c .table in
+    let behind = sub overIp packet in
+    let id = of-session session flow packet of-it in
+    let there : ltb (find t session) rows ≡ true = lt-ltb (find t session) rows (s .is-there) in
+    let late = (judgedOf f behind) .late in
+    let last : first (packetRefusals (isDmpt k) behind ++ (12 when late ∷ [])) ≡ cond late 12 0 =
+    first-passed (packetRefusals (isDmpt k) behind) (12 when late ∷ []) (numbered-packet (isDmpt k) behind) passed in
+    let row = rowOf overIp t packet in
+    let on : List Refusal = 5 when not (isOpen t (sessionId overIp packet)) ∷ flowRefusals t row behind in
+    let none : first (earlyRefusals overIp t packet) ≡ 0 = rw (g .whole) early in
+    let order : first (dataRefusals overIp t packet (asSlices (c .holding) out lens)) ≡ first on =
+    rw large (first-passed (earlyRefusals overIp t packet) on refl none) in
+    let live : isOpen t (sessionId overIp packet) ≡ true = rw (id .0) there in
+    let by-kind : toDmpt t row ≡ isDmpt k = rw (id .0) (ap isDmpt (s .of-kind)) in
+    let its : flowOf t row behind ≡ f = rw (id .0, id .1) (s .its-record) in
+    let by-flow : first on ≡ cond late 12 0 = rw (live, by-kind, its) last in
+    received-code overIp t packet (asSlices (c .holding) out lens) ∙ order ∙ by-flow
+  where
+    numbered-packet : (dmpt : Bool) (behind : List ℕ) → numbered (packetRefusals dmpt behind) ≡ true
+    numbered-packet true behind = refl
+    numbered-packet false behind = refl
+
+-- An open that is not refused begins with fresh flows.
+pub stands-opened : (c : Card) (session flow : ℕ) (asked : Mode) → Good c → flow < flows → (answer c (opensCall asked session)) .code ≡ 0 →
+    Stands (after c (opensCall asked session)) session flow (kindOf asked) fresh []
+unfolding answer after
+stands-opened c session flow asked g l z =
+    let t = c .table in
+    let there = opened-there t session asked (g .shaped .six) z in
+    let o = opens t session (sym (opened-code t session asked) ∙ z) in
+    record {
+      is-there = rw (there .0) (o .room);
+      of-kind = rw (there .0, there .1) refl;
+      its-record = rw (there .0, there .1) (getD-replicate flows flow fresh fresh l);
+      its-bytes = part-none (c .holding) (placeOf (find (opened t session asked .table) session) flow);
+    }

@@ -104,13 +104,13 @@ row-keeps t i row whole sound alone =
     (rows-apart t whole j k l m other)))
 
 -- Opening: the ID is open nowhere, so that the fresh row is alone with it.
-record Opens (t : Table) (id : ℕ) : Type 0 where
-  whole : broken t ≡ false
-  named : eqb id 0 ≡ false
-  absent : any (openIn t id) rows ≡ false
-  room : lowestFree t < rows
+pub record Opens (t : Table) (id : ℕ) : Type 0 where
+  pub whole : broken t ≡ false
+  pub named : eqb id 0 ≡ false
+  pub absent : any (openIn t id) rows ≡ false
+  pub room : lowestFree t < rows
 
-opens : (t : Table) (id : ℕ) → first (openRefusals t id) ≡ 0 → Opens t id
+pub opens : (t : Table) (id : ℕ) → first (openRefusals t id) ≡ 0 → Opens t id
 opens t id e =
     let passed = none-applies (openRefusals t id) refl e in
     record {
@@ -223,10 +223,10 @@ pub opened-code : (t : Table) (id : ℕ) (asked : Mode) → opened t id asked .c
 unfolding opened
 opened-code t id asked = opened-by-code (first (openRefusals t id)) t id asked
 
-abbrev afterOpen : Table → ℕ → Mode → Table
+abbrev pub afterOpen : Table → ℕ → Mode → Table
 afterOpen t id asked = withRow t (lowestFree t) (freshRow id asked)
 
-opened-table : (t : Table) (id : ℕ) (asked : Mode) → opened t id asked .code ≡ 0 → opened t id asked .table ≡ afterOpen t id asked
+pub opened-table : (t : Table) (id : ℕ) (asked : Mode) → opened t id asked .code ≡ 0 → opened t id asked .table ≡ afterOpen t id asked
 unfolding opened
 opened-table t id asked z = rw (sym (opened-by-code (first (openRefusals t id)) t id asked) ∙ z)
 
@@ -238,10 +238,10 @@ pub closed-code : (t : Table) (id : ℕ) → closed t id .code ≡ first (closeR
 unfolding closed
 closed-code t id = closed-by-code (first (closeRefusals t id)) t id
 
-abbrev afterClose : Table → ℕ → Table
+abbrev pub afterClose : Table → ℕ → Table
 afterClose t id = withRow t (find t id) closedRow
 
-closed-table : (t : Table) (id : ℕ) → closed t id .code ≡ 0 → closed t id .table ≡ afterClose t id
+pub closed-table : (t : Table) (id : ℕ) → closed t id .code ≡ 0 → closed t id .table ≡ afterClose t id
 unfolding closed
 closed-table t id z = rw (sym (closed-by-code (first (closeRefusals t id)) t id) ∙ z)
 
@@ -282,12 +282,12 @@ opened-there t id asked six z =
     rw (opened-table t id asked z) (fresh-found t id asked six o, fresh-at t id asked six o)
 
 -- A closed session can be opened again: the unbroken table had it open in one row only, and that row is free now.
-record Closes (t : Table) (id : ℕ) : Type 0 where
-  whole : broken t ≡ false
-  named : eqb id 0 ≡ false
-  there : find t id < rows
+pub record Closes (t : Table) (id : ℕ) : Type 0 where
+  pub whole : broken t ≡ false
+  pub named : eqb id 0 ≡ false
+  pub there : find t id < rows
 
-closes : (t : Table) (id : ℕ) → first (closeRefusals t id) ≡ 0 → Closes t id
+pub closes : (t : Table) (id : ℕ) → first (closeRefusals t id) ≡ 0 → Closes t id
 closes t id e =
     let passed = none-applies (closeRefusals t id) refl e in
     record {
@@ -300,7 +300,7 @@ not-both : (a b : Bool) (m n id : ℕ) → (a && eqb m id) ≡ true → (a && b 
 not-both true b m n id p q = rw (eqb-sym n id, ← eqb-true m id p) q
 not-both false b m n id p q = absurd (true≢false (sym p))
 
-only-there : (t : Table) (id : ℕ) → Closes t id → (j : ℕ) → j < rows → (j ≡ find t id → ⊥) → openIn t id j ≡ false
+pub only-there : (t : Table) (id : ℕ) → Closes t id → (j : ℕ) → j < rows → (j ≡ find t id → ⊥) → openIn t id j ≡ false
 only-there t id c j l other =
     not-both (not (isClosed (rowAt t (find t id) .kind))) (not (isClosed (rowAt t j .kind))) (rowAt t (find t id) .id) (rowAt t j .id) id
     (least-passes (openIn t id) rows (c .there)) (rows-apart t (c .whole) (find t id) j (c .there) l other)

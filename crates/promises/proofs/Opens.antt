@@ -1,0 +1,116 @@
+-- Whether an open succeeds depends only on which IDs are open, and on what it asks for. No ID is open in two rows, so that as many rows are open
+-- as IDs; and six rows have a free one exactly where fewer than six are open.
+use Prim.Native.Nat.{ℕ, zero, suc, _<_, _≤_}
+use mathlib.Core.Path.{_≡_, refl, sym, ap, _∙_}
+use mathlib.Core.Bool.{Bool, true, false, cond, not, _&&_, _||_, or-comm, or-false, or-true, true≢false}
+use mathlib.Core.Logic.{⊎-elim}
+use mathlib.Core.List.{List, [], _∷_}
+use native.Mathlib.Omega.{arith}
+use lib.Dec.{eqb, ltb, leb, leb·suc-suc}
+use lib.ListN.{length}
+use borrow.Author.Tests.{lt-ltb, le-ltb, le-leb, lt-leb}
+use Rattle.octets.specs.Count.{any, least}
+use Rattle.octets.proofs.Counts.{true-or-false, none-all, least-below, least-none}
+use Rattle.refusal.specs.Refusal.{first}
+use Rattle.table.specs.declared.Mode.{Mode}
+use Rattle.table.specs.declared.Table.{Table}
+use Rattle.table.specs.Rows.{rows, isClosed, rowAt, openIn, freeIn, lowestFree}
+use Rattle.table.specs.Broken.{broken}
+use Rattle.table.specs.Calls.{isOpen, openRefusals, opened}
+use Rattle.table.proofs.Keeping.{rows-apart, opened-code}
+use Rattle.promises.proofs.Distinct.{has, Distinct, same-length}
+
+-- The least number that passes is below the bound exactly where some number passes.
+least-found : (p : ℕ → Bool) (n : ℕ) → ltb (least p n) n ≡ any p n
+least-found p n =
+    ⊎-elim
+    (λ (a : any p n ≡ true). lt-ltb (least p n) n (least-below p n a) ∙ sym a)
+    (λ (a : any p n ≡ false). le-ltb (least p n) n (omega (arith, least-none p n a)) ∙ sym a)
+    (true-or-false (any p n))
+
+least-missed : (p : ℕ → Bool) (n : ℕ) → leb n (least p n) ≡ not (any p n)
+least-missed p n =
+    ⊎-elim
+    (λ (a : any p n ≡ true). lt-leb n (least p n) (least-below p n a) ∙ ap not (sym a))
+    (λ (a : any p n ≡ false). le-leb n (least p n) (omega (arith, least-none p n a)) ∙ ap not (sym a))
+    (true-or-false (any p n))
+
+-- the IDs of the open rows below row n, the last one first
+abbrev pub openIds : Table → ℕ → List ℕ
+openIds t zero = []
+openIds t (suc n) = cond (freeIn t n) (openIds t n) (rowAt t n .id ∷ openIds t n)
+
+-- An ID is among them exactly where it is open in one of these rows.
+ids-more : (free : Bool) (id i : ℕ) (ids : List ℕ) (before : Bool) → has i ids ≡ before →
+    has i (cond free ids (id ∷ ids)) ≡ (before || (not free && eqb id i))
+ids-more true id i ids before e = e ∙ sym (or-false before)
+ids-more false id i ids before e = ap (λ (b : Bool). eqb id i || b) e ∙ or-comm (eqb id i) before
+
+has-open : (t : Table) (i n : ℕ) → has i (openIds t n) ≡ any (openIn t i) n
+unfolding any
+has-open t i zero = refl
+has-open t i (suc n) = ids-more (freeIn t n) (rowAt t n .id) i (openIds t n) (any (openIn t i) n) (has-open t i n)
+
+pub open-has : (t : Table) (i : ℕ) → isOpen t i ≡ has i (openIds t rows)
+open-has t i = least-found (openIn t i) rows ∙ sym (has-open t i rows)
+
+-- None stands there twice.
+not-twice : (a b e : Bool) → b ≡ false → (not a && not b && e) ≡ false → (not a && e) ≡ false
+not-twice true b e live h = refl
+not-twice false true e live h = absurd (true≢false live)
+not-twice false false e live h = h
+
+new-id : (t : Table) → broken t ≡ false → (n : ℕ) → n < rows → freeIn t n ≡ false → has (rowAt t n .id) (openIds t n) ≡ false
+new-id t whole n l live =
+    has-open t (rowAt t n .id) n
+    ∙ none-all (openIn t (rowAt t n .id)) n
+    (λ j m.
+    not-twice (isClosed (rowAt t j .kind)) (isClosed (rowAt t n .kind)) (eqb (rowAt t j .id) (rowAt t n .id)) live
+    (rows-apart t whole j n (omega arith) l (λ e. omega arith)))
+
+ids-distinct : (t : Table) → broken t ≡ false → (n : ℕ) → n ≤ rows → Distinct (openIds t n)
+ids-distinct t whole zero l = tt
+ids-distinct t whole (suc n) l = pick (freeIn t n) refl (ids-distinct t whole n (omega arith))
+  where
+    pick : (free : Bool) → freeIn t n ≡ free → Distinct (openIds t n) → Distinct (cond free (openIds t n) (rowAt t n .id ∷ openIds t n))
+    pick true e below = below
+    pick false e below = (new-id t whole n (omega arith) e, below)
+
+-- There is a free row exactly where they are fewer than the rows.
+ids-few : (t : Table) (n : ℕ) → length (openIds t n) ≤ n
+ids-few t zero = omega arith
+ids-few t (suc n) = pick (freeIn t n) (ids-few t n)
+  where
+    pick : (free : Bool) → length (openIds t n) ≤ n → length (cond free (openIds t n) (rowAt t n .id ∷ openIds t n)) ≤ suc n
+    pick true few = omega arith
+    pick false few = omega arith
+
+free-count : (t : Table) (n : ℕ) → any (freeIn t) n ≡ ltb (length (openIds t n)) n
+unfolding any
+free-count t zero = refl
+free-count t (suc n) = pick (freeIn t n) (free-count t n)
+  where
+    pick : (free : Bool) → any (freeIn t) n ≡ ltb (length (openIds t n)) n →
+        (any (freeIn t) n || free) ≡ ltb (length (cond free (openIds t n) (rowAt t n .id ∷ openIds t n))) (suc n)
+    pick true below = or-true (any (freeIn t) n) ∙ sym (lt-ltb (length (openIds t n)) (suc n) (omega (arith, ids-few t n)))
+    pick false below = or-false (any (freeIn t) n) ∙ below ∙ sym (leb·suc-suc (suc (length (openIds t n))) n)
+
+full-count : (t : Table) → leb rows (lowestFree t) ≡ not (ltb (length (openIds t rows)) rows)
+full-count t = least-missed (freeIn t) rows ∙ ap not (free-count t rows)
+
+-- Two tables with the same open IDs.
+pub full-alike : (t u : Table) → broken t ≡ false → broken u ≡ false → ((id : ℕ) → isOpen t id ≡ isOpen u id) →
+    leb rows (lowestFree t) ≡ leb rows (lowestFree u)
+full-alike t u whole whole′ same =
+    let many : length (openIds t rows) ≡ length (openIds u rows) =
+    same-length (openIds t rows) (openIds u rows) (ids-distinct t whole rows (omega arith)) (ids-distinct u whole′ rows (omega arith))
+    (λ i. sym (open-has t i) ∙ same i ∙ open-has u i) in
+    full-count t ∙ ap (λ (n : ℕ). not (ltb n rows)) many ∙ sym (full-count u)
+
+pub opens-by-ids : (t u : Table) (session : ℕ) (asked : Mode) → length (t .rows) ≡ rows → length (u .rows) ≡ rows →
+    broken t ≡ false → broken u ≡ false → ((id : ℕ) → isOpen t id ≡ isOpen u id) →
+    opened t session asked .code ≡ opened u session asked .code
+opens-by-ids t u session asked six six′ whole whole′ same =
+    let order : first (openRefusals t session) ≡ first (openRefusals u session) =
+    rw (whole, whole′, same session, full-alike t u whole whole′ same) refl in
+    opened-code t session asked ∙ order ∙ sym (opened-code u session asked)

@@ -1,0 +1,69 @@
+-- A refused call changes nothing: each call goes by the number of the first refusal that applies, and where that is not 0 it gives back what
+-- it was given, with all counts 0.
+use Prim.Native.Nat.{ℕ, zero, suc}
+use mathlib.Core.Path.{_≡_, refl, ap}
+use mathlib.Core.List.{List}
+use Rattle.packet.specs.Header.{overIp}
+use Rattle.table.specs.declared.Table.{Table}
+use Rattle.table.proofs.Keeping.{refused-keeps, refused-close-keeps}
+use Rattle.card.specs.Receive.{Slices, Outcome, asSlices, refused, received}
+use Rattle.card.specs.History.{Card, Call, opens, closes, hands, answer, after}
+use Rattle.card.proofs.Accepted.{received-refused}
+use Rattle.sender.specs.Send as sender
+use Rattle.sender.proofs.Sending.{sent-refused}
+use Rattle.sender.proofs.Series.{code-is}
+use Rattle.promises.specs.Refusals.{RefusalsChangeNothing}
+
+-- The data call: a number other than 0 comes with nothing else.
+pub record Unchanged (t : Table) (s : Slices) (o : Outcome) : Type 0 where
+  pub same-table : o .answer .table ≡ t
+  pub same-slices : o .slices ≡ s
+  pub no-counts : (o .answer .frames ≡ 0) × (o .answer .bytes ≡ 0) × (o .answer .dropped ≡ 0) × (o .answer .gap ≡ 0)
+
+refused-by : (c lead : ℕ) (t : Table) (packet : List ℕ) (s : Slices) → received lead t packet s .answer .code ≡ c → (c ≡ 0 → ⊥) →
+    Unchanged t s (received lead t packet s)
+unfolding refused
+refused-by zero lead t packet s e other = absurd (other refl)
+refused-by (suc c) lead t packet s e other =
+    rw (received-refused lead t packet s c e)
+    (record { same-table = refl; same-slices = refl; no-counts = (refl, refl, refl, refl) })
+
+pub refused-unchanged : (lead : ℕ) (t : Table) (packet : List ℕ) (s : Slices) → (received lead t packet s .answer .code ≡ 0 → ⊥) →
+    Unchanged t s (received lead t packet s)
+refused-unchanged lead t packet s other = refused-by (received lead t packet s .answer .code) lead t packet s refl other
+
+-- Every call on a card.
+unchanged : (c : Card) (x : Call) → ((answer c x) .code ≡ 0 → ⊥) → after c x ≡ c
+unfolding answer after
+unchanged c (opens asked id) other = rw (refused-keeps (c .table) id asked other) refl
+unchanged c (closes id) other = rw (refused-close-keeps (c .table) id other .0) refl
+unchanged c (hands packet out lens) other =
+    let u = refused-unchanged overIp (c .table) packet (asSlices (c .holding) out lens) other in
+    rw (u .same-table, u .same-slices) refl
+
+none-counted : (c : Card) (x : Call) → ((answer c x) .code ≡ 0 → ⊥) →
+    ((answer c x) .frames ≡ 0) × ((answer c x) .bytes ≡ 0) × ((answer c x) .dropped ≡ 0) × ((answer c x) .gap ≡ 0)
+unfolding answer
+none-counted c (opens asked id) other = (refl, refl, refl, refl)
+none-counted c (closes id) other = (refl, refl, refused-close-keeps (c .table) id other .1, refl)
+none-counted c (hands packet out lens) other =
+    refused-unchanged overIp (c .table) packet (asSlices (c .holding) out lens) other .no-counts
+
+same-slices : (c : Card) (packet out lens : List ℕ) → ((answer c (hands packet out lens)) .code ≡ 0 → ⊥) →
+    ((answer c (hands packet out lens)) .output ≡ out) × ((answer c (hands packet out lens)) .lengths ≡ lens)
+unfolding answer
+same-slices c packet out lens other =
+    let u = refused-unchanged overIp (c .table) packet (asSlices (c .holding) out lens) other in
+    (ap (λ (s : Slices). s .output) (u .same-slices), ap (λ (s : Slices). s .lengths) (u .same-slices))
+
+-- The sender gives back the position and the number.
+given-back : (a : sender.Asked) → ((sender.sent a) .answer .code ≡ 0 → ⊥) →
+    ((sender.sent a) .answer .length ≡ 0) × ((sender.sent a) .answer .position ≡ a .position)
+    × ((sender.sent a) .answer .number ≡ a .number) × ((sender.sent a) .output ≡ a .output)
+unfolding sender.refused
+given-back a other =
+    rw (← sent-refused a ((sender.sent a) .answer .code) (code-is a) other) (refl, refl, refl, refl)
+
+pub refusals-change-nothing : RefusalsChangeNothing
+refusals-change-nothing =
+    record { table-and-places = unchanged; counts = none-counted; slices = same-slices; sends = given-back }

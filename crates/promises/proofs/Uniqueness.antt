@@ -1,0 +1,101 @@
+-- No call leaves its outcome open: what the definition says is permitted, and any two permitted outcomes are the same. Each crate has
+-- proved this of its own calls; here the laws stand together.
+use Prim.Native.Nat.{ℕ, _+_}
+use mathlib.Core.Path.{refl, sym, _∙_}
+use mathlib.Core.List.{List}
+use denote.Ref.{RefT}
+use Rattle.flow.specs.Flow.{fresh, judge}
+use Rattle.flow.proofs.Unique.{fresh-permitted, fresh-unique, judge-permitted, judge-unique}
+use Rattle.packet.specs.Header.{overIp}
+use Rattle.packet.specs.Check as packet
+use Rattle.packet.proofs.Unique as packet-laws
+use Rattle.table.specs.Rows.{empty}
+use Rattle.table.specs.Calls.{opened, closed}
+use Rattle.table.proofs.Unique.{empty-permitted, empty-unique, open-permitted, open-unique, close-permitted, close-unique}
+use Rattle.card.specs.Receive.{received}
+use Rattle.card.proofs.Unique.{receive-permitted, receive-unique}
+use Rattle.sender.specs.Send.{sent}
+use Rattle.sender.proofs.Unique.{send-permitted, send-unique}
+use Rattle.capture.specs.File as capture
+use Rattle.capture.proofs.Unique as capture-laws
+use Rattle.promises.specs.Unique.{SameSlice, UniqueOpen, UniqueClose, UniqueReceive, UniqueSend}
+use Rattle.promises.specs.Unique.{UniqueCheck, UniqueSegment, UniqueCapture, UniqueFlow}
+
+pub unique-open : UniqueOpen
+unique-open t id asked =
+    record { outcome = opened t id asked; permitted = open-permitted t id asked; only-one = open-unique t id asked }
+
+pub unique-close : UniqueClose
+unique-close t id = record { outcome = closed t id; permitted = close-permitted t id; only-one = close-unique t id }
+
+pub unique-receive : UniqueReceive
+unique-receive t packet s =
+    record {
+      outcome = received overIp t packet s;
+      permitted = receive-permitted t packet s;
+      only-one = receive-unique t packet s;
+    }
+
+pub unique-send : UniqueSend
+unique-send a = record { outcome = sent a; permitted = send-permitted a; only-one = send-unique a }
+
+pub unique-check : UniqueCheck
+unique-check kind bytes =
+    record {
+      outcome = packet.check overIp kind bytes;
+      permitted = packet-laws.check-permitted kind bytes;
+      only-one = packet-laws.check-unique kind bytes;
+    }
+
+-- a segment's body is the stretch of the packet that the definition says, with those bytes
+pub unique-segment : UniqueSegment
+unique-segment slice k = (
+  record {
+    outcome = record {
+      ptr = (slice .ptr .0, slice .ptr .1 + (packet.segmentExtent overIp (slice .now) k) .start);
+      name = slice .name;
+      now = packet.segmentGiven overIp (slice .now) k;
+    };
+    permitted = packet-laws.segment-permitted slice k;
+    only-one = packet-laws.segment-unique slice k;
+  },
+  record {
+    outcome = packet.segmentCause overIp (slice .now) k;
+    permitted = packet-laws.cause-permitted (slice .now) k;
+    only-one = packet-laws.cause-unique (slice .now) k;
+  },
+)
+
+-- .. and so is the body of an entry of a capture file
+module _ (file : RefT (List ℕ)) (index : ℕ) where
+  abbrev body-there : RefT (List ℕ)
+  body-there =
+      record {
+        ptr = (file .ptr .0, file .ptr .1 + capture.bodyStart capture.headLength capture.entryLength (file .now) index);
+        name = file .name;
+        now = (capture.nthEntry (file .now) index) .body;
+      }
+
+  body-permitted : capture.PermitsBody file index body-there
+  body-permitted = record { in-the-file = refl; at-its-place = refl; its-bytes = refl }
+
+  body-unique : (a b : RefT (List ℕ)) → capture.PermitsBody file index a → capture.PermitsBody file index b → SameSlice a b
+  body-unique a b p q =
+      (p .in-the-file ∙ sym (q .in-the-file), p .at-its-place ∙ sym (q .at-its-place), p .its-bytes ∙ sym (q .its-bytes))
+
+pub unique-capture : UniqueCapture
+unique-capture file index = (
+  record {
+    outcome = capture.fileRefusal (file .now);
+    permitted = capture-laws.check-permitted (file .now);
+    only-one = capture-laws.check-unique (file .now);
+  },
+  record { outcome = body-there file index; permitted = body-permitted file index; only-one = body-unique file index },
+)
+
+pub unique-flow : UniqueFlow
+unique-flow = (
+  record { outcome = fresh; permitted = fresh-permitted; only-one = fresh-unique },
+  λ f number. record { outcome = judge f number; permitted = judge-permitted f number; only-one = judge-unique f number },
+  record { outcome = empty; permitted = empty-permitted; only-one = empty-unique },
+)
