@@ -1,0 +1,145 @@
+-- Whatever is called in a history, what comes out of one PSP flow is what the flow by itself makes of its packets: each call either hands it its
+-- next packet, or leaves it as it was.
+use Prim.Native.Nat.{ℕ, _<_, _≤_}
+use mathlib.Core.Path.{_≡_, refl, sym, ap, _∙_}
+use mathlib.Core.Bool.{Bool, true, false, cond, _||_}
+use mathlib.Core.List.{List, [], _∷_, _++_}
+use native.Mathlib.Omega.{arith}
+use lib.Dec.{eqb, ltb}
+use lib.ListN.{length}
+use borrow.Author.Tests.{le-ltb}
+use Rattle.refusal.specs.Refusal.{first}
+use Rattle.refusal.proofs.Laws.{none-applies, none-first, none-apart}
+use Rattle.octets.specs.Stretch.{cutBy}
+use Rattle.octets.specs.Each.{Each}
+use Rattle.octets.proofs.Stretches.{part-none}
+use Rattle.flow.specs.declared.Flow.{Flow}
+use Rattle.flow.specs.Flow.{flows}
+use Rattle.packet.specs.Header.{overIp, sub, beforeSession}
+use Rattle.packet.specs.Segments.{entryWidth}
+use Rattle.packet.specs.Psp.{pspRefusals}
+use Rattle.packet.specs.Check.{kindPsp, checkRefusals, check}
+use Rattle.table.specs.declared.Kind.the-variants as kind
+use Rattle.card.specs.Hear.{judgedOf, recordAfter}
+use Rattle.card.specs.Receive.{holdingSize, mostFrames, mostBytes, asSlices, tooSmall, framesFound}
+use Rattle.card.specs.History.{Card, Call, opens, closes, hands, framesOf, answer, after}
+use Rattle.promises.specs.Words.{ofFlow, handsTo, closesIt, packetsTo, framesOut, Room, StaysOpen}
+use Rattle.promises.specs.Refusals.{RefusalsChangeNothing}
+use Rattle.promises.proofs.Alone.{heardAlone, framesAlone}
+use Rattle.promises.proofs.Good.{Good, good-after, holding-kept, refused-stays}
+use Rattle.promises.proofs.Refusals.{refusals-change-nothing}
+use Rattle.promises.proofs.Steps.{Stands, stands-stay, stands-heard, hands-code}
+
+-- the two stretches of the PSP check
+psp-check : (packet : List ℕ) → check overIp kindPsp packet ≡ 0 → (first (beforeSession overIp packet) ≡ 0) × (first (pspRefusals entryWidth (sub overIp packet)) ≡ 0)
+unfolding check checkRefusals
+psp-check packet z =
+    let n = none-applies (checkRefusals overIp kindPsp packet) refl z in
+    let both = none-apart (beforeSession overIp packet) (pspRefusals entryWidth (sub overIp packet)) (n .1) in
+    (none-first (beforeSession overIp packet) (both .0), none-first (pspRefusals entryWidth (sub overIp packet)) (both .1))
+
+enough : (holding out lens : List ℕ) → holdingSize ≤ length holding → mostBytes ≤ length out → mostFrames ≤ length lens → tooSmall (asSlices holding out lens) ≡ false
+enough holding out lens h o l =
+    rw (le-ltb (length holding) holdingSize h, le-ltb (length out) mostBytes o, le-ltb (length lens) mostFrames l) refl
+
+-- no frames are found where the answer counts none
+none-found : (a : ℕ) (lens output : List ℕ) → a ≡ 0 → framesFound a lens output ≡ []
+unfolding cutBy
+none-found a lens output e = rw (e, part-none lens 0) refl
+
+module _ (session flow : ℕ) (inside : flow < flows) where
+  -- what is known of a card in the middle of such a history
+  record Hears (c : Card) (f : Flow) (held : List ℕ) : Type 0 where
+    good : Good c
+    large : holdingSize ≤ length (c .holding)
+    stands : Stands c session flow kind.Psp f held
+
+  -- a call for others leaves it so
+  stays : (c : Card) (x : Call) (f : Flow) (held : List ℕ) → Hears c f held → handsTo session flow x ≡ false → closesIt session x ≡ false → Hears (after c x) f held
+  stays c x f held h other live =
+      record {
+        good = good-after c x (h .good);
+        large = omega (arith, h .large, holding-kept c x (h .good));
+        stands = stands-stay c x session flow kind.Psp f held (h .good) inside (h .stands) other live;
+      }
+
+  -- its own packet: late, and passed over; or heard
+  module _ (c : Card) (packet out lens : List ℕ) (f : Flow) (held : List ℕ) (h : Hears c f held) (of-it : ofFlow session flow packet ≡ true)
+      (room : Room (hands packet out lens)) (passes : check overIp kindPsp packet ≡ 0) where
+    abbrev x : Call
+    x = hands packet out lens
+
+    its-code : (answer c x) .code ≡ cond ((judgedOf f (sub overIp packet)) .late) 12 0
+    its-code =
+        let p = psp-check packet passes in
+        hands-code c packet out lens session flow kind.Psp f held (h .good) (h .stands) of-it (enough (c .holding) out lens (h .large) (room .0) (room .1)) (p .0) (p .1)
+
+    late-frames : (judgedOf f (sub overIp packet)) .late ≡ true → (after c x ≡ c) × (framesOf (answer c x) ≡ [])
+    late-frames late =
+        let refused : ((answer c x) .code ≡ 0 → ⊥) = λ z. twelve (sym z ∙ its-code ∙ ap (λ (b : Bool). cond b 12 0) late) in
+        (refused-stays c x refused, none-found ((answer c x) .frames) ((answer c x) .lengths) ((answer c x) .output) (refusals-change-nothing .counts c x refused .0))
+      where
+        twelve : _≡_ {A = ℕ} 0 12 → ⊥
+        twelve e = omega arith
+
+    on-time : (judgedOf f (sub overIp packet)) .late ≡ false →
+        Hears (after c x) (recordAfter (heardAlone f held packet)) ((heardAlone f held packet) .fate .held)
+        × (framesOf (answer c x) ≡ (heardAlone f held packet) .fate .delivered)
+    on-time in-time =
+        let heard = stands-heard c packet out lens session flow kind.Psp f held (h .good) inside (h .stands) of-it (its-code ∙ ap (λ (b : Bool). cond b 12 0) in-time) in (
+          record {
+            good = good-after c x (h .good);
+            large = omega (arith, h .large, holding-kept c x (h .good));
+            stands = heard .0;
+          },
+          heard .1,
+        )
+
+  abbrev Goes : List Call → Type 0
+  Goes calls = (c : Card) (f : Flow) (held : List ℕ) → Hears c f held → framesOut session flow c calls ≡ framesAlone f held (packetsTo session flow calls)
+
+  hands-goes : (packet out lens : List ℕ) (more : List Call) → (handsTo session flow (hands packet out lens) ≡ true → Room (hands packet out lens)) →
+      Goes more → (t : Bool) → ofFlow session flow packet ≡ t → Each (λ p. check overIp kindPsp p ≡ 0) (cond t (packet ∷ packetsTo session flow more) (packetsTo session flow more)) →
+      (c : Card) (f : Flow) (held : List ℕ) → Hears c f held →
+      cond t (framesOf (answer c (hands packet out lens))) [] ++ framesOut session flow (after c (hands packet out lens)) more
+      ≡ framesAlone f held (cond t (packet ∷ packetsTo session flow more) (packetsTo session flow more))
+  unfolding framesAlone
+  hands-goes packet out lens more room goes false e passing c f held h =
+      goes (after c (hands packet out lens)) f held (stays c (hands packet out lens) f held h e refl)
+  hands-goes packet out lens more room goes true e passing c f held h = judged ((judgedOf f (sub overIp packet)) .late) refl
+    where
+      judged : (late : Bool) → (judgedOf f (sub overIp packet)) .late ≡ late →
+          framesOf (answer c (hands packet out lens)) ++ framesOut session flow (after c (hands packet out lens)) more
+          ≡ cond late (framesAlone f held (packetsTo session flow more))
+          ((heardAlone f held packet) .fate .delivered ++ framesAlone (recordAfter (heardAlone f held packet)) ((heardAlone f held packet) .fate .held) (packetsTo session flow more))
+      judged true late =
+          let none = late-frames c packet out lens f held h e (room e) (passing .0) late in
+          rw (none .0, none .1) (goes c f held h)
+      judged false late =
+          let heard = on-time c packet out lens f held h e (room e) (passing .0) late in
+          rw (heard .1) (ap (λ (l : List (List ℕ)). (heardAlone f held packet) .fate .delivered ++ l) (goes (after c (hands packet out lens)) (recordAfter (heardAlone f held packet)) ((heardAlone f held packet) .fate .held) (heard .0)))
+
+  goes-all : (calls : List Call) → StaysOpen session calls → Each (λ x. handsTo session flow x ≡ true → Room x) calls →
+      Each (λ p. check overIp kindPsp p ≡ 0) (packetsTo session flow calls) → Goes calls
+  unfolding framesOut packetsTo framesAlone
+  goes-all [] live room passing c f held h = refl
+  goes-all (opens asked id ∷ more) live room passing c f held h =
+      goes-all more (live .1) (room .1) passing (after c (opens asked id)) f held (stays c (opens asked id) f held h refl refl)
+  goes-all (closes id ∷ more) live room passing c f held h =
+      goes-all more (live .1) (room .1) passing (after c (closes id)) f held (stays c (closes id) f held h refl (live .0))
+  goes-all (hands packet out lens ∷ more) live room passing c f held h =
+      hands-goes packet out lens more (room .0) (λ c′ f′ held′ h′. goes-all more (live .1) (room .1) (rest-passing (ofFlow session flow packet) passing) c′ f′ held′ h′)
+      (ofFlow session flow packet) refl passing c f held h
+    where
+      rest-passing : (t : Bool) → Each (λ p. check overIp kindPsp p ≡ 0) (cond t (packet ∷ packetsTo session flow more) (packetsTo session flow more)) →
+          Each (λ p. check overIp kindPsp p ≡ 0) (packetsTo session flow more)
+      rest-passing true p = p .1
+      rest-passing false p = p
+
+-- The whole history.
+pub history-frames : (session flow : ℕ) (c : Card) (calls : List Call) (f : Flow) (held : List ℕ) → flow < flows → Good c → holdingSize ≤ length (c .holding) →
+    Stands c session flow kind.Psp f held → StaysOpen session calls → Each (λ x. handsTo session flow x ≡ true → Room x) calls →
+    Each (λ p. check overIp kindPsp p ≡ 0) (packetsTo session flow calls) →
+    framesOut session flow c calls ≡ framesAlone f held (packetsTo session flow calls)
+history-frames session flow c calls f held inside good large stands live room passing =
+    goes-all session flow inside calls live room passing c f held (record { good = good; large = large; stands = stands })
