@@ -7,8 +7,8 @@ use mathlib.Core.Bool.{false}
 use mathlib.Core.List.{List}
 use lib.ListN.{length}
 use Rattle.octets.specs.Each.{Each}
-use Rattle.flow.specs.Flow.{longest, half}
-use Rattle.table.specs.Rows.{empty}
+use Rattle.flow.specs.Flow.{longest, half, flows}
+use Rattle.table.specs.Rows.{rows, rowAt, empty}
 use Rattle.table.specs.Broken.{broken}
 use Rattle.card.specs.Receive.{mostFrames, mostBytes}
 use Rattle.card.specs.History.{Card, Call, framesOf, answer}
@@ -24,6 +24,8 @@ pub record InLimits (c : Card) (x : Call) : Type 0 where
 abbrev pub WithinLimits : Type 0
 WithinLimits = (c : Card) (x : Call) → InLimits c x
 
--- `never-broken`
-abbrev pub NeverBroken : Type 0
-NeverBroken = (calls : List Lent) → broken (tableAfterAll empty calls) ≡ false
+-- `never-broken`: nor does the table gain or lose a row, or a row a flow
+pub record NeverBroken : Type 0 where
+  pub unbroken : (calls : List Lent) → broken (tableAfterAll empty calls) ≡ false
+  pub six-rows : (calls : List Lent) → length ((tableAfterAll empty calls) .rows) ≡ rows
+  pub four-flows : (calls : List Lent) (i : ℕ) → i < rows → length (rowAt (tableAfterAll empty calls) i .flows) ≡ flows

@@ -1,0 +1,164 @@
+-- A small closed instance beside each large theorem: its premises are met, and its conclusion is computed. It cites definitions alone and no law, so
+-- it can also be held against wrong definitions: what comes out of them is seen here.
+use Prim.Native.Nat.{ℕ, zero, suc, _<_, _≤_}
+use mathlib.Core.Path.{_≡_, refl, sym}
+use mathlib.Core.Bool.{Bool, true, false, true≢false}
+use mathlib.Core.List.{List, [], _∷_, _++_, map, Sublistᴰ, Sublistᴰ·slnil, Sublistᴰ·cons, Sublistᴰ·cons-cons}
+use native.Mathlib.Omega.{arith}
+use lib.ListN.{length, getD, replicate, length-replicate}
+use Rattle.octets.specs.Stretch.{part, rest, put, joined, lengths, cutBy}
+use Rattle.octets.specs.Count.{any, least, sumTo, upTo}
+use Rattle.flow.specs.Numbers.{ahead, next, numberAt}
+use Rattle.packet.specs.Segments.{bodyAt, segmentAt, segments}
+use Rattle.packet.specs.Psp.{wanted}
+use Rattle.packet.specs.Dmpt.{mpegAt, mpegs}
+use Rattle.packet.specs.Check.{checkRefusals, check}
+use Rattle.packet.specs.Header.{overIp, sub, number}
+use Rattle.table.specs.declared.Mode.the-variants as mode
+use Rattle.table.specs.Broken.{broken}
+use Rattle.table.specs.Calls.{isOpen, opened, closed}
+use Rattle.card.specs.Join.{settledBy, settled, fateBy, fate, atGap, mpegFate, inOrder}
+use Rattle.card.specs.Hear.{pspFate, dmptFate, hear}
+use Rattle.card.specs.Receive.{carriedOut, refused, receivedBy, received}
+use Rattle.card.specs.History.{Card, Call, opens, closes, hands, answer, after, afterAll, emptyCard}
+use Rattle.sender.specs.Rules.{Pieces, wholeFrame, begunFrame, inTurn, allSegments, KeepsRules}
+use Rattle.promises.specs.Words.{packetsTo, framesOut, LongEnough}
+use Rattle.promises.specs.Arrivals.{InTime, inTime, placesFrom, carriers}
+use Rattle.promises.specs.Demand.{Sending, Run, WholeIn, comesOut, Rising}
+
+-- Demand 3. Four frames, cut into pieces: the first is cut in two, the third too, and a fifth is begun. They go in four packets that are numbered
+-- from 0xFFFE on, so that the third has number 0.
+abbrev pub frames : List Pieces
+frames =
+    ((0x11 ∷ 0x12 ∷ []) ∷ (0x13 ∷ []) ∷ [])
+    ∷ ((0x21 ∷ []) ∷ [])
+    ∷ ((0x31 ∷ []) ∷ (0x32 ∷ 0x33 ∷ []) ∷ [])
+    ∷ ((0x41 ∷ 0x42 ∷ []) ∷ [])
+    ∷ []
+
+-- a packet of session 0x101, or 0x102, flow 1 or 2, from byte 4 on
+abbrev pub to-101 : List ℕ → List ℕ
+to-101 behind = 0x00 ∷ 0x00 ∷ 0x01 ∷ 0x01 ∷ behind
+
+abbrev pub to-102 : List ℕ → List ℕ
+to-102 behind = 0x00 ∷ 0x00 ∷ 0x01 ∷ 0x02 ∷ behind
+
+abbrev pub packet0 : List ℕ
+packet0 = to-101 (0x41 ∷ 0x01 ∷ 0xFF ∷ 0xFE ∷ 0x80 ∷ 0x02 ∷ 0x11 ∷ 0x12 ∷ [])
+
+abbrev pub packet1 : List ℕ
+packet1 = to-101 (0x41 ∷ 0x03 ∷ 0xFF ∷ 0xFF ∷ 0x40 ∷ 0x01 ∷ 0xC0 ∷ 0x01 ∷ 0x80 ∷ 0x01 ∷ 0x13 ∷ 0x21 ∷ 0x31 ∷ [])
+
+abbrev pub packet2 : List ℕ
+packet2 = to-101 (0x41 ∷ 0x01 ∷ 0x00 ∷ 0x00 ∷ 0x40 ∷ 0x02 ∷ 0x32 ∷ 0x33 ∷ [])
+
+abbrev pub packet3 : List ℕ
+packet3 = to-101 (0x41 ∷ 0x02 ∷ 0x00 ∷ 0x01 ∷ 0xC0 ∷ 0x02 ∷ 0x80 ∷ 0x01 ∷ 0x41 ∷ 0x42 ∷ 0x51 ∷ [])
+
+abbrev pub packets : List (List ℕ)
+packets = packet0 ∷ packet1 ∷ packet2 ∷ packet3 ∷ []
+
+pub keeps : KeepsRules 0x101 1 0xFFFE frames ((0x51 ∷ []) ∷ []) packets
+unfolding part rest joined any sumTo upTo bodyAt segmentAt segments wanted check checkRefusals numberAt wholeFrame begunFrame inTurn allSegments
+keeps =
+    record {
+      sizes = ((omega arith, omega arith), ((omega arith, omega arith), ((omega arith, omega arith), ((omega arith, omega arith), tt))));
+      passing = (refl, (refl, (refl, (refl, tt))));
+      addressed = ((refl, refl), ((refl, refl), ((refl, refl), ((refl, refl), tt))));
+      numbered = counts;
+      in-order = refl;
+    }
+  where
+    counts : (i : ℕ) → i < 4 → number (sub overIp (getD packets i [])) ≡ numberAt 0xFFFE i
+    counts zero l = refl
+    counts (suc zero) l = refl
+    counts (suc (suc zero)) l = refl
+    counts (suc (suc (suc zero))) l = refl
+    counts (suc (suc (suc (suc i)))) l = absurd (omega arith)
+
+abbrev pub sending : Sending
+sending =
+    record {
+      session = 0x101;
+      flow = 1;
+      start = 0xFFFE;
+      frames = frames;
+      unfinished = (0x51 ∷ []) ∷ [];
+      packets = packets;
+      keeps-rules = keeps;
+    }
+
+-- One run: the fourth packet overtakes the third, which then comes late, and comes again itself. Between them other calls: session 0x102 is open
+-- before, holds half a frame in its own flow 1 and is closed; an open of 0x101 is refused; a scrap of five bytes is refused; flow 2 of 0x101 begins
+-- a frame of its own.
+abbrev pub hand : List ℕ → Call
+hand packet = hands packet (replicate 6144 0) (replicate 127 0)
+
+abbrev pub others-half : List ℕ
+others-half = to-102 (0x41 ∷ 0x01 ∷ 0x12 ∷ 0x34 ∷ 0x80 ∷ 0x03 ∷ 0x61 ∷ 0x62 ∷ 0x63 ∷ [])
+
+abbrev pub flow-2-half : List ℕ
+flow-2-half = to-101 (0x42 ∷ 0x01 ∷ 0x00 ∷ 0x07 ∷ 0x80 ∷ 0x02 ∷ 0x71 ∷ 0x72 ∷ [])
+
+abbrev pub overtaken-calls : List Call
+overtaken-calls =
+    hand packet0
+    ∷ hand others-half
+    ∷ hand packet1
+    ∷ closes 0x102
+    ∷ opens mode.Dmpt 0x101
+    ∷ hands (to-101 (0x41 ∷ [])) [] []
+    ∷ hand flow-2-half
+    ∷ hand packet3
+    ∷ hand packet2
+    ∷ hand packet3
+    ∷ []
+
+pub long-slices : (mine : Bool) → mine ≡ true → (6144 ≤ length {A = ℕ} (replicate 6144 0)) × (127 ≤ length {A = ℕ} (replicate 127 0))
+long-slices mine e = (omega (arith, length-replicate {A = ℕ} 6144 0), omega (arith, length-replicate {A = ℕ} 127 0))
+
+abbrev pub before : List Call
+before = opens mode.Psp 0x102 ∷ hand others-half ∷ []
+
+pub opens-101 : (answer (afterAll (emptyCard (replicate 49152 0)) before) (opens mode.Psp 0x101)) .code ≡ 0
+unfolding part rest put joined lengths any least sumTo upTo ahead next bodyAt segmentAt segments wanted broken opened settledBy settled fateBy fate atGap inOrder pspFate hear carriedOut refused receivedBy received answer after afterAll
+opens-101 = refl
+
+pub overtaken-long : LongEnough 0x101 1 (replicate 49152 0) overtaken-calls
+unfolding rest
+overtaken-long = (
+  omega (arith, length-replicate {A = ℕ} 49152 0),
+  (long-slices true, (long-slices false, (long-slices true, ((λ e. tt), ((λ e. tt), ((λ e. absurd (true≢false (sym e))), (long-slices false, (long-slices true, (long-slices true, (long-slices true, tt)))))))))),
+)
+
+pub overtaken-only : packetsTo 0x101 1 overtaken-calls ≡ map (λ x. getD packets x []) (0 ∷ 1 ∷ 3 ∷ 2 ∷ 3 ∷ [])
+unfolding rest packetsTo
+overtaken-only = refl
+
+abbrev pub overtaken : Run sending
+overtaken =
+    record {
+      holding = replicate 49152 0;
+      before = before;
+      calls = overtaken-calls;
+      arrivals = 0 ∷ 1 ∷ 3 ∷ 2 ∷ 3 ∷ [];
+      opens-now = opens-101;
+      stays-open = (refl, (refl, (refl, (refl, (refl, (refl, (refl, (refl, (refl, (refl, tt))))))))));
+      long-enough = overtaken-long;
+      only-these = overtaken-only;
+      were-sent = (omega arith, (omega arith, (omega arith, (omega arith, (omega arith, tt)))));
+      in-window = (omega arith, omega arith, (omega arith, omega arith, (omega arith, omega arith, (omega arith, omega arith, tt))));
+    }
+
+-- The first, second and fourth frame come out, as they were; the third does not, for its second packet came after a later one.
+pub demand-3-instance : comesOut sending overtaken ≡ (0x11 ∷ 0x12 ∷ 0x13 ∷ []) ∷ (0x21 ∷ []) ∷ (0x41 ∷ 0x42 ∷ []) ∷ []
+unfolding part rest put joined lengths cutBy any least sumTo upTo ahead next bodyAt segmentAt segments wanted broken opened closed settledBy settled fateBy fate atGap inOrder pspFate hear carriedOut refused receivedBy received answer after afterAll framesOut
+demand-3-instance = refl
+
+pub their-packets : (carriers frames packets 0 ≡ 0 ∷ 1 ∷ []) × (carriers frames packets 1 ≡ 1 ∷ []) × (carriers frames packets 2 ≡ 1 ∷ 2 ∷ []) × (carriers frames packets 3 ≡ 3 ∷ [])
+unfolding part rest sumTo upTo bodyAt segmentAt segments placesFrom carriers
+their-packets = (refl, refl, refl, refl)
+
+pub in-time : (inTime (overtaken .arrivals) 0 ≡ true) × (inTime (overtaken .arrivals) 1 ≡ true) × (inTime (overtaken .arrivals) 2 ≡ false) × (inTime (overtaken .arrivals) 3 ≡ true)
+unfolding inTime
+in-time = (refl, refl, refl, refl)

@@ -1,0 +1,40 @@
+-- Demand 3 for one flow by itself: what comes out of a fresh flow that hears a sender's packets, as the network brings them, is the frames whose
+-- every packet arrived before any packet sent after it. In steps: the arrivals are a walk along the sender's packets, that is one along their
+-- segments, and of these the whole frames survive.
+use Prim.Native.Nat.{ℕ, _≤_, _<_}
+use mathlib.Core.Path.{_≡_, ap, _∙_}
+use mathlib.Core.Bool.{true}
+use mathlib.Core.List.{List, [], _++_, map}
+use native.Mathlib.Omega.{arith}
+use lib.ListN.{length, getD}
+use Rattle.octets.specs.Each.{Each}
+use Rattle.flow.specs.Flow.{fresh}
+use Rattle.sender.specs.Rules.{Pieces, inTurn, begunFrame, KeepsRules}
+use Rattle.promises.specs.Arrivals.{Window, Whole, Kept, inTime, placesFrom}
+use Rattle.promises.proofs.Alone.{framesAlone}
+use Rattle.promises.proofs.Passed.{all-some, pieces-filled, judged-by-place}
+use Rattle.promises.proofs.Walk.{walk, survivors}
+use Rattle.promises.proofs.Frames.{frames-survive}
+use Rattle.promises.proofs.Arrivals.{window-along}
+use Rattle.promises.proofs.Places.{along-segments, places-length}
+use Rattle.promises.proofs.Survivors.{survivors-kept}
+
+module _ (session flow start : ℕ) (frames : List Pieces) (unfinished : Pieces) (packets : List (List ℕ)) (arrivals : List ℕ)
+    (rules : KeepsRules session flow start frames unfinished packets) where
+  places-enough : length (inTurn frames ++ begunFrame true unfinished) ≤ length (placesFrom 0 packets)
+  places-enough = omega (arith, places-length 0 packets, ap length (rules .in-order))
+
+  flow-survivors : Each (λ x. x < length packets) arrivals → Window arrivals →
+      framesAlone fresh [] (map (λ x. getD packets x []) arrivals) ≡ survivors (inTime arrivals) frames (placesFrom 0 packets)
+  flow-survivors sent window =
+      window-along start packets (judged-by-place session flow start frames unfinished packets rules) arrivals sent window
+      ∙ along-segments (inTime arrivals) 0 [] packets (all-some packets (rules .passing))
+      ∙ ap (walk (inTime arrivals) [] (placesFrom 0 packets)) (rules .in-order)
+      ∙ frames-survive (inTime arrivals) frames unfinished (placesFrom 0 packets) (rules .sizes)
+      (pieces-filled session flow start frames unfinished packets rules) places-enough
+
+pub flow-demand : (session flow start : ℕ) (frames : List Pieces) (unfinished : Pieces) (packets : List (List ℕ)) (arrivals : List ℕ) →
+    KeepsRules session flow start frames unfinished packets → Each (λ x. x < length packets) arrivals → Window arrivals →
+    Kept (Whole arrivals frames packets) 0 frames (framesAlone fresh [] (map (λ x. getD packets x []) arrivals))
+flow-demand session flow start frames unfinished packets arrivals rules sent window =
+    rw (flow-survivors session flow start frames unfinished packets arrivals rules sent window) (survivors-kept arrivals frames packets)

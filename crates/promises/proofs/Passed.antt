@@ -1,0 +1,114 @@
+-- What a sender's packets have because each passes the PSP check: some segment, none of them empty, and a number that counts. So no piece
+-- of a frame is empty either.
+use Prim.Native.Nat.{ℕ, zero, suc, _≤_, _<_}
+use mathlib.Core.Path.{_≡_, refl, ap, _∙_, subst}
+use mathlib.Core.Bool.{Bool, true, false}
+use mathlib.Core.List.{List, [], _∷_, _++_}
+use native.Mathlib.Omega.{arith}
+use native.Mathlib.Nat.{not-suc-le-zero}
+use lib.ListN.{length, getD}
+use Rattle.octets.specs.Count.{upTo}
+use Rattle.octets.specs.Each.{Each}
+use Rattle.octets.proofs.Counts.{length-up-to}
+use Rattle.octets.proofs.Stretches.{length-part}
+use Rattle.flow.specs.declared.Flow.{Flow}
+use Rattle.flow.specs.Numbers.{numberAt}
+use Rattle.flow.specs.Flow.{judge}
+use Rattle.packet.specs.Header.{overIp, sub, segmentCount, number}
+use Rattle.packet.specs.Segments.{Segment, entryWidth, lengthAt, bodyAt, segmentAt, segments}
+use Rattle.packet.specs.Check.{kindPsp, check}
+use Rattle.packet.proofs.Passing.{PspPassed, check-passed, body-inside, body-some}
+use Rattle.card.specs.Hear.{judgedBy, judgedOf}
+use Rattle.sender.specs.Rules.{Pieces, segmentsOf, allSegments, wholeFrame, begunFrame, inTurn, KeepsRules}
+use Rattle.sender.proofs.Frames.{Filled}
+
+-- Something that holds of each element of two lists holds of each of both together, and the other way; and of an element by its place.
+module _ {A : Type 0} (P : A → Type 0) where
+  pub each-both : (a b : List A) → Each P a → Each P b → Each P (a ++ b)
+  each-both [] b p q = q
+  each-both (x ∷ a) b p q = (p .0, each-both a b (p .1) q)
+
+  pub each-front : (a b : List A) → Each P (a ++ b) → Each P a
+  each-front [] b p = tt
+  each-front (x ∷ a) b p = (p .0, each-front a b (p .1))
+
+  pub each-back : (a b : List A) → Each P (a ++ b) → Each P b
+  each-back [] b p = p
+  each-back (x ∷ a) b p = each-back a b (p .1)
+
+  pub each-at : (a : List A) (i : ℕ) (d : A) → Each P a → i < length a → P (getD a i d)
+  each-at [] i d p l = absurd (not-suc-le-zero l)
+  each-at (x ∷ a) zero d p l = p .0
+  each-at (x ∷ a) (suc i) d p l = each-at a i d (p .1) (omega arith)
+
+  pub each-up-to : (f : ℕ → A) (n : ℕ) → ((k : ℕ) → k < n → P (f k)) → Each P (upTo f n)
+  unfolding upTo
+  each-up-to f zero p = tt
+  each-up-to f (suc n) p = each-both (upTo f n) (f n ∷ []) (each-up-to f n (λ k l. p k (omega arith))) (p n (omega arith), tt)
+
+abbrev pub HasBytes : Segment → Type 0
+HasBytes s = Filled (s .body)
+
+above-none : (n : ℕ) → (n ≡ 0 → ⊥) → 1 ≤ n
+above-none zero f = absurd (f refl)
+above-none (suc n) f = omega arith
+
+module _ (packet : List ℕ) (passes : check overIp kindPsp packet ≡ 0) where
+  passed : PspPassed entryWidth (sub overIp packet)
+  passed = (check-passed overIp packet passes) .1
+
+  pub some-segment : 1 ≤ length (segmentsOf packet)
+  unfolding segments
+  some-segment =
+      rw (length-up-to (segmentAt entryWidth (sub overIp packet)) (segmentCount (sub overIp packet)))
+      (above-none (segmentCount (sub overIp packet)) (passed .some))
+
+  body-filled : (k : ℕ) → k < segmentCount (sub overIp packet) → HasBytes (segmentAt entryWidth (sub overIp packet) k)
+  unfolding segmentAt
+  body-filled k l =
+      rw (length-part (sub overIp packet) (bodyAt entryWidth (sub overIp packet) k) (lengthAt entryWidth (sub overIp packet) k) (body-inside entryWidth (sub overIp packet) passed k l))
+      (above-none (lengthAt entryWidth (sub overIp packet) k) (body-some entryWidth (sub overIp packet) passed k l))
+
+  segments-filled : Each HasBytes (segmentsOf packet)
+  unfolding segments
+  segments-filled = each-up-to HasBytes (segmentAt entryWidth (sub overIp packet)) (segmentCount (sub overIp packet)) body-filled
+
+  pub its-number-counts : (f : Flow) → judgedOf f (sub overIp packet) ≡ judge f (number (sub overIp packet))
+  its-number-counts f = ap (λ (s : Bool). judgedBy s f (number (sub overIp packet))) (passed .counted)
+
+all-filled : (packets : List (List ℕ)) → Each (λ p. check overIp kindPsp p ≡ 0) packets → Each HasBytes (allSegments packets)
+unfolding allSegments
+all-filled [] passing = tt
+all-filled (p ∷ packets) passing = each-both HasBytes (segmentsOf p) (allSegments packets) (segments-filled p (passing .0)) (all-filled packets (passing .1))
+
+pub all-some : (packets : List (List ℕ)) → Each (λ p. check overIp kindPsp p ≡ 0) packets → Each (λ p. 1 ≤ length (segmentsOf p)) packets
+all-some [] passing = tt
+all-some (p ∷ packets) passing = (some-segment p (passing .0), all-some packets (passing .1))
+
+frame-filled : (first : Bool) (f : Pieces) → Each HasBytes (wholeFrame first f) → Each Filled f
+unfolding wholeFrame
+frame-filled first [] filled = tt
+frame-filled first (p ∷ []) filled = (filled .0, tt)
+frame-filled first (p ∷ q ∷ more) filled = (filled .0, frame-filled false (q ∷ more) (filled .1))
+
+frames-filled : (fs : List Pieces) → Each HasBytes (inTurn fs) → Each (Each Filled) fs
+unfolding inTurn
+frames-filled [] filled = tt
+frames-filled (f ∷ fs) filled = (
+  frame-filled true f (each-front HasBytes (wholeFrame true f) (inTurn fs) filled),
+  frames-filled fs (each-back HasBytes (wholeFrame true f) (inTurn fs) filled),
+)
+
+module _ (session flow start : ℕ) (frames : List Pieces) (unfinished : Pieces) (packets : List (List ℕ)) (rules : KeepsRules session flow start frames unfinished packets) where
+  -- no piece of a frame is empty
+  pub pieces-filled : Each (Each Filled) frames
+  pieces-filled =
+      frames-filled frames
+      (each-front HasBytes (inTurn frames) (begunFrame true unfinished)
+      (subst (Each HasBytes) (rules .in-order) (all-filled packets (rules .passing))))
+
+  -- the packet at place x is judged by the number of its place
+  pub judged-by-place : (f : Flow) (x : ℕ) → x < length packets → judgedOf f (sub overIp (getD packets x [])) ≡ judge f (numberAt start x)
+  judged-by-place f x l =
+      its-number-counts (getD packets x []) (each-at (λ p. check overIp kindPsp p ≡ 0) packets x [] (rules .passing) l) f
+      ∙ ap (judge f) (rules .numbered x l)

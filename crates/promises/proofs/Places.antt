@@ -1,0 +1,56 @@
+-- The walk along packets is the walk along their segments, each with the place of its packet. A packet has a segment, so what is held is lost
+-- with a missing packet just as with its missing segments.
+use Prim.Native.Nat.{ℕ, suc, _≤_}
+use mathlib.Core.Path.{_≡_, refl, sym, ap, _∙_}
+use mathlib.Core.Bool.{Bool, true, false}
+use mathlib.Core.List.{List, [], _∷_, _++_, append-assoc}
+use native.Mathlib.Omega.{arith}
+use lib.ListN.{length, replicate, length-append, length-replicate}
+use Rattle.octets.specs.Each.{Each}
+use Rattle.flow.specs.Flow.{longest}
+use Rattle.packet.specs.Segments.{Segment}
+use Rattle.card.specs.Join.{fate}
+use Rattle.sender.specs.Rules.{segmentsOf, allSegments}
+use Rattle.promises.specs.Arrivals.{placesFrom}
+use Rattle.promises.proofs.Given.{given, left}
+use Rattle.promises.proofs.Walk.{walk}
+use Rattle.promises.proofs.Arrivals.{gives, leaves, along}
+
+-- the segments of one packet, which stand at place n
+module _ (came : ℕ → Bool) (n : ℕ) where
+  all-came : came n ≡ true → (held : List ℕ) (segs : List Segment) (ks : List ℕ) (ss : List Segment) →
+      walk came held (replicate (length segs) n ++ ks) (segs ++ ss) ≡ given held segs ++ walk came (left held segs) ks ss
+  all-came e held [] ks ss = refl
+  all-came e held (s ∷ segs) ks ss = rw (e, all-came e ((fate longest held s) .held) segs ks ss, append-assoc)
+
+  all-missing : came n ≡ false → (segs : List Segment) (ks : List ℕ) (ss : List Segment) →
+      walk came [] (replicate (length segs) n ++ ks) (segs ++ ss) ≡ walk came [] ks ss
+  all-missing e [] ks ss = refl
+  all-missing e (s ∷ segs) ks ss = rw e (all-missing e segs ks ss)
+
+  one-packet : (t : Bool) → came n ≡ t → (held : List ℕ) (segs : List Segment) (ks : List ℕ) (ss : List Segment) → 1 ≤ length segs →
+      walk came held (replicate (length segs) n ++ ks) (segs ++ ss) ≡ gives t held segs ++ walk came (leaves t held segs) ks ss
+  one-packet true e held segs ks ss some = all-came e held segs ks ss
+  one-packet false e held [] ks ss some = absurd (omega arith)
+  one-packet false e held (s ∷ segs) ks ss some = rw e (all-missing e segs ks ss)
+
+pub along-segments : (came : ℕ → Bool) (n : ℕ) (held : List ℕ) (packets : List (List ℕ)) → Each (λ p. 1 ≤ length (segmentsOf p)) packets →
+    along came n held packets ≡ walk came held (placesFrom n packets) (allSegments packets)
+unfolding placesFrom allSegments
+along-segments came n held [] some = refl
+along-segments came n held (p ∷ packets) some =
+    ap (λ r. gives (came n) held (segmentsOf p) ++ r) (along-segments came (suc n) (leaves (came n) held (segmentsOf p)) packets (some .1))
+    ∙ sym (one-packet came n (came n) refl held (segmentsOf p) (placesFrom (suc n) packets) (allSegments packets) (some .0))
+
+-- each segment has its place
+pub places-length : (n : ℕ) (packets : List (List ℕ)) → length (placesFrom n packets) ≡ length (allSegments packets)
+unfolding placesFrom allSegments
+places-length n [] = refl
+places-length n (p ∷ packets) =
+    omega (
+      arith,
+      length-append (replicate (length (segmentsOf p)) n) (placesFrom (suc n) packets),
+      length-replicate (length (segmentsOf p)) n,
+      length-append (segmentsOf p) (allSegments packets),
+      places-length (suc n) packets,
+    )
