@@ -1,0 +1,149 @@
+-- A card shows an open session as that session stands by itself, and a session's own calls go by this alone: the number of an answer is told by
+-- what the session has, and so are the counts, what comes out, and how the session stands afterwards. Whatever others call, it goes on so.
+use Prim.Native.Nat.{ℕ, zero, suc, _<_, _≤_}
+use mathlib.Core.Path.{_≡_, refl, sym, ap, _∙_}
+use mathlib.Core.Bool.{Bool, true, false, cond}
+use mathlib.Core.Logic.{⊎-elim}
+use mathlib.Core.List.{List, [], _∷_, _++_}
+use native.Mathlib.Omega.{arith}
+use lib.Dec.{eqb, leb, ltb}
+use lib.ListN.{length}
+use borrow.Author.Tests.{eqb-true, eqb-false, eq-eqb, ne-eqb, lt-ltb}
+use Rattle.octets.specs.Stretch.{part, put, joined, lengths}
+use Rattle.octets.proofs.Counts.{true-or-false}
+use Rattle.octets.proofs.Stretches.{part-none, part-put, length-lengths}
+use Rattle.refusal.specs.Refusal.{Refusal, first, _when_}
+use Rattle.refusal.proofs.Laws.{and-right, first-stopped}
+use Rattle.flow.specs.declared.Flow.{Flow}
+use Rattle.flow.specs.Flow.{flows}
+use Rattle.packet.specs.Header.{overIp, sub, sessionId, flowId, shortestPacket}
+use Rattle.table.specs.declared.Mode.{Mode}
+use Rattle.table.specs.declared.Table.{Table}
+use Rattle.table.specs.Rows.{rows, isDmpt, find}
+use Rattle.card.specs.Hear.{Heard, judgedOf, recordAfter}
+use Rattle.card.specs.Receive.{Slices, asSlices, rowOf, heardBy, packetRefusals, flowRefusals, carriedOut, refused}
+use Rattle.card.specs.History.{Card, Call, opens, hands, dataAnswer, answer, after}
+use Rattle.card.proofs.Accepted.{Accepted, accepted, flow-there, received-code, received-accepted, received-refused}
+use Rattle.card.proofs.Hearing.{large-enough, flow-in-row}
+use Rattle.card.proofs.Limits.{accepted-bounded}
+use Rattle.promises.specs.Words.{ofSession, ofFlow, handsTo, closesIt}
+use Rattle.promises.specs.Isolation.{toldBy}
+use Rattle.promises.proofs.Good.{Good, refused-stays}
+use Rattle.promises.proofs.Steps.{Stands, stands-opened, stands-stay, stands-heard}
+use Rattle.promises.proofs.Session.{Session, begun, behindId, refusal, hears, hearing, toldOf, toldAt, sessionAt}
+
+-- Every flow of the session stands in the card as the session has it.
+abbrev pub Shows : Card → ℕ → Session → Type 0
+Shows c session a = (k : ℕ) → k < flows → Stands c session k (a .kind) (a .flow k) (a .held k)
+
+-- They do when it opens, ..
+pub shown-begun : (c : Card) (session : ℕ) (asked : Mode) → Good c → (answer c (opens asked session)) .code ≡ 0 →
+    Shows (after c (opens asked session)) session (begun asked)
+shown-begun c session asked g z = λ k l. stands-opened c session k asked g l z
+
+-- .. and after any call that is not its own.
+pub shown-still : (c : Card) (x : Call) (session : ℕ) (a : Session) → Good c → Shows c session a → ((k : ℕ) → handsTo session k x ≡ false) →
+    closesIt session x ≡ false → Shows (after c x) session a
+shown-still c x session a g v others stays =
+    λ k l. stands-stay c x session k (a .kind) (a .flow k) (a .held k) g l (v k l) (others k) stays
+
+-- A stretch of refusals and 12: where the stretch refuses, 12 does not count.
+late-counts : (xs : List Refusal) (late late′ : Bool) → (first xs ≡ 0 → late ≡ late′) →
+    first (xs ++ (12 when late ∷ [])) ≡ first (xs ++ (12 when late′ ∷ []))
+late-counts xs late late′ same =
+    ⊎-elim
+    (λ (e : eqb (first xs) 0 ≡ true). ap (λ (b : Bool). first (xs ++ (12 when b ∷ []))) (same (eqb-true (first xs) 0 e)))
+    (λ (e : eqb (first xs) 0 ≡ false).
+    first-stopped xs (12 when late ∷ []) (eqb-false (first xs) 0 e) ∙ sym (first-stopped xs (12 when late′ ∷ []) (eqb-false (first xs) 0 e)))
+    (true-or-false (eqb (first xs) 0))
+
+-- Of a step carried out the session is told what the flow heard: it finds the bytes and the lengths at the front of the slices.
+carried-told : (r k : ℕ) (h : Heard) (t : Table) (s : Slices) → length (joined (h .fate .delivered)) ≤ length (s .output) →
+    length (h .fate .delivered) ≤ length (s .lengths) → toldBy (dataAnswer (carriedOut r k h t s)) ≡ toldOf h
+unfolding carriedOut
+carried-told r k h t s bytes frames =
+    let d = h .fate .delivered in
+    let n = length-lengths d in
+    let read : part (put (s .lengths) 0 (lengths d)) 0 (length d) ≡ lengths d =
+    ap (part (put (s .lengths) 0 (lengths d)) 0) (sym n) ∙ part-put (s .lengths) 0 (lengths d) (omega (arith, n)) in
+    rw (part-put (s .output) 0 (joined d) (omega arith), read) refl
+
+-- A packet of the session.
+module _ (c : Card) (packet out lens : List ℕ) (session : ℕ) (a : Session) (g : Good c) (v : Shows c session a)
+    (of-it : ofSession session packet ≡ true) where
+  abbrev behind : List ℕ
+  behind = sub overIp packet
+
+  its-id : sessionId overIp packet ≡ session
+  its-id = eqb-true (sessionId overIp packet) session (and-right (leb shortestPacket (length packet)) (eqb (sessionId overIp packet) session) of-it)
+
+  -- The session has all that decides the number of the answer.
+  behind-alone : first (flowRefusals (c .table) (find (c .table) session) behind) ≡ first (behindId a behind)
+  behind-alone =
+      rw (v 0 (omega arith) .of-kind)
+      (late-counts (packetRefusals (isDmpt (a .kind)) behind) _ _
+      (λ z. ap (λ (f : Flow). (judgedOf f behind) .late) (v (flowId behind) (flow-in-row (isDmpt (a .kind)) behind z) .its-record)))
+
+  pub code-alone : (answer c (hands packet out lens)) .code ≡ refusal (length (c .holding)) a packet (length out) (length lens)
+  unfolding answer
+  code-alone =
+      let live : ltb (find (c .table) session) rows ≡ true = lt-ltb (find (c .table) session) rows (v 0 (omega arith) .is-there) in
+      received-code overIp (c .table) packet (asSlices (c .holding) out lens) ∙ rw (g .whole, its-id, live, behind-alone) refl
+
+  -- What is heard of an accepted one is what its flow by itself makes of it, ..
+  module _ (z : (answer c (hands packet out lens)) .code ≡ 0) where
+    abbrev lent : Slices
+    lent = asSlices (c .holding) out lens
+
+    taken : Accepted overIp (c .table) packet lent
+    unfolding answer
+    taken = accepted overIp (c .table) packet lent z
+
+    inside : flowId behind < flows
+    inside = flow-there overIp (c .table) packet lent taken
+
+    heard-alone : heardBy (c .table) (rowOf overIp (c .table) packet) behind lent ≡ hears a behind
+    heard-alone =
+        let s = v (flowId behind) inside in
+        rw (its-id, s .of-kind, s .its-record, s .its-bytes) refl
+
+    told-heard : toldBy (answer c (hands packet out lens)) ≡ toldOf (hears a behind)
+    unfolding answer
+    told-heard =
+        let b = accepted-bounded overIp (c .table) packet lent taken in
+        let room = large-enough lent (taken .large) in
+        rw (received-accepted overIp (c .table) packet lent z)
+        (carried-told (rowOf overIp (c .table) packet) (flowId behind)
+        (heardBy (c .table) (rowOf overIp (c .table) packet) behind lent) (c .table) lent
+        (omega (arith, b .all, b .bytes-few, room .output-enough)) (omega (arith, b .frames-few, room .lengths-enough))
+        ∙ ap toldOf heard-alone)
+
+    -- .. and the other flows stay as they were.
+    shown-heard : Shows (after c (hands packet out lens)) session (hearing (flowId behind) (hears a behind) a)
+    shown-heard j l = pick (eqb j (flowId behind)) refl
+      where
+        its-flow : j ≡ flowId behind → ofFlow session j packet ≡ true
+        its-flow e = rw (of-it, eq-eqb (flowId behind) j (sym e)) refl
+
+        another : eqb j (flowId behind) ≡ false → ofFlow session j packet ≡ false
+        another e = rw (of-it, ne-eqb (flowId behind) j (λ q. eqb-false j (flowId behind) e (sym q))) refl
+
+        pick : (b : Bool) → eqb j (flowId behind) ≡ b →
+            Stands (after c (hands packet out lens)) session j (a .kind) (cond b (recordAfter (hears a behind)) (a .flow j))
+            (cond b (hears a behind .fate .held) (a .held j))
+        pick true e =
+            let q = eqb-true j (flowId behind) e in
+            rw (← q) (stands-heard c packet out lens session j (a .kind) (a .flow j) (a .held j) g l (v j l) (its-flow q) z .0)
+        pick false e =
+            stands-stay c (hands packet out lens) session j (a .kind) (a .flow j) (a .held j) g l (v j l) (another e) refl
+
+  -- By the number: what the session is told, and how it stands afterwards.
+  pub told-at : (n : ℕ) → (answer c (hands packet out lens)) .code ≡ n → toldBy (answer c (hands packet out lens)) ≡ toldAt n a behind
+  unfolding answer refused
+  told-at zero z = told-heard z
+  told-at (suc n) e =
+      rw (received-refused overIp (c .table) packet (asSlices (c .holding) out lens) n e, part-none out 0, part-none lens 0) refl
+
+  pub shown-at : (n : ℕ) → (answer c (hands packet out lens)) .code ≡ n → Shows (after c (hands packet out lens)) session (sessionAt n a behind)
+  shown-at zero z = shown-heard z
+  shown-at (suc n) e = rw (refused-stays c (hands packet out lens) (λ z. omega (arith, e, z))) v
