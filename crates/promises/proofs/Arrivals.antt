@@ -20,7 +20,7 @@ use Rattle.packet.specs.Header.{overIp, sub}
 use Rattle.packet.specs.Segments.{Segment}
 use Rattle.card.specs.Hear.{judgedOf}
 use Rattle.sender.specs.Rules.{segmentsOf}
-use Rattle.promises.specs.Arrivals.{Within, Window, inTime}
+use Rattle.promises.specs.Arrivals.{WithinBound, Window, inTime}
 use Rattle.promises.proofs.Alone.{framesAlone}
 use Rattle.promises.proofs.InTime.{in-time-after, in-time-before, in-time-at, in-time-none}
 use Rattle.promises.proofs.Given.{given, left, behind, behind-nothing}
@@ -91,7 +91,7 @@ module _ (start : ℕ) (packets : List (List ℕ)) (by-place : (f : Flow) (x : �
 
   -- `expected` is the place that the flow waits for
   arrivals-along : (f : Flow) (expected : ℕ) (held : List ℕ) (xs : List ℕ) → f .heard ≡ true → f .expected ≡ numberAt start expected →
-      Each (λ x. x < length packets) xs → Within expected xs →
+      Each (λ x. x < length packets) xs → WithinBound expected xs →
       framesAlone f held (those xs) ≡ along (inTime xs) expected held (drop expected packets)
   unfolding framesAlone
   arrivals-along f expected held [] hears waits sent within = sym (none-from (inTime []) expected held (drop expected packets) in-time-none)
@@ -99,9 +99,9 @@ module _ (start : ℕ) (packets : List (List ℕ)) (by-place : (f : Flow) (x : �
       pick (λ g held′ h w v. arrivals-along g (suc x) held′ xs h w (sent .1) v) (λ v. arrivals-along f expected held xs hears waits (sent .1) v)
       (leb expected x) refl
     where
-      pick : ((g : Flow) (held′ : List ℕ) → g .heard ≡ true → g .expected ≡ numberAt start (suc x) → Within (suc x) xs →
+      pick : ((g : Flow) (held′ : List ℕ) → g .heard ≡ true → g .expected ≡ numberAt start (suc x) → WithinBound (suc x) xs →
           framesAlone g held′ (those xs) ≡ along (inTime xs) (suc x) held′ (drop (suc x) packets)) →
-          (Within expected xs → framesAlone f held (those xs) ≡ along (inTime xs) expected held (drop expected packets)) →
+          (WithinBound expected xs → framesAlone f held (those xs) ≡ along (inTime xs) expected held (drop expected packets)) →
           (t : Bool) → leb expected x ≡ t → framesAlone f held (those (x ∷ xs)) ≡ along (inTime (x ∷ xs)) expected held (drop expected packets)
       pick on stay true e =
           let l : expected ≤ x = leb-true expected x e in

@@ -1,7 +1,7 @@
 -- Demand 3, over any history: what comes out of the flow is what it makes of its packets by itself, and that is the frames that arrived whole.
-use Prim.Native.Nat.{ℕ, _<_, _≤_}
+use Prim.Native.Nat.{ℕ, zero, suc, _<_, _≤_}
 use mathlib.Core.Path.{_≡_, refl, sym, ap, subst, _∙_}
-use mathlib.Core.Bool.{Bool, true, false, cond}
+use mathlib.Core.Bool.{Bool, true, false, cond, true≢false}
 use mathlib.Core.List.{List, [], _∷_, _++_, map}
 use native.Mathlib.Omega.{arith}
 use lib.ListN.{length, getD}
@@ -42,6 +42,29 @@ none-out session flow c (hands packet out lens ∷ more) e = by (ofFlow session 
     by true e′ behind = absurd (not-empty e′)
     by false e′ behind = behind e′
 
+-- What arrives was sent: past the end of the packets stands an empty list, and a flow gets no such packet.
+gets-own : (session flow : ℕ) (calls : List Call) → Each (λ p. ofFlow session flow p ≡ true) (packetsTo session flow calls)
+unfolding packetsTo
+gets-own session flow [] = tt
+gets-own session flow (opens asked id ∷ more) = gets-own session flow more
+gets-own session flow (closes id ∷ more) = gets-own session flow more
+gets-own session flow (hands packet out lens ∷ more) = by (ofFlow session flow packet) refl (gets-own session flow more)
+  where
+    by : (t : Bool) → ofFlow session flow packet ≡ t → Each (λ p. ofFlow session flow p ≡ true) (packetsTo session flow more) →
+        Each (λ p. ofFlow session flow p ≡ true) (cond t (packet ∷ packetsTo session flow more) (packetsTo session flow more))
+    by true e own = (e, own)
+    by false e own = own
+
+sent-there : (session flow : ℕ) (packets : List (List ℕ)) (x : ℕ) → ofFlow session flow (getD packets x []) ≡ true → x < length packets
+sent-there session flow [] x e = absurd (true≢false (sym e))
+sent-there session flow (p ∷ packets) zero e = omega arith
+sent-there session flow (p ∷ packets) (suc x) e = omega (arith, sent-there session flow packets x e)
+
+were-sent : (session flow : ℕ) (packets : List (List ℕ)) (arrivals : List ℕ) → Each (λ p. ofFlow session flow p ≡ true) (map (λ x. getD packets x []) arrivals) →
+    Each (λ x. x < length packets) arrivals
+were-sent session flow packets [] own = tt
+were-sent session flow packets (x ∷ more) own = (sent-there session flow packets x (own .0), were-sent session flow packets more (own .1))
+
 module _ (s : Sending) (r : Run s) where
   -- the card when the session has been opened
   good : Good (openedCard s r)
@@ -51,6 +74,11 @@ module _ (s : Sending) (r : Run s) where
   large =
       let g = good-all (emptyCard (r .holding)) (r .before) (good-empty (r .holding)) in
       omega (arith, r .long-enough .0, holding-kept (afterAll (emptyCard (r .holding)) (r .before)) (opens mode.Psp (s .session)) g, holding-kept-all (emptyCard (r .holding)) (r .before) (good-empty (r .holding)))
+
+  pub all-sent : Each (λ x. x < length (s .packets)) (r .arrivals)
+  all-sent =
+      were-sent (s .session) (s .flow) (s .packets) (r .arrivals)
+      (subst (λ (l : List (List ℕ)). Each (λ p. ofFlow (s .session) (s .flow) p ≡ true) l) (r .only-these) (gets-own (s .session) (s .flow) (r .calls)))
 
   -- each packet that arrives was sent, and so passes the check and is for this flow
   passing-at : (arrivals : List ℕ) → Each (λ x. x < length (s .packets)) arrivals → Each (λ p. check overIp kindPsp p ≡ 0) (map (λ x. getD (s .packets) x []) arrivals)
@@ -79,8 +107,8 @@ module _ (s : Sending) (r : Run s) where
 -- The theorem, and what follows from it where packets are only lost.
 pub demand-3 : Demand3
 demand-3 s r =
-    subst (Kept (WholeIn s r) 0 (s .frames)) (sym (alone s r (r .arrivals) (r .were-sent) (r .only-these)))
-    (flow-demand (s .session) (s .flow) (s .start) (s .frames) (s .unfinished) (s .packets) (r .arrivals) (s .keeps-rules) (r .were-sent) (r .in-window))
+    subst (Kept (WholeIn s r) 0 (s .frames)) (sym (alone s r (r .arrivals) (all-sent s r) (r .only-these)))
+    (flow-demand (s .session) (s .flow) (s .start) (s .frames) (s .unfinished) (s .packets) (r .arrivals) (s .keeps-rules) (all-sent s r) (r .in-window))
 
 pub fewer-lost : FewerLost
 fewer-lost = fewer-by-demand demand-3

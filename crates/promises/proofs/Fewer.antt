@@ -39,8 +39,8 @@ arrives-too (Sublistᴰ·cons s) k m = List·Memᴰ·tail (arrives-too s k m)
 arrives-too (Sublistᴰ·cons-cons e s) k (List·Memᴰ·head d) = List·Memᴰ·head (d ∙ e)
 arrives-too (Sublistᴰ·cons-cons e s) k (List·Memᴰ·tail m) = List·Memᴰ·tail (arrives-too s k m)
 
-pub only-lost : {xs ys : List ℕ} → Rising 0 xs → Rising 0 ys → Sublistᴰ xs ys → (k : ℕ) → InTime xs k → InTime ys k
-only-lost {xs} {ys} r q among k t =
+pub only-lost : {xs ys : List ℕ} → Rising 0 ys → Sublistᴰ xs ys → (k : ℕ) → InTime xs k → InTime ys k
+only-lost {xs} {ys} q among k t =
     in-time-is-meant ys k .0 (arrives-in-time 0 ys k q (arrives-too among k (in-time-arrives xs k (in-time-is-meant xs k .1 t))))
 
 -- and so a frame that is whole among fewer arrivals is whole among more
@@ -48,9 +48,9 @@ each-too : (P Q : ℕ → Type 0) (ks : List ℕ) → ((k : ℕ) → P k → Q k
 each-too P Q [] m p = tt
 each-too P Q (k ∷ ks) m p = (m k (p .0), each-too P Q ks m (p .1))
 
-pub whole-too : {xs ys : List ℕ} → Rising 0 xs → Rising 0 ys → Sublistᴰ xs ys → (frames : List Pieces) (packets : List (List ℕ)) (i : ℕ) →
+pub whole-too : {xs ys : List ℕ} → Rising 0 ys → Sublistᴰ xs ys → (frames : List Pieces) (packets : List (List ℕ)) (i : ℕ) →
     Whole xs frames packets i → Whole ys frames packets i
-whole-too {xs} {ys} r q among frames packets i w = each-too (InTime xs) (InTime ys) (carriers frames packets i) (only-lost r q among) w
+whole-too {xs} {ys} q among frames packets i w = each-too (InTime xs) (InTime ys) (carriers frames packets i) (only-lost q among) w
 
 -- the frames of a run by their numbers, as demand 3 gives them
 come-out-by : (s : Sending) (r : Run s) (numbers : List ℕ) → Numbered (WholeIn s r) (s .frames) 0 (comesOut s r) numbers → ComeOut s r numbers
@@ -65,13 +65,13 @@ come-out-by s r numbers n =
 
 -- `fewer-lost` follows from demand 3
 pub fewer-by-demand : Demand3 → FewerLost
-fewer-by-demand demand s more fewer r q among =
-    let whole : (i : ℕ) → WholeIn s more i → WholeIn s fewer i = whole-too r q among (s .frames) (s .packets) in
-    let b : BothNumbered (WholeIn s more) (WholeIn s fewer) (s .frames) (comesOut s more) (comesOut s fewer) = kept-numbers whole (demand s more) (demand s fewer) in
+fewer-by-demand demand s worse better q among =
+    let whole : (i : ℕ) → WholeIn s worse i → WholeIn s better i = whole-too q among (s .frames) (s .packets) in
+    let b : BothNumbered (WholeIn s worse) (WholeIn s better) (s .frames) (comesOut s worse) (comesOut s better) = kept-numbers whole (demand s worse) (demand s better) in
     record {
-      of-more = b .of-first;
-      of-fewer = b .of-second;
-      come-out = come-out-by s more (b .of-first) (b .first);
-      come-out-too = come-out-by s fewer (b .of-second) (b .second);
+      of-worse = b .of-first;
+      of-better = b .of-second;
+      come-out = come-out-by s worse (b .of-first) (b .first);
+      come-out-too = come-out-by s better (b .of-second) (b .second);
       among = b .among;
     }

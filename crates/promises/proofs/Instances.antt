@@ -146,7 +146,6 @@ overtaken =
       stays-open = (refl, (refl, (refl, (refl, (refl, (refl, (refl, (refl, (refl, (refl, tt))))))))));
       long-enough = overtaken-long;
       only-these = overtaken-only;
-      were-sent = (omega arith, (omega arith, (omega arith, (omega arith, (omega arith, tt)))));
       in-window = (omega arith, omega arith, (omega arith, omega arith, (omega arith, omega arith, (omega arith, omega arith, tt))));
     }
 

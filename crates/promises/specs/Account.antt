@@ -15,13 +15,12 @@ use Rattle.packet.specs.Segments.{Segment, entryWidth, segments}
 use Rattle.packet.specs.Dmpt.{mpegs}
 use Rattle.table.specs.declared.Table.{Table}
 use Rattle.table.specs.Rows.{rows, rowAt, flowAt, find, heldIn, empty}
-use Rattle.card.specs.Join.{Fate, dropping, keeping}
 use Rattle.card.specs.Receive.{placeOf, asSlices, rowOf, toDmpt, heardBy}
 use Rattle.card.specs.History.{Card, Call, opens, closes, hands, Answer, framesOf, answer, after, afterAll, emptyCard}
 
 -- the body of a packet: the bodies of its segments, or its MPEG packets, those with PID 0x1FFF included
-abbrev pub bodyOf : Bool → List ℕ → List ℕ
-bodyOf dmpt sub = cond dmpt (joined (mpegs sub)) (joined (map (λ (s : Segment). s .body) (segments entryWidth sub)))
+abbrev pub packetBody : Bool → List ℕ → List ℕ
+packetBody dmpt sub = cond dmpt (joined (mpegs sub)) (joined (map (λ (s : Segment). s .body) (segments entryWidth sub)))
 
 -- the body bytes that a call brings in: those of a packet that is accepted
 abbrev pub takenBy : Card → Call → List ℕ
@@ -29,7 +28,7 @@ takenBy c (opens asked id) = []
 takenBy c (closes id) = []
 takenBy c (hands packet out lens) =
     cond (eqb ((answer c (hands packet out lens)) .code) 0)
-    (bodyOf (toDmpt (c .table) (rowOf overIp (c .table) packet)) (sub overIp packet)) []
+    (packetBody (toDmpt (c .table) (rowOf overIp (c .table) packet)) (sub overIp packet)) []
 
 -- A history for the numbers: each call may bring another holding slice, of any length and with anything in it. Only the table goes on.
 pub record Lent : Type 0 where
@@ -71,7 +70,21 @@ bytesOfRow c i = joined (upTo (λ k. part (c .holding) (placeOf i k) (flowAt (ro
 abbrev pub bytesHeld : Card → List ℕ
 bytesHeld c = joined (upTo (bytesOfRow c) rows)
 
--- `byte-account`: the numbers; and where one holding slice goes through all calls, the places hold as many bytes as the table says.
+-- the bytes that a call delivers, as the caller finds them in the output
+abbrev pub deliveredBy : Card → Call → List ℕ
+deliveredBy c x = joined (framesOf (answer c x))
+
+-- The bytes that a call drops. No slice shows them, so they are told by the rules: of an accepted packet by what its flow makes of it; a close drops what
+-- its row holds; an open, or a call that is refused, drops none.
+abbrev pub droppedBy : Card → Call → List ℕ
+droppedBy c (opens asked id) = []
+droppedBy c (closes id) = cond (eqb ((answer c (closes id)) .code) 0) (bytesOfRow c (find (c .table) id)) []
+droppedBy c (hands packet out lens) =
+    cond (eqb ((answer c (hands packet out lens)) .code) 0)
+    ((heardBy (c .table) (rowOf overIp (c .table) packet) (sub overIp packet) (asSlices (c .holding) out lens)) .fate .dropped) []
+
+-- `byte-account`: the numbers, over any history; and where one holding slice goes through all calls, the places hold as many bytes as the table says,
+-- and each further call delivers and drops as many as it answers.
 pub record ByteAccount : Type 0 where
   pub all-told : (calls : List Lent) →
       countedBy bytesTaken empty calls
@@ -80,33 +93,23 @@ pub record ByteAccount : Type 0 where
       + heldInAll (tableAfterAll empty calls)
   pub places-hold : (holding : List ℕ) (calls : List Call) →
       length (bytesHeld (afterAll (emptyCard holding) calls)) ≡ heldInAll ((afterAll (emptyCard holding) calls) .table)
+  pub as-answered : (holding : List ℕ) (calls : List Call) (x : Call) →
+      let c = afterAll (emptyCard holding) calls in
+      ((answer c x) .bytes ≡ length (deliveredBy c x)) × ((answer c x) .dropped ≡ length (droppedBy c x))
 
--- What becomes of bytes in a call: what the rules say of an accepted packet's; a close drops what its row holds; any other call moves none.
-abbrev pub fateIn : Card → Call → Fate
-fateIn c (opens asked id) = keeping []
-fateIn c (closes id) = cond (eqb ((answer c (closes id)) .code) 0) (dropping (bytesOfRow c (find (c .table) id))) (keeping [])
-fateIn c (hands packet out lens) =
-    cond (eqb ((answer c (hands packet out lens)) .code) 0)
-    ((heardBy (c .table) (rowOf overIp (c .table) packet) (sub overIp packet) (asSlices (c .holding) out lens)) .fate) (keeping [])
-
--- over all calls: the bytes taken; those delivered, as the caller finds them in the output; those dropped, which only the rules can tell
+-- what each call of a history adds, one behind the other
 unfoldable pub gathered : (Card → Call → List ℕ) → Card → List Call → List ℕ
 gathered what c [] = []
 gathered what c (x ∷ more) = what c x ++ gathered what (after c x) more
-
-abbrev pub deliveredBy : Card → Call → List ℕ
-deliveredBy c x = joined (framesOf (answer c x))
-
-abbrev pub droppedBy : Card → Call → List ℕ
-droppedBy c x = (fateIn c x) .dropped
 
 -- how often a value stands in a list
 unfoldable pub times : ℕ → List ℕ → ℕ
 times value [] = 0
 times value (b ∷ more) = cond (eqb b value) 1 0 + times value more
 
--- `each-byte`: each value came in as often as it is delivered, dropped or held. The elements of a list are numbers of any size here: so one may
--- give all body bytes of a history different numbers, and follow each of them. (That the elements are bytes is on purpose not asked for.)
+-- `each-byte`: each value came in as often as it is delivered, dropped or held. The elements of a list are numbers of any size here, and the rules never look
+-- into the body of a segment: so one may give all body bytes of a history of PSP packets different numbers, and follow each of them. (That the elements
+-- are bytes is on purpose not asked for.) It says nothing of their order, nor which frame a byte is in: that is demand 3's.
 abbrev pub EachByte : Type 0
 EachByte =
     (holding : List ℕ) (calls : List Call) (value : ℕ) →

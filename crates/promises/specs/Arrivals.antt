@@ -1,6 +1,6 @@
--- The network (document 01, mission 3 and "Demand 3 and the next rule suppose"). The sender's packets have the places 0, 1, 2, .. in the
--- order of sending, and no place comes twice, however often the 16-bit numbers have begun again. An arrival is the place of the packet that
--- arrives: so one list of places says what was lost, what came again and what came late.
+-- The network (document 01, "Demand 3 and the next rule suppose"). The sender's packets have the places 0, 1, 2, .. in the order of sending, and
+-- no two have the same place, however often the 16-bit numbers have begun again. An arrival is the place of the packet that arrives: so
+-- one list of places says what was lost, what came again and what came late.
 use Prim.Native.Nat.{ℕ, zero, suc, _+_, _≤_, _<_, max}
 use mathlib.Core.Path.{_≡_}
 use mathlib.Core.Bool.{Bool, true, false, cond}
@@ -15,13 +15,13 @@ use Rattle.sender.specs.Rules.{Pieces, segmentsOf}
 
 -- The bound: each arrival after the first is less than 32,768 places ahead of the place expected next, and at most 32,768 behind it.
 -- Expected next is the place behind the farthest that has arrived.
-abbrev pub Within : ℕ → List ℕ → Type 0
-Within expected [] = Unit {0}
-Within expected (x ∷ more) = (x < expected + half) × (expected ≤ x + half) × Within (max expected (suc x)) more
+abbrev pub WithinBound : ℕ → List ℕ → Type 0
+WithinBound expected [] = Unit {0}
+WithinBound expected (x ∷ more) = (x < expected + half) × (expected ≤ x + half) × WithinBound (max expected (suc x)) more
 
 abbrev pub Window : List ℕ → Type 0
 Window [] = Unit {0}
-Window (x ∷ more) = Within (suc x) more
+Window (x ∷ more) = WithinBound (suc x) more
 
 -- The packet at place k arrived before any packet sent after it: there is an arrival of it, and no earlier arrival is of a later packet.
 pub record InTime (arrivals : List ℕ) (k : ℕ) : Type 0 where

@@ -2,6 +2,7 @@ pub mod Words
 pub mod Arrivals
 pub mod Demand
 pub mod Account
+pub mod Dmpt
 pub mod Isolation
 pub mod Limits
 pub mod Refusals

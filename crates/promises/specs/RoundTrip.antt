@@ -1,22 +1,25 @@
 -- There and back. Frames are given to our own sender again and again, each call from where the one before ended, with any limits and outputs that 32
--- and 36 let pass. Its packets, handed in on a fresh flow in that order, come out as the frames that went in, whatever is called between them.
--- Over a network within the bound what comes out is, by demand 3, the frames that arrived whole.
-use Prim.Native.Nat.{ℕ, _≤_, _<_}
+-- and 36 let pass. Its packets, handed in on a fresh flow in that order, come out as the frames that went in, whatever is called for others between
+-- them. Over a network within the bound what comes out is, by demand 3, the frames that arrived whole.
+use Prim.Native.Nat.{ℕ, _+_, _≤_, _<_}
 use mathlib.Core.Path.{_≡_}
-use mathlib.Core.List.{List, [], map}
+use mathlib.Core.List.{List, [], _++_, map}
 use lib.ListN.{length}
 use Rattle.octets.specs.Stretch.{joined, cutBy}
 use Rattle.octets.specs.Each.{Each}
-use Rattle.flow.specs.Numbers.{modulus}
+use Rattle.flow.specs.Numbers.{modulus, numberAt}
+use Rattle.packet.specs.Header.{idLength}
 use Rattle.table.specs.declared.Mode.the-variants as mode
 use Rattle.card.specs.History.{Call, opens, answer, after, afterAll, emptyCard}
+use Rattle.sender.specs.Send.{Asked, sent}
 use Rattle.sender.specs.Series.{Job, Turn, Sound, Usable, startOfFrame, seriesPackets}
 use Rattle.sender.specs.Rules.{Pieces, KeepsRules}
 use Rattle.promises.specs.Words.{packetsTo, framesOut, LongEnough, StaysOpen}
 use Rattle.promises.specs.Arrivals.{Kept}
 use Rattle.promises.specs.Demand.{Sending, Run, WholeIn, comesOut}
 
--- frames that 31 and 33 do not refuse, a number of two bytes, and calls enough to send them: each places at least one byte
+-- An address and frames that 31 and 33 do not refuse, a number of two bytes, and calls enough to send them: each sends at least one byte, and those
+-- behind the last frame are refused by 35 and send nothing.
 pub record Given : Type 0 where
   pub job : Job
   pub number : ℕ
@@ -33,13 +36,25 @@ abbrev pub packetsGiven : Given → List (List ℕ)
 packetsGiven g = seriesPackets (g .job) (g .number) (startOfFrame 0) (g .turns)
 
 -- `sender-keeps-rules`: what it sends is a sending as demand 3 supposes it, of these frames and no other, the last one finished
-abbrev pub IsSent : Given → List Pieces → Type 0
-IsSent g frames =
-    (map joined frames ≡ framesGiven g)
-    × KeepsRules (g .job .session) (g .job .flow) (g .number) frames [] (packetsGiven g)
+pub record IsSent (g : Given) (frames : List Pieces) : Type 0 where
+  pub these-frames : map joined frames ≡ framesGiven g
+  pub by-the-rules : KeepsRules (g .job .session) (g .job .flow) (g .number) frames [] (packetsGiven g)
 
-abbrev pub SenderKeepsRules : Type 0
-SenderKeepsRules = (g : Given) → (frames : List Pieces) × IsSent g frames
+pub record SenderKeepsRules : Type 0 where
+  pub pieces : Given → List Pieces
+  pub are-sent : (g : Given) → IsSent g (pieces g)
+
+-- .. and one sending behind another, numbered on, is a sending: so frames may be given to the sender 127 at a time, as 33 has it, for ever
+abbrev pub SendingsGoOn : Type 0
+SendingsGoOn =
+    (session flow start : ℕ) (frames more : List Pieces) (unfinished : Pieces) (packets behind : List (List ℕ)) →
+    KeepsRules session flow start frames [] packets →
+    KeepsRules session flow (numberAt start (length packets)) more unfinished behind →
+    KeepsRules session flow start (frames ++ more) unfinished (packets ++ behind)
+
+-- .. and no packet is longer than its limit, which counts what follows the session ID
+abbrev pub KeepsLimit : Type 0
+KeepsLimit = (a : Asked) → (sent a) .answer .code ≡ 0 → (sent a) .answer .length ≤ a .limit + idLength
 
 -- the packets of the series reach their flow, all of them and in order
 pub record InOrder (g : Given) : Type 0 where
@@ -51,11 +66,23 @@ pub record InOrder (g : Given) : Type 0 where
   pub long-enough : LongEnough (g .job .session) (g .job .flow) holding calls
   pub all-arrive : packetsTo (g .job .session) (g .job .flow) calls ≡ packetsGiven g
 
+-- what was sent, as a sending of these frames
+abbrev pub sendingOf : (g : Given) (frames : List Pieces) → IsSent g frames → Sending
+sendingOf g frames is-sent =
+    record {
+      session = g .job .session;
+      flow = g .job .flow;
+      start = g .number;
+      frames = frames;
+      unfinished = [];
+      packets = packetsGiven g;
+      keeps-rules = is-sent .by-the-rules;
+    }
+
 -- `round-trip`
 pub record RoundTrip : Type 0 where
   pub in-order : (g : Given) (o : InOrder g) →
       framesOut (g .job .session) (g .job .flow) (after (afterAll (emptyCard (o .holding)) (o .before)) (opens mode.Psp (g .job .session))) (o .calls)
       ≡ framesGiven g
-  pub over-a-network : (g : Given) →
-      (s : Sending) × (s .packets ≡ packetsGiven g) × (map joined (s .frames) ≡ framesGiven g)
-      × ((r : Run s) → Kept (WholeIn s r) 0 (s .frames) (comesOut s r))
+  pub over-a-network : (g : Given) (frames : List Pieces) (is-sent : IsSent g frames) (r : Run (sendingOf g frames is-sent)) →
+      Kept (WholeIn (sendingOf g frames is-sent) r) 0 frames (comesOut (sendingOf g frames is-sent) r)

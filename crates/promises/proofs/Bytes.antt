@@ -1,0 +1,98 @@
+-- The account over a history in which one holding slice goes through all calls: every byte value comes in as often as it is delivered, dropped
+-- or held, and no place has fewer bytes than the table says.
+use Prim.Native.Nat.{ℕ, _+_, _<_, _≤_}
+use mathlib.Core.Path.{_≡_, refl, _∙_}
+use mathlib.Core.Bool.{Bool, true, false, cond}
+use mathlib.Core.List.{List, [], _∷_}
+use native.Mathlib.Omega.{arith}
+use lib.Dec.{eqb}
+use lib.ListN.{length, drop, length-take}
+use Rattle.octets.specs.Stretch.{part}
+use Rattle.octets.proofs.Counts.{sum-within}
+use Rattle.flow.specs.Flow.{flows}
+use Rattle.table.specs.Rows.{rows, rowAt, flowAt, find}
+use Rattle.card.specs.Receive.{placeOf}
+use Rattle.card.specs.History.{Card, Call, opens, closes, hands, answer, after, afterAll, emptyCard}
+use Rattle.promises.specs.Account.{takenBy, deliveredBy, droppedBy, gathered, bytesOfRow, bytesHeld, heldInAll, times, EachByte}
+use Rattle.promises.proofs.Good.{Good, good-empty, good-after}
+use Rattle.promises.proofs.Measures.{Measure, by-length, by-value, measure-up-to, sum-agree, sum-both}
+use Rattle.promises.proofs.Holdings.{inPlaces, places-keep, inTable, missing, missing-keeps, keptAt, keptInRow, keptInAll, empty-keeps}
+use Rattle.promises.proofs.OneCall.{droppedIn, call-balances}
+
+module _ (m : List ℕ → ℕ) (is : Measure m) where
+  row-measured : (c : Card) (i : ℕ) → m (bytesOfRow c i) ≡ keptInRow (inPlaces m) c i
+  row-measured c i = measure-up-to m is (λ k. part (c .holding) (placeOf i k) (flowAt (rowAt (c .table) i) k .held)) flows
+
+  held-measured : (c : Card) → m (bytesHeld c) ≡ keptInAll (inPlaces m) c
+  held-measured c = measure-up-to m is (bytesOfRow c) rows ∙ sum-agree (λ i. m (bytesOfRow c i)) (keptInRow (inPlaces m) c) rows (λ i l. row-measured c i)
+
+  dropped-by : (accepts : Bool) (c : Card) (i : ℕ) → m (cond accepts (bytesOfRow c i) []) ≡ cond accepts (keptInRow (inPlaces m) c i) 0
+  dropped-by true c i = row-measured c i
+  dropped-by false c i = is .none
+
+  pub dropped-measured : (c : Card) (x : Call) → m (droppedBy c x) ≡ droppedIn m (inPlaces m) c x
+  dropped-measured c (opens asked id) = is .none
+  dropped-measured c (closes id) = dropped-by (eqb ((answer c (closes id)) .code) 0) c (find (c .table) id)
+  dropped-measured c (hands packet out lens) = refl
+
+  history-measured : (c : Card) (calls : List Call) → Good c →
+      m (gathered takenBy c calls) + m (bytesHeld c)
+      ≡ m (gathered deliveredBy c calls) + m (gathered droppedBy c calls) + m (bytesHeld (afterAll c calls))
+  unfolding gathered afterAll
+  history-measured c [] good = omega (arith, is .none)
+  history-measured c (x ∷ more) good =
+      omega (
+        arith,
+        call-balances (places-keep m is) c good x,
+        dropped-measured c x,
+        held-measured c,
+        held-measured (after c x),
+        history-measured (after c x) more (good-after c x good),
+        is .both (takenBy c x) (gathered takenBy (after c x) more),
+        is .both (deliveredBy c x) (gathered deliveredBy (after c x) more),
+        is .both (droppedBy c x) (gathered droppedBy (after c x) more),
+      )
+
+pub each-byte : EachByte
+each-byte holding calls value =
+    let is = by-value value in
+    omega (
+      arith,
+      history-measured (times value) is (emptyCard holding) calls (good-empty holding),
+      held-measured (times value) is (emptyCard holding),
+      empty-keeps (places-keep (times value) is) holding,
+    )
+
+-- No byte is missing in a place at any time: an account in which no byte counts.
+none-missing : (c : Card) (calls : List Call) → Good c → keptInAll missing c ≡ 0 → keptInAll missing (afterAll c calls) ≡ 0
+unfolding afterAll
+none-missing c [] good none = none
+none-missing c (x ∷ more) good none =
+    none-missing (after c x) more (good-after c x good) (omega (arith, call-balances missing-keeps c good x, none))
+
+part-short : (l : List ℕ) (from n : ℕ) → length (part l from n) ≤ n
+unfolding part
+part-short l from n = omega (arith, length-take n (drop from l))
+
+there-and-missing : (c : Card) (i : ℕ) → keptInRow (inPlaces length) c i + keptInRow missing c i ≡ keptInRow inTable c i
+there-and-missing c i =
+    sum-both (keptAt (inPlaces length) c i) (keptAt missing c i) (keptAt inTable c i) flows
+    (λ k o. omega (arith, part-short (c .holding) (placeOf i k) (flowAt (rowAt (c .table) i) k .held)))
+
+pub none-missing-at : (holding : List ℕ) (calls : List Call) → keptInAll missing (afterAll (emptyCard holding) calls) ≡ 0
+none-missing-at holding calls = none-missing (emptyCard holding) calls (good-empty holding) (empty-keeps missing-keeps holding)
+
+-- so each row's places have what the table says
+pub row-holds : (c : Card) (i : ℕ) → i < rows → keptInAll missing c ≡ 0 → keptInRow (inPlaces length) c i ≡ keptInRow inTable c i
+row-holds c i l none = omega (arith, there-and-missing c i, sum-within (keptInRow missing c) i rows l)
+
+pub places-hold : (holding : List ℕ) (calls : List Call) →
+    length (bytesHeld (afterAll (emptyCard holding) calls)) ≡ heldInAll ((afterAll (emptyCard holding) calls) .table)
+places-hold holding calls =
+    let c = afterAll (emptyCard holding) calls in
+    omega (
+      arith,
+      held-measured length by-length c,
+      sum-both (keptInRow (inPlaces length) c) (keptInRow missing c) (keptInRow inTable c) rows (λ i l. there-and-missing c i),
+      none-missing-at holding calls,
+    )

@@ -1,0 +1,120 @@
+-- The account of an accepted packet, by any measure: its body and what all flows kept before is delivered, dropped or kept afterwards. Only the
+-- packet's own flow keeps anything else than before.
+use Prim.Native.Nat.{ℕ, _+_, _<_}
+use mathlib.Core.Path.{_≡_, ap, _∙_}
+use mathlib.Core.Bool.{true, false}
+use mathlib.Core.Logic.{_⊎_, inl, inr}
+use mathlib.Core.List.{List}
+use native.Mathlib.Omega.{arith}
+use lib.Dec.{eqb}
+use borrow.Author.Tests.{eqb-true, eqb-false}
+use Rattle.octets.specs.Stretch.{joined}
+use Rattle.octets.proofs.Counts.{true-or-false}
+use Rattle.flow.specs.declared.Flow.{Flow}
+use Rattle.flow.specs.Flow.{flows}
+use Rattle.packet.specs.Header.{overIp, sub, flowId}
+use Rattle.table.specs.declared.Row.{Row}
+use Rattle.table.specs.Rows.{rows, rowAt, flowAt}
+use Rattle.table.proofs.Keeping.{flows-whole}
+use Rattle.card.specs.Hear.{Heard, recordAfter}
+use Rattle.card.specs.Receive.{Slices, Outcome, asSlices, placeOf, rowOf, toDmpt, flowOf, heldBy, heardBy, received}
+use Rattle.card.specs.History.{Card}
+use Rattle.card.proofs.Hearing.{large-enough}
+use Rattle.card.proofs.Accepted.{Accepted, accepted, flow-there}
+use Rattle.card.proofs.Limits.{accepted-bounded, held-none}
+use Rattle.card.proofs.Step.{framesIn, StepOf, one-flow-step}
+use Rattle.promises.specs.Account.{packetBody}
+use Rattle.promises.proofs.Good.{Good}
+use Rattle.promises.proofs.Fates.{tells, heard-tells}
+use Rattle.promises.proofs.Holdings.{Keeps, keptAt, keptInAll, flow-replaced}
+
+module _ {m : List ℕ → ℕ} {kept : List ℕ → ℕ → Flow → ℕ} (w : Keeps m kept) (c : Card) (good : Good c) (packet out lens : List ℕ) where
+  abbrev slices : Slices
+  slices = asSlices (c .holding) out lens
+
+  abbrev outcome : Outcome
+  outcome = received overIp (c .table) packet slices
+
+  abbrev afterwards : Card
+  afterwards = record { table = outcome .answer .table; holding = outcome .slices .holding }
+
+  abbrev behind : List ℕ
+  behind = sub overIp packet
+
+  abbrev row : ℕ
+  row = rowOf overIp (c .table) packet
+
+  abbrev flow : ℕ
+  flow = flowId behind
+
+  abbrev held : List ℕ
+  held = heldBy (c .table) row behind slices
+
+  abbrev heard : Heard
+  heard = heardBy (c .table) row behind slices
+
+  module _ (z : outcome .answer .code ≡ 0) where
+    passed : Accepted overIp (c .table) packet slices
+    passed = accepted overIp (c .table) packet slices z
+
+    step : StepOf row flow heard (c .table) slices outcome
+    step = one-flow-step overIp (c .table) packet slices (good .shaped) z
+
+    inside : flow < flows
+    inside = flow-there overIp (c .table) packet slices passed
+
+    -- every other flow keeps what it kept
+    record-stays : (i j : ℕ) → (i ≡ row → j ≡ flow → ⊥) → (eqb i row ≡ true) ⊎ (eqb i row ≡ false) →
+        flowAt (rowAt (outcome .answer .table) i) j ≡ flowAt (rowAt (c .table) i) j
+    record-stays i j other (inl e) = let here = eqb-true i row e in rw here (step .other-flows j (other here))
+    record-stays i j other (inr e) = ap (λ (r : Row). flowAt r j) (step .other-rows i (eqb-false i row e))
+
+    others-stay : (i j : ℕ) → i < rows → j < flows → (i ≡ row → j ≡ flow → ⊥) → keptAt kept afterwards i j ≡ keptAt kept c i j
+    others-stay i j l o other =
+        let f = flowAt (rowAt (c .table) i) j in
+        ap (kept (outcome .slices .holding) (placeOf i j)) (record-stays i j other (true-or-false (eqb i row)))
+        ∙ w .untouched (c .holding) (outcome .slices .holding) (placeOf i j) f
+        (step .other-places i j (f .held) l o other (flows-whole (c .table) (good .whole) i j l o .fits))
+
+    -- what its own flow keeps, before and afterwards
+    kept-before : keptAt kept c row flow ≡ m held
+    kept-before =
+        w .inside (c .holding) (placeOf row flow) (flowOf (c .table) row behind)
+        (omega (
+          arith,
+          large-enough slices (passed .large) .holding-enough,
+          passed .found,
+          inside,
+          flows-whole (c .table) (good .whole) row flow (passed .found) inside .fits,
+        ))
+
+    kept-now : keptAt kept afterwards row flow ≡ m (heard .fate .held)
+    kept-now =
+        ap (kept (outcome .slices .holding) (placeOf row flow)) (step .its-record)
+        ∙ w .inside (outcome .slices .holding) (placeOf row flow) (recordAfter heard)
+        (omega (
+          arith,
+          large-enough slices (passed .large) .holding-enough,
+          step .same-lengths .0,
+          passed .found,
+          inside,
+          accepted-bounded overIp (c .table) packet slices passed .held-few,
+        ))
+        ∙ ap m (step .its-place)
+
+    told : tells m (heard .fate) ≡ m held + m (packetBody (toDmpt (c .table) row) behind)
+    told =
+        heard-tells m (w .measure) (toDmpt (c .table) row) (flowOf (c .table) row behind) held behind
+        (held-none overIp (c .table) packet slices passed)
+
+    pub packet-balances : m (packetBody (toDmpt (c .table) row) behind) + keptInAll kept c
+        ≡ m (joined (framesIn outcome)) + m (heard .fate .dropped) + keptInAll kept afterwards
+    packet-balances =
+        omega (
+          arith,
+          ap (λ (l : List (List ℕ)). m (joined l)) (step .frames-found),
+          flow-replaced kept c afterwards row flow (passed .found) inside others-stay,
+          kept-before,
+          kept-now,
+          told,
+        )
