@@ -1,18 +1,21 @@
 -- The marked cases M1 to M12 (document 01, "Marked cases"), one statement over a list. Each case of the receiver begins with an empty card, on which
 -- the session of A is opened; it says what packets come before, which packet is looked at, what is answered, which frames the caller then
--- finds, and which bytes the session then holds in its places.
+-- finds, and which bytes each of the session's four flows then holds in its place. (A and B are for flow 1. Of M6 and M7 the paper gives the number alone: here
+-- the packet is that of M5 with another number.)
 use Prim.Native.Nat.{ℕ, _+_}
 use mathlib.Core.Path.{_≡_}
 use mathlib.Core.List.{List, [], _∷_, _++_}
 use lib.ListN.{take, set, replicate}
 use Rattle.octets.specs.Bytes.{two}
+use Rattle.octets.specs.Stretch.{part}
+use Rattle.octets.specs.Count.{upTo}
 use Rattle.octets.specs.Each.{Each}
+use Rattle.flow.specs.Flow.{flows}
 use Rattle.table.specs.declared.Mode.the-variants as mode
-use Rattle.table.specs.Rows.{find}
-use Rattle.card.specs.Receive.{holdingSize, mostBytes, mostFrames}
+use Rattle.table.specs.Rows.{rowAt, flowAt, find}
+use Rattle.card.specs.Receive.{holdingSize, mostBytes, mostFrames, placeOf}
 use Rattle.card.specs.History.{Card, Call, opens, hands, Answer, framesOf, answer, after, emptyCard}
 use Rattle.sender.specs.Series.{Job, Turn, startOfFrame, seriesPackets}
-use Rattle.promises.specs.Account.{bytesOfRow}
 
 abbrev pub A : List ℕ
 A = 0x00 ∷ 0x00 ∷ 0x01 ∷ 0x01 ∷ 0x41 ∷ 0x02 ∷ 0xFF ∷ 0xFF ∷ 0xC0 ∷ 0x06 ∷ 0x80 ∷ 0x02 ∷ 0x11 ∷ 0x12 ∷ 0x13 ∷ 0x14 ∷ 0x15 ∷ 0x16 ∷ 0x21 ∷ 0x22 ∷ []
@@ -24,7 +27,7 @@ B = 0x00 ∷ 0x00 ∷ 0x01 ∷ 0x01 ∷ 0x41 ∷ 0x01 ∷ 0x00 ∷ 0x00 ∷ 0x40
 abbrev pub single : ℕ → ℕ → ℕ → List ℕ → List ℕ
 single number marks size body = 0x00 ∷ 0x00 ∷ 0x01 ∷ 0x01 ∷ 0x41 ∷ 0x01 ∷ (two number ++ two (marks + size) ++ body)
 
--- one whole frame of 3; the beginning of a frame of n bytes, number 0; the end of one, number 1
+-- one whole frame of 3; the first n bytes of a frame, number 0; a last byte, number 1
 abbrev pub whole3 : ℕ → List ℕ
 whole3 number = single number 0xC000 3 (0x31 ∷ 0x32 ∷ 0x33 ∷ [])
 
@@ -34,7 +37,7 @@ beginning n = single 0 0x8000 n (replicate n 0x44)
 abbrev pub last1 : List ℕ
 last1 = single 1 0x4000 1 (0x55 ∷ [])
 
--- what is seen of a data call: the numbers of its answer, the frames that the caller finds, and the bytes that the session holds afterwards
+-- what is seen of a data call: the numbers of its answer, the frames that the caller finds, and the bytes that each flow of the session holds afterwards
 pub record Seen : Type 0 where
   pub code : ℕ
   pub frames : ℕ
@@ -42,7 +45,11 @@ pub record Seen : Type 0 where
   pub dropped : ℕ
   pub gap : ℕ
   pub found : List (List ℕ)
-  pub held : List ℕ
+  pub held : List (List ℕ)
+
+-- the bytes in the places of a row, flow by flow
+abbrev pub heldByFlow : Card → ℕ → List (List ℕ)
+heldByFlow c r = upTo (λ k. part (c .holding) (placeOf r k) (flowAt (rowAt (c .table) r) k .held)) flows
 
 abbrev pub seenOf : Card → Call → Seen
 seenOf c x =
@@ -53,16 +60,21 @@ seenOf c x =
       dropped = (answer c x) .dropped;
       gap = (answer c x) .gap;
       found = framesOf (answer c x);
-      held = bytesOfRow (after c x) (find ((after c x) .table) 0x101);
+      held = heldByFlow (after c x) (find ((after c x) .table) 0x101);
     }
 
--- accepted: bytes delivered, dropped, gap, the frames found and the bytes held; refused, with the bytes that are held still
+-- flow 1 holds these bytes, and the other flows none
+abbrev pub onFlow1 : List ℕ → List (List ℕ)
+onFlow1 held = [] ∷ held ∷ [] ∷ [] ∷ []
+
+-- accepted: how many frames and bytes are delivered, how many bytes dropped, the gap, the frames found and the bytes held; refused: its number, all counts 0,
+-- no frame, and the bytes that are held still
 abbrev pub accepts : ℕ → ℕ → ℕ → ℕ → List (List ℕ) → List ℕ → Seen
 accepts frames bytes dropped gap found held =
-    record { code = 0; frames = frames; bytes = bytes; dropped = dropped; gap = gap; found = found; held = held }
+    record { code = 0; frames = frames; bytes = bytes; dropped = dropped; gap = gap; found = found; held = onFlow1 held }
 
 abbrev pub refuses : ℕ → List ℕ → Seen
-refuses code held = record { code = code; frames = 0; bytes = 0; dropped = 0; gap = 0; found = []; held = held }
+refuses code held = record { code = code; frames = 0; bytes = 0; dropped = 0; gap = 0; found = []; held = onFlow1 held }
 
 -- a case of the receiver: the packets before, the packet, what is seen; of the sender: what it is asked for, and the packets that it sends
 pub data Case : Type 0 where
@@ -121,3 +133,26 @@ Holds (sends job number turns packets) = seriesPackets job number (startOfFrame 
 -- `marked`
 abbrev pub Marked : Type 0
 Marked = Each Holds cases
+
+-- Beside them, of the same form, what the paper's wrong turns and rules ask for and no marked case shows: a frame begun while bytes are held, without a
+-- gap, drops these; a gap forbids the join though the lengths would suit; of an overlong frame without E nothing is held, its tail neither; and a segment
+-- without B and E joins and is held.
+abbrev pub middle1 : ℕ → List ℕ
+middle1 number = single number 0 1 (0x66 ∷ [])
+
+abbrev pub end1 : ℕ → List ℕ
+end1 number = single number 0x4000 1 (0x55 ∷ [])
+
+abbrev pub besides : List Case
+besides =
+    hears (A ∷ []) (whole3 0) (accepts 1 3 2 0 (of3 ∷ []) [])
+    ∷ hears (A ∷ []) (set B 7 1) (accepts 0 0 9 1 [] [])
+    ∷ hears (beginning 2048 ∷ []) (middle1 1) (accepts 0 0 2049 0 [] [])
+    ∷ hears (beginning 2048 ∷ middle1 1 ∷ []) (end1 2) (accepts 0 0 1 0 [] [])
+    ∷ hears (beginning 2 ∷ []) (middle1 1) (accepts 0 0 0 0 [] (0x44 ∷ 0x44 ∷ 0x66 ∷ []))
+    ∷ hears (beginning 2 ∷ middle1 1 ∷ []) (end1 2) (accepts 1 4 0 0 ((0x44 ∷ 0x44 ∷ 0x66 ∷ 0x55 ∷ []) ∷ []) [])
+    ∷ []
+
+-- `besides-marked`
+abbrev pub BesidesMarked : Type 0
+BesidesMarked = Each Holds besides

@@ -1,0 +1,67 @@
+-- A closed instance of the byte account, of each byte, of never broken and within limits: a history that takes 18 body bytes, delivers 15, holds 3 and then
+-- drops them at the close. It cites definitions alone, so that it can be held against wrong ones.
+use Prim.Native.Nat.{ℕ}
+use mathlib.Core.Path.{_≡_, refl}
+use mathlib.Core.Bool.{true, false}
+use mathlib.Core.List.{List, [], _∷_}
+use lib.ListN.{length, replicate}
+use Rattle.octets.specs.Stretch.{part, rest, put, joined, lengths, cutBy}
+use Rattle.octets.specs.Count.{any, least, sumTo, upTo}
+use Rattle.flow.specs.Numbers.{ahead, next}
+use Rattle.packet.specs.Segments.{bodyAt, segmentAt, segments}
+use Rattle.packet.specs.Psp.{wanted}
+use Rattle.table.specs.declared.Mode.the-variants as mode
+use Rattle.table.specs.Rows.{empty}
+use Rattle.table.specs.Broken.{broken}
+use Rattle.table.specs.Calls.{opened, closed}
+use Rattle.card.specs.Join.{settledBy, settled, fateBy, fate, atGap, inOrder}
+use Rattle.card.specs.Hear.{pspFate, hear}
+use Rattle.card.specs.Receive.{carriedOut, refused, receivedBy, received}
+use Rattle.card.specs.History.{Call, opens, closes, hands, answer, after, afterAll, emptyCard}
+use Rattle.promises.specs.Account.{Lent, tableAfterAll, countedBy, bytesTaken, bytesDelivered, bytesDropped, heldInAll, takenBy, deliveredBy, droppedBy, gathered, bytesHeld}
+use Rattle.promises.specs.Marked.{A, B, single, hand}
+
+-- the beginning of a frame behind a gap of 4
+abbrev begins : List ℕ
+begins = single 5 0x8000 3 (0x71 ∷ 0x72 ∷ 0x73 ∷ [])
+
+-- each call with a holding slice of its own: an open with none, A, B with one that is a byte short (1), B with another one, a beginning behind a gap
+abbrev with-slice : List ℕ → Call → Lent
+with-slice holding x = record { holding = holding; call = x }
+
+abbrev slices-change : List Lent
+slices-change =
+    with-slice [] (opens mode.Psp 0x101)
+    ∷ with-slice (replicate 49152 0) (hand A)
+    ∷ with-slice (replicate 49151 0) (hand B)
+    ∷ with-slice (replicate 49152 9) (hand B)
+    ∷ with-slice (replicate 49152 0) (hand begins)
+    ∷ []
+
+byte-account-instance : (countedBy bytesTaken empty slices-change ≡ 18)
+    × (countedBy bytesDelivered empty slices-change ≡ 15)
+    × (countedBy bytesDropped empty slices-change ≡ 0)
+    × (heldInAll (tableAfterAll empty slices-change) ≡ 3)
+unfolding part rest put joined lengths cutBy any least sumTo upTo ahead next bodyAt segmentAt segments wanted broken opened settledBy settled fateBy fate atGap inOrder pspFate hear carriedOut refused receivedBy received answer after countedBy tableAfterAll
+byte-account-instance = (refl, refl, refl, refl)
+
+never-broken-instance : (broken (tableAfterAll empty slices-change) ≡ false) × (length (tableAfterAll empty slices-change .rows) ≡ 6)
+unfolding part rest put joined lengths cutBy any least sumTo upTo ahead next bodyAt segmentAt segments wanted broken opened settledBy settled fateBy fate atGap inOrder pspFate hear carriedOut refused receivedBy received answer after tableAfterAll
+never-broken-instance = (refl, refl)
+
+-- one slice through all calls, and the close: which bytes come in, are delivered, are dropped, and that none is held at the end
+abbrev calls : List Call
+calls = opens mode.Psp 0x101 ∷ hand A ∷ hand B ∷ hand begins ∷ closes 0x101 ∷ []
+
+each-byte-instance : (gathered takenBy (emptyCard (replicate 49152 0)) calls
+    ≡ 0x11 ∷ 0x12 ∷ 0x13 ∷ 0x14 ∷ 0x15 ∷ 0x16 ∷ 0x21 ∷ 0x22 ∷ 0x23 ∷ 0x24 ∷ 0x25 ∷ 0x26 ∷ 0x27 ∷ 0x28 ∷ 0x29 ∷ 0x71 ∷ 0x72 ∷ 0x73 ∷ [])
+    × (gathered deliveredBy (emptyCard (replicate 49152 0)) calls
+    ≡ 0x11 ∷ 0x12 ∷ 0x13 ∷ 0x14 ∷ 0x15 ∷ 0x16 ∷ 0x21 ∷ 0x22 ∷ 0x23 ∷ 0x24 ∷ 0x25 ∷ 0x26 ∷ 0x27 ∷ 0x28 ∷ 0x29 ∷ [])
+    × (gathered droppedBy (emptyCard (replicate 49152 0)) calls ≡ 0x71 ∷ 0x72 ∷ 0x73 ∷ [])
+    × (bytesHeld (afterAll (emptyCard (replicate 49152 0)) calls) ≡ [])
+unfolding part rest put joined lengths cutBy any least sumTo upTo ahead next bodyAt segmentAt segments wanted broken opened closed settledBy settled fateBy fate atGap inOrder pspFate hear carriedOut refused receivedBy received answer after afterAll gathered
+each-byte-instance = (refl, refl, refl, refl)
+
+closed-unbroken : broken (afterAll (emptyCard (replicate 49152 0)) calls .table) ≡ false
+unfolding part rest put joined lengths cutBy any least sumTo upTo ahead next bodyAt segmentAt segments wanted broken opened closed settledBy settled fateBy fate atGap inOrder pspFate hear carriedOut refused receivedBy received answer after afterAll
+closed-unbroken = refl

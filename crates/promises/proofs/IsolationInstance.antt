@@ -1,0 +1,85 @@
+-- Closed instances of isolation and of open-by-ids: one session, told the same whether it is alone on the card or among others; and opens on two tables with the
+-- same open IDs in other rows. It cites definitions alone, so that it can be held against wrong ones.
+use Prim.Native.Nat.{ℕ}
+use mathlib.Core.Path.{_≡_, refl}
+use mathlib.Core.Bool.{true, false}
+use mathlib.Core.List.{List, [], _∷_}
+use lib.ListN.{replicate}
+use Rattle.octets.specs.Stretch.{part, rest, put, joined, lengths, cutBy}
+use Rattle.octets.specs.Count.{any, least, sumTo, upTo}
+use Rattle.flow.specs.Numbers.{ahead, next}
+use Rattle.packet.specs.Segments.{bodyAt, segmentAt, segments}
+use Rattle.packet.specs.Psp.{wanted}
+use Rattle.table.specs.declared.Mode.the-variants as mode
+use Rattle.table.specs.Broken.{broken}
+use Rattle.table.specs.Calls.{isOpen, opened, closed}
+use Rattle.card.specs.Join.{settledBy, settled, fateBy, fate, atGap, inOrder}
+use Rattle.card.specs.Hear.{pspFate, hear}
+use Rattle.card.specs.Receive.{carriedOut, refused, receivedBy, received}
+use Rattle.card.specs.History.{Card, Call, opens, closes, hands, answer, after, afterAll}
+use Rattle.promises.specs.Isolation.{own, Told, told, cardAfter}
+use Rattle.promises.specs.Marked.{A, B, hand, of6, of9}
+
+-- A and B, then the half of a frame, then the close: alone in row 0
+abbrev half-a-frame : List ℕ
+half-a-frame = 0x00 ∷ 0x00 ∷ 0x01 ∷ 0x01 ∷ 0x42 ∷ 0x01 ∷ 0x00 ∷ 0x09 ∷ 0x80 ∷ 0x02 ∷ 0x81 ∷ 0x82 ∷ []
+
+abbrev alone-calls : List Call
+alone-calls = hand A ∷ hand B ∷ hand half-a-frame ∷ closes 0x101 ∷ []
+
+-- the same among others, in row 1: session 0x102 hears the like on its own flow 1 and is closed; what is lent is as long, but not the same
+abbrev to-102 : List ℕ
+to-102 = 0x00 ∷ 0x00 ∷ 0x01 ∷ 0x02 ∷ 0x41 ∷ 0x01 ∷ 0xFF ∷ 0xFF ∷ 0x80 ∷ 0x03 ∷ 0x91 ∷ 0x92 ∷ 0x93 ∷ []
+
+abbrev hand-other : List ℕ → Call
+hand-other packet = hands packet (replicate 6144 7) (replicate 127 8)
+
+abbrev among-others : List Call
+among-others =
+    hand-other A ∷ hand to-102 ∷ hand-other B ∷ closes 0x102 ∷ opens mode.Psp 0x103 ∷ hand-other half-a-frame ∷ closes 0x101 ∷ hand A ∷ []
+
+abbrev others-first : List Call
+others-first = opens mode.Psp 0x102 ∷ hand to-102 ∷ []
+
+same-own : own 0x101 alone-calls ≡ own 0x101 among-others
+unfolding rest own
+same-own = refl
+
+opens-both : (answer (cardAfter (replicate 49152 0) []) (opens mode.Psp 0x101) .code ≡ 0)
+    × (answer (cardAfter (replicate 49152 5) others-first) (opens mode.Psp 0x101) .code ≡ 0)
+unfolding part rest put joined lengths any least sumTo upTo ahead next bodyAt segmentAt segments wanted broken opened settledBy settled fateBy fate atGap inOrder pspFate hear carriedOut refused receivedBy received answer after afterAll
+opens-both = (refl, refl)
+
+abbrev answered : List Told
+answered =
+    record { code = 0; frames = 1; bytes = 6; dropped = 0; gap = 0; output = of6; lengths = 6 ∷ [] }
+    ∷ record { code = 0; frames = 1; bytes = 9; dropped = 0; gap = 0; output = of9; lengths = 9 ∷ [] }
+    ∷ record { code = 0; frames = 0; bytes = 0; dropped = 0; gap = 0; output = []; lengths = [] }
+    ∷ record { code = 0; frames = 0; bytes = 0; dropped = 2; gap = 0; output = []; lengths = [] }
+    ∷ []
+
+isolation-instance : (told 0x101 (after (cardAfter (replicate 49152 0) []) (opens mode.Psp 0x101)) alone-calls ≡ answered)
+    × (told 0x101 (after (cardAfter (replicate 49152 5) others-first) (opens mode.Psp 0x101)) among-others ≡ answered)
+unfolding part rest put joined lengths any least sumTo upTo ahead next bodyAt segmentAt segments wanted broken opened closed settledBy settled fateBy fate atGap inOrder pspFate hear carriedOut refused receivedBy received answer after afterAll told
+isolation-instance = (refl, refl)
+
+-- Session 2 is open in row 1 of the one table and in row 0 of the other, and no other session in either: opening 3 succeeds, opening 2 again and opening 0 does not.
+-- With six open, a seventh is refused.
+abbrev in-row-1 : Card
+in-row-1 = cardAfter [] (opens mode.Psp 1 ∷ opens mode.Dmpt 2 ∷ closes 1 ∷ [])
+
+abbrev in-row-0 : Card
+in-row-0 = cardAfter [] (opens mode.Psp 2 ∷ [])
+
+open-by-ids-instance : (answer in-row-1 (opens mode.Psp 3) .code ≡ 0)
+    × (answer in-row-0 (opens mode.Psp 3) .code ≡ 0)
+    × (answer in-row-1 (opens mode.Psp 2) .code ≡ 22)
+    × (answer in-row-0 (opens mode.Psp 2) .code ≡ 22)
+    × (answer in-row-1 (opens mode.Psp 0) .code ≡ 21)
+    × (answer (cardAfter [] (opens mode.Psp 1 ∷ opens mode.Psp 2 ∷ opens mode.Psp 3 ∷ opens mode.Dmpt 4 ∷ opens mode.Psp 5 ∷ opens mode.Psp 6 ∷ [])) (opens mode.Psp 7) .code ≡ 23)
+    × (isOpen (in-row-1 .table) 2 ≡ true)
+    × (isOpen (in-row-0 .table) 2 ≡ true)
+    × (isOpen (in-row-1 .table) 1 ≡ false)
+    × (isOpen (in-row-0 .table) 1 ≡ false)
+unfolding any least sumTo broken opened closed answer after afterAll
+open-by-ids-instance = (refl, refl, refl, refl, refl, refl, refl, refl, refl, refl)
