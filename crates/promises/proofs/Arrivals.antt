@@ -21,10 +21,11 @@ use Rattle.packet.specs.Segments.{Segment}
 use Rattle.card.specs.Hear.{judgedOf}
 use Rattle.sender.specs.Rules.{segmentsOf}
 use Rattle.promises.specs.Arrivals.{WithinBound, Window, inTime}
-use Rattle.promises.proofs.Alone.{framesAlone}
+use Rattle.promises.proofs.Readings.{framesRead}
+use Rattle.promises.proofs.Alone.{readAlone, framesAlone}
 use Rattle.promises.proofs.InTime.{in-time-after, in-time-before, in-time-at, in-time-none}
 use Rattle.promises.proofs.Given.{given, left, behind, behind-nothing}
-use Rattle.promises.proofs.Hearing.{listening, alone-late, alone-heard}
+use Rattle.promises.proofs.Hearing.{listening, alone-late, frames-heard}
 
 -- a packet that came gives what its segments give; one that is missing gives nothing and leaves nothing held
 abbrev pub gives : Bool → List ℕ → List Segment → List (List ℕ)
@@ -82,18 +83,19 @@ ahead packets n x held xs from there =
     (same-from (inTime (x ∷ xs)) (inTime xs) (suc x) (left (behind (x - n) held) (segmentsOf (getD packets x []))) (drop (suc x) packets)
     (λ k l. in-time-after x xs k l)))
 
+-- a flow that accepted the number of a place expects that of the next place
+pub next-place : (start x : ℕ) → next (numberAt start x) ≡ numberAt start (suc x)
+next-place start x = numberAt-next start x ∙ ap (numberAt start) (add-one x)
+
 module _ (start : ℕ) (packets : List (List ℕ)) (by-place : (f : Flow) (x : ℕ) → x < length packets → judgedOf f (sub overIp (getD packets x [])) ≡ judge f (numberAt start x)) where
   abbrev those : List ℕ → List (List ℕ)
   those xs = map (λ x. getD packets x []) xs
-
-  next-place : (x : ℕ) → next (numberAt start x) ≡ numberAt start (suc x)
-  next-place x = numberAt-next start x ∙ ap (numberAt start) (add-one x)
 
   -- `expected` is the place that the flow waits for
   arrivals-along : (f : Flow) (expected : ℕ) (held : List ℕ) (xs : List ℕ) → f .heard ≡ true → f .expected ≡ numberAt start expected →
       Each (λ x. x < length packets) xs → WithinBound expected xs →
       framesAlone f held (those xs) ≡ along (inTime xs) expected held (drop expected packets)
-  unfolding framesAlone
+  unfolding readAlone
   arrivals-along f expected held [] hears waits sent within = sym (none-from (inTime []) expected held (drop expected packets) in-time-none)
   arrivals-along f expected held (x ∷ xs) hears waits sent within =
       pick (λ g held′ h w v. arrivals-along g (suc x) held′ xs h w (sent .1) v) (λ v. arrivals-along f expected held xs hears waits (sent .1) v)
@@ -107,25 +109,25 @@ module _ (start : ℕ) (packets : List (List ℕ)) (by-place : (f : Flow) (x : �
           let l : expected ≤ x = leb-true expected x e in
           let m : max expected (suc x) ≡ suc x = omega arith in
           let rest : List ℕ = left (behind (x - expected) held) (segmentsOf (getD packets x [])) in
-          alone-heard f held (getD packets x []) (those xs) (numberAt start x) (x - expected)
+          frames-heard f held (getD packets x []) (those xs) (numberAt start x) (x - expected)
           (by-place f x (sent .0) ∙ judge-forward f start expected hears waits x l (within .0))
           ∙ ap (λ r. given (behind (x - expected) held) (segmentsOf (getD packets x [])) ++ r)
-          (on (listening (numberAt start x) rest) rest refl (next-place x) (rw m at (within .2)))
+          (on (listening (numberAt start x) rest) rest refl (next-place start x) (rw m at (within .2)))
           ∙ sym (ahead packets expected x held xs l (sent .0))
       pick on stay false e =
           let l : x < expected = leb-false expected x e in
           let m : max expected (suc x) ≡ expected = omega arith in
-          alone-late f held (getD packets x []) (those xs) (by-place f x (sent .0) ∙ judge-behind f start expected hears waits x l (within .1))
+          alone-late framesRead f held (getD packets x []) (those xs) (by-place f x (sent .0) ∙ judge-behind f start expected hears waits x l (within .1))
           ∙ stay (rw m at (within .2))
           ∙ sym (same-from (inTime (x ∷ xs)) (inTime xs) expected held (drop expected packets) (λ k i. in-time-after x xs k (omega arith)))
 
   -- a fresh flow takes any first place
   pub window-along : (xs : List ℕ) → Each (λ x. x < length packets) xs → Window xs → framesAlone fresh [] (those xs) ≡ along (inTime xs) 0 [] packets
-  unfolding framesAlone
+  unfolding readAlone
   window-along [] sent window = sym (none-from (inTime []) 0 [] packets in-time-none)
   window-along (x ∷ xs) sent window =
       let rest : List ℕ = left [] (segmentsOf (getD packets x [])) in
-      alone-heard fresh [] (getD packets x []) (those xs) (numberAt start x) 0 (by-place fresh x (sent .0))
+      frames-heard fresh [] (getD packets x []) (those xs) (numberAt start x) 0 (by-place fresh x (sent .0))
       ∙ ap (λ r. given [] (segmentsOf (getD packets x [])) ++ r)
-      (arrivals-along (listening (numberAt start x) rest) (suc x) rest xs refl (next-place x) (sent .1) window)
+      (arrivals-along (listening (numberAt start x) rest) (suc x) rest xs refl (next-place start x) (sent .1) window)
       ∙ sym (rw (behind-nothing (x - 0)) at (ahead packets 0 x [] xs (omega arith) (sent .0)))

@@ -7,38 +7,39 @@ use native.Mathlib.Omega.{arith}
 use lib.ListN.{length, getD}
 use Rattle.octets.specs.Each.{Each}
 use Rattle.flow.specs.Flow.{fresh, flows}
-use Rattle.packet.specs.Header.{overIp, sub, flowId}
+use Rattle.packet.specs.Header.{overIp}
 use Rattle.packet.specs.Check.{kindPsp, check}
 use Rattle.packet.proofs.Passing.{check-passed}
 use Rattle.table.specs.declared.Mode.the-variants as mode
 use Rattle.card.specs.Receive.{holdingSize}
-use Rattle.card.specs.History.{Card, Call, opens, closes, hands, framesOf, answer, after, afterAll, emptyCard}
+use Rattle.card.specs.History.{Card, Call, opens, closes, hands, answer, after, afterAll, emptyCard}
 use Rattle.sender.specs.Rules.{Addressed}
-use Rattle.promises.specs.Words.{ofFlow, packetsTo, framesOut}
+use Rattle.promises.specs.Words.{ofFlow, packetsTo}
 use Rattle.promises.specs.Arrivals.{Kept}
-use Rattle.promises.specs.Demand.{Sending, Run, openedCard, comesOut, WholeIn, Demand3, FewerLost}
-use Rattle.promises.proofs.Alone.{framesAlone}
+use Rattle.promises.specs.Demand.{Sending, Run, openedCard, WholeIn, Demand3, FewerLost}
+use Rattle.promises.proofs.Readings.{Reading, readOut, framesRead, frames-read}
+use Rattle.promises.proofs.Alone.{readAlone}
 use Rattle.promises.proofs.Good.{Good, good-empty, good-all, good-after, holding-kept, holding-kept-all}
 use Rattle.promises.proofs.Steps.{stands-opened}
 use Rattle.promises.proofs.Passed.{each-at}
 use Rattle.promises.proofs.OneFlow.{flow-demand}
-use Rattle.promises.proofs.Histories.{history-frames}
+use Rattle.promises.proofs.Histories.{history-read}
 use Rattle.promises.proofs.Fewer.{fewer-by-demand}
 
 not-empty : {x : List ℕ} {l : List (List ℕ)} → _≡_ {A = List (List ℕ)} (x ∷ l) [] → ⊥
 not-empty e = let z = ap length e in omega arith
 
--- a flow that gets no packet delivers nothing
-none-out : (session flow : ℕ) (c : Card) (calls : List Call) → packetsTo session flow calls ≡ [] → framesOut session flow c calls ≡ []
-unfolding packetsTo framesOut
-none-out session flow c [] e = refl
-none-out session flow c (opens asked id ∷ more) e = none-out session flow (after c (opens asked id)) more e
-none-out session flow c (closes id ∷ more) e = none-out session flow (after c (closes id)) more e
-none-out session flow c (hands packet out lens ∷ more) e = by (ofFlow session flow packet) e (none-out session flow (after c (hands packet out lens)) more)
+-- nothing is read off a flow that gets no packet
+none-out : {A : Type 0} (w : Reading A) (session flow : ℕ) (c : Card) (calls : List Call) → packetsTo session flow calls ≡ [] → readOut w session flow c calls ≡ []
+unfolding packetsTo readOut
+none-out w session flow c [] e = refl
+none-out w session flow c (opens asked id ∷ more) e = none-out w session flow (after c (opens asked id)) more e
+none-out w session flow c (closes id ∷ more) e = none-out w session flow (after c (closes id)) more e
+none-out w session flow c (hands packet out lens ∷ more) e = by (ofFlow session flow packet) e (none-out w session flow (after c (hands packet out lens)) more)
   where
     by : (t : Bool) → cond t (packet ∷ packetsTo session flow more) (packetsTo session flow more) ≡ [] →
-        (packetsTo session flow more ≡ [] → framesOut session flow (after c (hands packet out lens)) more ≡ []) →
-        cond t (framesOf (answer c (hands packet out lens))) [] ++ framesOut session flow (after c (hands packet out lens)) more ≡ []
+        (packetsTo session flow more ≡ [] → readOut w session flow (after c (hands packet out lens)) more ≡ []) →
+        cond t (w .of-answer (answer c (hands packet out lens))) [] ++ readOut w session flow (after c (hands packet out lens)) more ≡ []
     by true e′ behind = absurd (not-empty e′)
     by false e′ behind = behind e′
 
@@ -92,22 +93,27 @@ module _ (s : Sending) (r : Run s) where
       let low = check-passed overIp p (each-at (λ q. check overIp kindPsp q ≡ 0) (s .packets) x [] (s .keeps-rules .passing) l) .1 .in-row in
       omega (arith, to .1, low)
 
-  alone : (arrivals : List ℕ) → Each (λ x. x < length (s .packets)) arrivals → packetsTo (s .session) (s .flow) (r .calls) ≡ map (λ x. getD (s .packets) x []) arrivals →
-      comesOut s r ≡ framesAlone fresh [] (map (λ x. getD (s .packets) x []) arrivals)
-  unfolding framesAlone
-  alone [] sent these = none-out (s .session) (s .flow) (openedCard s r) (r .calls) these
-  alone (x ∷ more) sent these =
-      let inside = in-a-row x (sent .0) in
-      let c = afterAll (emptyCard (r .holding)) (r .before) in
-      let stands = stands-opened c (s .session) (s .flow) mode.Psp (good-all (emptyCard (r .holding)) (r .before) (good-empty (r .holding))) inside (r .opens-now) in
-      history-frames (s .session) (s .flow) (openedCard s r) (r .calls) fresh [] inside good large stands (r .stays-open) (r .long-enough .1)
-      (subst (λ (l : List (List ℕ)). Each (λ p. check overIp kindPsp p ≡ 0) l) (sym these) (passing-at (x ∷ more) sent))
-      ∙ ap (framesAlone fresh []) these
+  -- what is read off the flow in the run is what it makes of the arrivals by itself
+  module _ {A : Type 0} (w : Reading A) where
+    alone : (arrivals : List ℕ) → Each (λ x. x < length (s .packets)) arrivals → packetsTo (s .session) (s .flow) (r .calls) ≡ map (λ x. getD (s .packets) x []) arrivals →
+        readOut w (s .session) (s .flow) (openedCard s r) (r .calls) ≡ readAlone w fresh [] (map (λ x. getD (s .packets) x []) arrivals)
+    unfolding readAlone
+    alone [] sent these = none-out w (s .session) (s .flow) (openedCard s r) (r .calls) these
+    alone (x ∷ more) sent these =
+        let inside = in-a-row x (sent .0) in
+        let c = afterAll (emptyCard (r .holding)) (r .before) in
+        let stands = stands-opened c (s .session) (s .flow) mode.Psp (good-all (emptyCard (r .holding)) (r .before) (good-empty (r .holding))) inside (r .opens-now) in
+        history-read w (s .session) (s .flow) (openedCard s r) (r .calls) fresh [] inside good large stands (r .stays-open) (r .long-enough .1)
+        (subst (λ (l : List (List ℕ)). Each (λ p. check overIp kindPsp p ≡ 0) l) (sym these) (passing-at (x ∷ more) sent))
+        ∙ ap (readAlone w fresh []) these
+
+    pub run-read : readOut w (s .session) (s .flow) (openedCard s r) (r .calls) ≡ readAlone w fresh [] (map (λ x. getD (s .packets) x []) (r .arrivals))
+    run-read = alone (r .arrivals) all-sent (r .only-these)
 
 -- The theorem, and what follows from it where packets are only lost.
 pub demand-3 : Demand3
 demand-3 s r =
-    subst (Kept (WholeIn s r) 0 (s .frames)) (sym (alone s r (r .arrivals) (all-sent s r) (r .only-these)))
+    subst (Kept (WholeIn s r) 0 (s .frames)) (sym (frames-read (s .session) (s .flow) (openedCard s r) (r .calls) ∙ run-read s r framesRead))
     (flow-demand (s .session) (s .flow) (s .start) (s .frames) (s .unfinished) (s .packets) (r .arrivals) (s .keeps-rules) (all-sent s r) (r .in-window))
 
 pub fewer-lost : FewerLost

@@ -10,30 +10,40 @@ use Rattle.flow.specs.declared.Judged.{Judged}
 use Rattle.flow.specs.Numbers.{next}
 use Rattle.flow.specs.Flow.{accepted, tooLate}
 use Rattle.packet.specs.Header.{overIp, sub}
-use Rattle.card.specs.Hear.{judgedOf, fateOf, hear}
+use Rattle.card.specs.Hear.{Heard, judgedOf, fateOf, hear, recordAfter}
 use Rattle.sender.specs.Rules.{segmentsOf}
-use Rattle.promises.proofs.Alone.{framesAlone}
+use Rattle.promises.proofs.Readings.{Reading, framesRead}
+use Rattle.promises.proofs.Alone.{readAlone, framesAlone}
 use Rattle.promises.proofs.Given.{given, left, behind, packet-gives, packet-leaves}
 
 -- the record of a flow that accepted number n and holds these bytes
 abbrev pub listening : ℕ → List ℕ → Flow
 listening n held = record { heard = true; expected = next n; held = length held }
 
-module _ (f : Flow) (held packet : List ℕ) (more : List (List ℕ)) where
-  -- by the judgement of the packet
-  abbrev by : Judged → List (List ℕ)
-  by j =
-      let r = fateOf false (j .gap) held (sub overIp packet) in
-      let becomes : Flow = record { heard = j .flow .heard; expected = j .flow .expected; held = length (r .held) } in
-      cond (j .late) (framesAlone f held more) (r .delivered ++ framesAlone becomes (r .held) more)
+-- what is heard, by the judgement of the packet
+abbrev pub heardAs : List ℕ → List ℕ → Judged → Heard
+heardAs held packet j = record { judged = j; fate = fateOf false (j .gap) held (sub overIp packet) }
 
-  pub alone-late : judgedOf f (sub overIp packet) ≡ tooLate f → framesAlone f held (packet ∷ more) ≡ framesAlone f held more
-  unfolding framesAlone hear
+module _ {A : Type 0} (w : Reading A) (f : Flow) (held packet : List ℕ) (more : List (List ℕ)) where
+  abbrev by : Judged → List A
+  by j =
+      let h = heardAs held packet j in
+      cond (j .late) (w .of-late ++ readAlone w f held more) (w .of-heard h ++ readAlone w (recordAfter h) (h .fate .held) more)
+
+  pub alone-late : judgedOf f (sub overIp packet) ≡ tooLate f → readAlone w f held (packet ∷ more) ≡ w .of-late ++ readAlone w f held more
+  unfolding readAlone hear
   alone-late e = ap by e
 
   pub alone-heard : (n gap : ℕ) → judgedOf f (sub overIp packet) ≡ accepted f n gap →
-      framesAlone f held (packet ∷ more)
-      ≡ given (behind gap held) (segmentsOf packet)
-      ++ framesAlone (listening n (left (behind gap held) (segmentsOf packet))) (left (behind gap held) (segmentsOf packet)) more
-  unfolding framesAlone hear
-  alone-heard n gap e = ap by e ∙ rw (packet-gives gap held (segmentsOf packet), packet-leaves gap held (segmentsOf packet))
+      let h = heardAs held packet (accepted f n gap) in
+      readAlone w f held (packet ∷ more) ≡ w .of-heard h ++ readAlone w (recordAfter h) (h .fate .held) more
+  unfolding readAlone hear
+  alone-heard n gap e = ap by e
+
+-- the frames of one that is accepted
+pub frames-heard : (f : Flow) (held packet : List ℕ) (more : List (List ℕ)) (n gap : ℕ) → judgedOf f (sub overIp packet) ≡ accepted f n gap →
+    framesAlone f held (packet ∷ more)
+    ≡ given (behind gap held) (segmentsOf packet)
+    ++ framesAlone (listening n (left (behind gap held) (segmentsOf packet))) (left (behind gap held) (segmentsOf packet)) more
+frames-heard f held packet more n gap e =
+    alone-heard framesRead f held packet more n gap e ∙ rw (packet-gives gap held (segmentsOf packet), packet-leaves gap held (segmentsOf packet))

@@ -1,11 +1,10 @@
--- Whatever is called in a history, what comes out of one PSP flow is what the flow by itself makes of its packets: each call either hands it its
--- next packet, or leaves it as it was.
+-- Whatever is called in a history, what is read off the calls for one PSP flow is what the flow by itself makes of its packets: each call either hands it
+-- its next packet, or leaves it as it was.
 use Prim.Native.Nat.{ℕ, _<_, _≤_}
 use mathlib.Core.Path.{_≡_, refl, sym, ap, _∙_}
-use mathlib.Core.Bool.{Bool, true, false, cond, _||_}
+use mathlib.Core.Bool.{Bool, true, false, cond}
 use mathlib.Core.List.{List, [], _∷_, _++_}
 use native.Mathlib.Omega.{arith}
-use lib.Dec.{eqb, ltb}
 use lib.ListN.{length}
 use borrow.Author.Tests.{le-ltb}
 use Rattle.refusal.specs.Refusal.{first}
@@ -22,10 +21,10 @@ use Rattle.packet.specs.Check.{kindPsp, checkRefusals, check}
 use Rattle.table.specs.declared.Kind.the-variants as kind
 use Rattle.card.specs.Hear.{judgedOf, recordAfter}
 use Rattle.card.specs.Receive.{holdingSize, mostFrames, mostBytes, asSlices, tooSmall, framesFound}
-use Rattle.card.specs.History.{Card, Call, opens, closes, hands, framesOf, answer, after}
-use Rattle.promises.specs.Words.{ofFlow, handsTo, closesIt, packetsTo, framesOut, Room, StaysOpen}
-use Rattle.promises.specs.Refusals.{RefusalsChangeNothing}
-use Rattle.promises.proofs.Alone.{heardAlone, framesAlone}
+use Rattle.card.specs.History.{Card, Call, opens, closes, hands, answer, after}
+use Rattle.promises.specs.Words.{ofFlow, handsTo, closesIt, packetsTo, Room, StaysOpen}
+use Rattle.promises.proofs.Readings.{Reading, readOut}
+use Rattle.promises.proofs.Alone.{heardAlone, readAlone}
 use Rattle.promises.proofs.Good.{Good, good-after, holding-kept, refused-stays}
 use Rattle.promises.proofs.Refusals.{refusals-change-nothing}
 use Rattle.promises.proofs.Steps.{Stands, stands-stay, stands-heard, hands-code}
@@ -74,72 +73,80 @@ module _ (session flow : ℕ) (inside : flow < flows) where
         let p = psp-check packet passes in
         hands-code c packet out lens session flow kind.Psp f held (h .good) (h .stands) of-it (enough (c .holding) out lens (h .large) (room .0) (room .1)) (p .0) (p .1)
 
-    late-frames : (judgedOf f (sub overIp packet)) .late ≡ true → (after c x ≡ c) × (framesOf (answer c x) ≡ [])
-    late-frames late =
-        let refused : ((answer c x) .code ≡ 0 → ⊥) = λ z. twelve (sym z ∙ its-code ∙ ap (λ (b : Bool). cond b 12 0) late) in
-        (refused-stays c x refused, none-found ((answer c x) .frames) ((answer c x) .lengths) ((answer c x) .output) (refusals-change-nothing .counts c x refused .0))
+    -- what is read off a late packet, and off one that is heard
+    module _ {A : Type 0} (w : Reading A) where
+      read-late : (judgedOf f (sub overIp packet)) .late ≡ true → (after c x ≡ c) × (w .of-answer (answer c x) ≡ w .of-late)
+      read-late late =
+          let by : ((answer c x) .code ≡ 12) = its-code ∙ ap (λ (b : Bool). cond b 12 0) late in
+          let refused : ((answer c x) .code ≡ 0 → ⊥) = λ z. twelve (sym z ∙ by) in
+          let none = refusals-change-nothing .counts c x refused in (
+            refused-stays c x refused,
+            w .when-late (answer c x) by (none-found ((answer c x) .frames) ((answer c x) .lengths) ((answer c x) .output) (none .0)) (none .3),
+          )
+        where
+          twelve : _≡_ {A = ℕ} 0 12 → ⊥
+          twelve e = omega arith
+
+      read-heard : (judgedOf f (sub overIp packet)) .late ≡ false →
+          Hears (after c x) (recordAfter (heardAlone f held packet)) ((heardAlone f held packet) .fate .held)
+          × (w .of-answer (answer c x) ≡ w .of-heard (heardAlone f held packet))
+      read-heard in-time =
+          let by : ((answer c x) .code ≡ 0) = its-code ∙ ap (λ (b : Bool). cond b 12 0) in-time in
+          let heard = stands-heard c packet out lens session flow kind.Psp f held (h .good) inside (h .stands) of-it by in (
+            record {
+              good = good-after c x (h .good);
+              large = omega (arith, h .large, holding-kept c x (h .good));
+              stands = heard .0;
+            },
+            w .when-heard (answer c x) (heardAlone f held packet) by (heard .1) (heard .2),
+          )
+
+  module _ {A : Type 0} (w : Reading A) where
+    abbrev Goes : List Call → Type 0
+    Goes calls = (c : Card) (f : Flow) (held : List ℕ) → Hears c f held → readOut w session flow c calls ≡ readAlone w f held (packetsTo session flow calls)
+
+    hands-goes : (packet out lens : List ℕ) (more : List Call) → (handsTo session flow (hands packet out lens) ≡ true → Room (hands packet out lens)) →
+        Goes more → (t : Bool) → ofFlow session flow packet ≡ t → Each (λ p. check overIp kindPsp p ≡ 0) (cond t (packet ∷ packetsTo session flow more) (packetsTo session flow more)) →
+        (c : Card) (f : Flow) (held : List ℕ) → Hears c f held →
+        cond t (w .of-answer (answer c (hands packet out lens))) [] ++ readOut w session flow (after c (hands packet out lens)) more
+        ≡ readAlone w f held (cond t (packet ∷ packetsTo session flow more) (packetsTo session flow more))
+    unfolding readAlone
+    hands-goes packet out lens more room goes false e passing c f held h =
+        goes (after c (hands packet out lens)) f held (stays c (hands packet out lens) f held h e refl)
+    hands-goes packet out lens more room goes true e passing c f held h = judged ((judgedOf f (sub overIp packet)) .late) refl
       where
-        twelve : _≡_ {A = ℕ} 0 12 → ⊥
-        twelve e = omega arith
+        judged : (late : Bool) → (judgedOf f (sub overIp packet)) .late ≡ late →
+            w .of-answer (answer c (hands packet out lens)) ++ readOut w session flow (after c (hands packet out lens)) more
+            ≡ cond late (w .of-late ++ readAlone w f held (packetsTo session flow more))
+            (w .of-heard (heardAlone f held packet) ++ readAlone w (recordAfter (heardAlone f held packet)) ((heardAlone f held packet) .fate .held) (packetsTo session flow more))
+        judged true late =
+            let none = read-late c packet out lens f held h e (room e) (passing .0) w late in
+            rw (none .0, none .1) (ap (λ (l : List A). w .of-late ++ l) (goes c f held h))
+        judged false late =
+            let heard = read-heard c packet out lens f held h e (room e) (passing .0) w late in
+            rw (heard .1) (ap (λ (l : List A). w .of-heard (heardAlone f held packet) ++ l) (goes (after c (hands packet out lens)) (recordAfter (heardAlone f held packet)) ((heardAlone f held packet) .fate .held) (heard .0)))
 
-    on-time : (judgedOf f (sub overIp packet)) .late ≡ false →
-        Hears (after c x) (recordAfter (heardAlone f held packet)) ((heardAlone f held packet) .fate .held)
-        × (framesOf (answer c x) ≡ (heardAlone f held packet) .fate .delivered)
-    on-time in-time =
-        let heard = stands-heard c packet out lens session flow kind.Psp f held (h .good) inside (h .stands) of-it (its-code ∙ ap (λ (b : Bool). cond b 12 0) in-time) in (
-          record {
-            good = good-after c x (h .good);
-            large = omega (arith, h .large, holding-kept c x (h .good));
-            stands = heard .0;
-          },
-          heard .1,
-        )
-
-  abbrev Goes : List Call → Type 0
-  Goes calls = (c : Card) (f : Flow) (held : List ℕ) → Hears c f held → framesOut session flow c calls ≡ framesAlone f held (packetsTo session flow calls)
-
-  hands-goes : (packet out lens : List ℕ) (more : List Call) → (handsTo session flow (hands packet out lens) ≡ true → Room (hands packet out lens)) →
-      Goes more → (t : Bool) → ofFlow session flow packet ≡ t → Each (λ p. check overIp kindPsp p ≡ 0) (cond t (packet ∷ packetsTo session flow more) (packetsTo session flow more)) →
-      (c : Card) (f : Flow) (held : List ℕ) → Hears c f held →
-      cond t (framesOf (answer c (hands packet out lens))) [] ++ framesOut session flow (after c (hands packet out lens)) more
-      ≡ framesAlone f held (cond t (packet ∷ packetsTo session flow more) (packetsTo session flow more))
-  unfolding framesAlone
-  hands-goes packet out lens more room goes false e passing c f held h =
-      goes (after c (hands packet out lens)) f held (stays c (hands packet out lens) f held h e refl)
-  hands-goes packet out lens more room goes true e passing c f held h = judged ((judgedOf f (sub overIp packet)) .late) refl
-    where
-      judged : (late : Bool) → (judgedOf f (sub overIp packet)) .late ≡ late →
-          framesOf (answer c (hands packet out lens)) ++ framesOut session flow (after c (hands packet out lens)) more
-          ≡ cond late (framesAlone f held (packetsTo session flow more))
-          ((heardAlone f held packet) .fate .delivered ++ framesAlone (recordAfter (heardAlone f held packet)) ((heardAlone f held packet) .fate .held) (packetsTo session flow more))
-      judged true late =
-          let none = late-frames c packet out lens f held h e (room e) (passing .0) late in
-          rw (none .0, none .1) (goes c f held h)
-      judged false late =
-          let heard = on-time c packet out lens f held h e (room e) (passing .0) late in
-          rw (heard .1) (ap (λ (l : List (List ℕ)). (heardAlone f held packet) .fate .delivered ++ l) (goes (after c (hands packet out lens)) (recordAfter (heardAlone f held packet)) ((heardAlone f held packet) .fate .held) (heard .0)))
-
-  goes-all : (calls : List Call) → StaysOpen session calls → Each (λ x. handsTo session flow x ≡ true → Room x) calls →
-      Each (λ p. check overIp kindPsp p ≡ 0) (packetsTo session flow calls) → Goes calls
-  unfolding framesOut packetsTo framesAlone
-  goes-all [] live room passing c f held h = refl
-  goes-all (opens asked id ∷ more) live room passing c f held h =
-      goes-all more (live .1) (room .1) passing (after c (opens asked id)) f held (stays c (opens asked id) f held h refl refl)
-  goes-all (closes id ∷ more) live room passing c f held h =
-      goes-all more (live .1) (room .1) passing (after c (closes id)) f held (stays c (closes id) f held h refl (live .0))
-  goes-all (hands packet out lens ∷ more) live room passing c f held h =
-      hands-goes packet out lens more (room .0) (λ c′ f′ held′ h′. goes-all more (live .1) (room .1) (rest-passing (ofFlow session flow packet) passing) c′ f′ held′ h′)
-      (ofFlow session flow packet) refl passing c f held h
-    where
-      rest-passing : (t : Bool) → Each (λ p. check overIp kindPsp p ≡ 0) (cond t (packet ∷ packetsTo session flow more) (packetsTo session flow more)) →
-          Each (λ p. check overIp kindPsp p ≡ 0) (packetsTo session flow more)
-      rest-passing true p = p .1
-      rest-passing false p = p
+    goes-all : (calls : List Call) → StaysOpen session calls → Each (λ x. handsTo session flow x ≡ true → Room x) calls →
+        Each (λ p. check overIp kindPsp p ≡ 0) (packetsTo session flow calls) → Goes calls
+    unfolding readOut packetsTo readAlone
+    goes-all [] live room passing c f held h = refl
+    goes-all (opens asked id ∷ more) live room passing c f held h =
+        goes-all more (live .1) (room .1) passing (after c (opens asked id)) f held (stays c (opens asked id) f held h refl refl)
+    goes-all (closes id ∷ more) live room passing c f held h =
+        goes-all more (live .1) (room .1) passing (after c (closes id)) f held (stays c (closes id) f held h refl (live .0))
+    goes-all (hands packet out lens ∷ more) live room passing c f held h =
+        hands-goes packet out lens more (room .0) (λ c′ f′ held′ h′. goes-all more (live .1) (room .1) (rest-passing (ofFlow session flow packet) passing) c′ f′ held′ h′)
+        (ofFlow session flow packet) refl passing c f held h
+      where
+        rest-passing : (t : Bool) → Each (λ p. check overIp kindPsp p ≡ 0) (cond t (packet ∷ packetsTo session flow more) (packetsTo session flow more)) →
+            Each (λ p. check overIp kindPsp p ≡ 0) (packetsTo session flow more)
+        rest-passing true p = p .1
+        rest-passing false p = p
 
 -- The whole history.
-pub history-frames : (session flow : ℕ) (c : Card) (calls : List Call) (f : Flow) (held : List ℕ) → flow < flows → Good c → holdingSize ≤ length (c .holding) →
-    Stands c session flow kind.Psp f held → StaysOpen session calls → Each (λ x. handsTo session flow x ≡ true → Room x) calls →
+pub history-read : {A : Type 0} (w : Reading A) (session flow : ℕ) (c : Card) (calls : List Call) (f : Flow) (held : List ℕ) → flow < flows → Good c →
+    holdingSize ≤ length (c .holding) → Stands c session flow kind.Psp f held → StaysOpen session calls → Each (λ x. handsTo session flow x ≡ true → Room x) calls →
     Each (λ p. check overIp kindPsp p ≡ 0) (packetsTo session flow calls) →
-    framesOut session flow c calls ≡ framesAlone f held (packetsTo session flow calls)
-history-frames session flow c calls f held inside good large stands live room passing =
-    goes-all session flow inside calls live room passing c f held (record { good = good; large = large; stands = stands })
+    readOut w session flow c calls ≡ readAlone w f held (packetsTo session flow calls)
+history-read w session flow c calls f held inside good large stands live room passing =
+    goes-all session flow inside w calls live room passing c f held (record { good = good; large = large; stands = stands })

@@ -28,18 +28,18 @@ abbrev alone-calls : List Call
 alone-calls = hand A ∷ hand B ∷ hand half-a-frame ∷ closes 0x101 ∷ []
 
 -- the same among others, in row 1: session 0x102 hears the like on its own flow 1 and is closed; what is lent is as long, but not the same
-abbrev to-102 : List ℕ
-to-102 = 0x00 ∷ 0x00 ∷ 0x01 ∷ 0x02 ∷ 0x41 ∷ 0x01 ∷ 0xFF ∷ 0xFF ∷ 0x80 ∷ 0x03 ∷ 0x91 ∷ 0x92 ∷ 0x93 ∷ []
+abbrev to-102 : ℕ → List ℕ
+to-102 number = 0x00 ∷ 0x00 ∷ 0x01 ∷ 0x02 ∷ 0x41 ∷ 0x01 ∷ 0x00 ∷ number ∷ 0x80 ∷ 0x03 ∷ 0x91 ∷ 0x92 ∷ 0x93 ∷ []
 
 abbrev hand-other : List ℕ → Call
 hand-other packet = hands packet (replicate 6144 7) (replicate 127 8)
 
 abbrev among-others : List Call
 among-others =
-    hand-other A ∷ hand to-102 ∷ hand-other B ∷ closes 0x102 ∷ opens mode.Psp 0x103 ∷ hand-other half-a-frame ∷ closes 0x101 ∷ hand A ∷ []
+    hand-other A ∷ hand (to-102 1) ∷ hand-other B ∷ closes 0x102 ∷ opens mode.Psp 0x103 ∷ hand-other half-a-frame ∷ closes 0x101 ∷ hand A ∷ []
 
 abbrev others-first : List Call
-others-first = opens mode.Psp 0x102 ∷ hand to-102 ∷ []
+others-first = opens mode.Psp 0x102 ∷ hand (to-102 0) ∷ []
 
 same-own : own 0x101 alone-calls ≡ own 0x101 among-others
 unfolding rest own

@@ -222,7 +222,9 @@ module _ (c : Card) (packet out lens : List ℕ) (g : Good c) (z : answer c (han
 
     heard-stands : ofFlow session flow packet ≡ true →
         let h = hear (isDmpt k) f held (sub overIp packet) in
-        Stands d session flow k (recordAfter h) (h .fate .held) × (framesOf (answer c (hands packet out lens)) ≡ h .fate .delivered)
+        Stands d session flow k (recordAfter h) (h .fate .held)
+        × (framesOf (answer c (hands packet out lens)) ≡ h .fate .delivered)
+        × ((answer c (hands packet out lens)) .gap ≡ h .judged .gap)
     unfolding after answer
     heard-stands of-it =
         let id = of-session session flow packet of-it in
@@ -236,6 +238,7 @@ module _ (c : Card) (packet out lens : List ℕ) (g : Good c) (z : answer c (han
             its-bytes = rw found (known .its-place);
           },
           known .frames-found,
+          known .gap-is,
         )
 
 -- A call that neither hands it a packet nor closes its session leaves a flow as it was. ..
@@ -258,12 +261,13 @@ stands-stay c (closesCall id) session flow k f held g l s other stays =
 stands-stay c (hands packet out lens) session flow k f held g l s other stays =
     by-number c (hands packet out lens) session flow k f held s (λ z. hands-stays c packet out lens g z session flow k f held l s other)
 
--- .. One that hands it a packet and is not refused has it hear that packet, and its caller finds the frames. ..
+-- .. One that hands it a packet and is not refused has it hear that packet, and its caller finds the frames and the gap. ..
 pub stands-heard : (c : Card) (packet out lens : List ℕ) (session flow : ℕ) (k : Kind) (f : Flow) (held : List ℕ) → Good c → flow < flows →
     Stands c session flow k f held → ofFlow session flow packet ≡ true → answer c (hands packet out lens) .code ≡ 0 →
     let h = hear (isDmpt k) f held (sub overIp packet) in
     Stands (after c (hands packet out lens)) session flow k (recordAfter h) (h .fate .held)
     × (framesOf (answer c (hands packet out lens)) ≡ h .fate .delivered)
+    × ((answer c (hands packet out lens)) .gap ≡ h .judged .gap)
 stands-heard c packet out lens session flow k f held g l s of-it z = heard-stands c packet out lens g z session flow k f held l s of-it
 
 -- .. And with slices that are long enough, a packet that passes the check is refused only where it is late.

@@ -1,9 +1,9 @@
--- A small closed instance beside each large theorem: its premises are met, and its conclusion is computed. It cites definitions alone and no law, so
--- it can also be held against wrong definitions: what comes out of them is seen here.
+-- A closed instance of demand 3, of what the gaps tell, and of one lost fewer: the premises are met, and the conclusion is computed. It cites definitions
+-- alone, so that it can be held against wrong ones.
 use Prim.Native.Nat.{ℕ, zero, suc, _<_, _≤_}
 use mathlib.Core.Path.{_≡_, refl, sym}
 use mathlib.Core.Bool.{Bool, true, false, true≢false}
-use mathlib.Core.List.{List, [], _∷_, _++_, map, Sublistᴰ, Sublistᴰ·slnil, Sublistᴰ·cons, Sublistᴰ·cons-cons}
+use mathlib.Core.List.{List, [], _∷_, map}
 use native.Mathlib.Omega.{arith}
 use lib.ListN.{length, getD, replicate, length-replicate}
 use Rattle.octets.specs.Stretch.{part, rest, put, joined, lengths, cutBy}
@@ -24,7 +24,7 @@ use Rattle.card.specs.History.{Card, Call, opens, closes, hands, answer, after,
 use Rattle.sender.specs.Rules.{Pieces, wholeFrame, begunFrame, inTurn, allSegments, KeepsRules}
 use Rattle.promises.specs.Words.{packetsTo, framesOut, LongEnough}
 use Rattle.promises.specs.Arrivals.{InTime, inTime, placesFrom, carriers}
-use Rattle.promises.specs.Demand.{Sending, Run, WholeIn, comesOut, Rising}
+use Rattle.promises.specs.Demand.{Sending, Run, openedCard, comesOut, Verdict, verdictsOut, verdictsFrom, verdictsOf}
 
 -- Demand 3. Four frames, cut into pieces: the first is cut in two, the third too, and a fifth is begun. They go in four packets that are numbered
 -- from 0xFFFE on, so that the third has number 0.
@@ -89,7 +89,7 @@ sending =
     }
 
 -- One run: the fourth packet overtakes the third, which then comes late, and comes again itself. Between them other calls: session 0x102 is open
--- before, holds half a frame in its own flow 1 and is closed; an open of 0x101 is refused; a scrap of five bytes is refused; flow 2 of 0x101 begins
+-- before, holds half a frame in its own flow 1, begins another and is closed; an open of 0x101 is refused; a scrap of five bytes is refused; flow 2 of 0x101 begins
 -- a frame of its own.
 abbrev pub hand : List ℕ → Call
 hand packet = hands packet (replicate 6144 0) (replicate 127 0)
@@ -97,13 +97,16 @@ hand packet = hands packet (replicate 6144 0) (replicate 127 0)
 abbrev pub others-half : List ℕ
 others-half = to-102 (0x41 ∷ 0x01 ∷ 0x12 ∷ 0x34 ∷ 0x80 ∷ 0x03 ∷ 0x61 ∷ 0x62 ∷ 0x63 ∷ [])
 
+abbrev pub others-next : List ℕ
+others-next = to-102 (0x41 ∷ 0x01 ∷ 0x12 ∷ 0x35 ∷ 0x80 ∷ 0x03 ∷ 0x64 ∷ 0x65 ∷ 0x66 ∷ [])
+
 abbrev pub flow-2-half : List ℕ
 flow-2-half = to-101 (0x42 ∷ 0x01 ∷ 0x00 ∷ 0x07 ∷ 0x80 ∷ 0x02 ∷ 0x71 ∷ 0x72 ∷ [])
 
 abbrev pub overtaken-calls : List Call
 overtaken-calls =
     hand packet0
-    ∷ hand others-half
+    ∷ hand others-next
     ∷ hand packet1
     ∷ closes 0x102
     ∷ opens mode.Dmpt 0x101
@@ -161,3 +164,78 @@ their-packets = (refl, refl, refl, refl)
 pub in-time : (inTime (overtaken .arrivals) 0 ≡ true) × (inTime (overtaken .arrivals) 1 ≡ true) × (inTime (overtaken .arrivals) 2 ≡ false) × (inTime (overtaken .arrivals) 3 ≡ true)
 unfolding inTime
 in-time = (refl, refl, refl, refl)
+
+-- The five packets of the flow are answered so: the first two in order, the fourth past the third, and then both late.
+abbrev pub overtaken-verdicts : List Verdict
+overtaken-verdicts =
+    record { code = 0; gap = 0 }
+    ∷ record { code = 0; gap = 0 }
+    ∷ record { code = 0; gap = 1 }
+    ∷ record { code = 12; gap = 0 }
+    ∷ record { code = 12; gap = 0 }
+    ∷ []
+
+pub gaps-instance : verdictsOut 0x101 1 (openedCard sending overtaken) overtaken-calls ≡ overtaken-verdicts
+unfolding part rest put joined lengths cutBy any least sumTo upTo ahead next bodyAt segmentAt segments wanted broken opened closed settledBy settled fateBy fate atGap inOrder pspFate hear carriedOut refused receivedBy received answer after afterAll verdictsOut
+gaps-instance = refl
+
+pub gaps-expected : verdictsOf (overtaken .arrivals) ≡ overtaken-verdicts
+unfolding verdictsOf verdictsFrom
+gaps-expected = refl
+
+-- One lost fewer: in the worse run the third packet is lost, in the better one nothing is. The frame that it carries an end of comes out of the second only,
+-- and the others come out of both.
+abbrev pub worse-calls : List Call
+worse-calls = hand packet0 ∷ hand packet1 ∷ hand packet3 ∷ []
+
+abbrev pub better-calls : List Call
+better-calls = hand packet0 ∷ hand packet1 ∷ hand packet2 ∷ hand packet3 ∷ []
+
+pub worse-only : packetsTo 0x101 1 worse-calls ≡ map (λ x. getD packets x []) (0 ∷ 1 ∷ 3 ∷ [])
+unfolding rest packetsTo
+worse-only = refl
+
+pub better-only : packetsTo 0x101 1 better-calls ≡ map (λ x. getD packets x []) (0 ∷ 1 ∷ 2 ∷ 3 ∷ [])
+unfolding rest packetsTo
+better-only = refl
+
+pub worse-long : LongEnough 0x101 1 (replicate 49152 0) worse-calls
+unfolding rest
+worse-long = (omega (arith, length-replicate {A = ℕ} 49152 0), (long-slices true, (long-slices true, (long-slices true, tt))))
+
+pub better-long : LongEnough 0x101 1 (replicate 49152 0) better-calls
+unfolding rest
+better-long = (omega (arith, length-replicate {A = ℕ} 49152 0), (long-slices true, (long-slices true, (long-slices true, (long-slices true, tt)))))
+
+abbrev pub worse : Run sending
+worse =
+    record {
+      holding = replicate 49152 0;
+      before = before;
+      calls = worse-calls;
+      arrivals = 0 ∷ 1 ∷ 3 ∷ [];
+      opens-now = opens-101;
+      stays-open = (refl, (refl, (refl, tt)));
+      long-enough = worse-long;
+      only-these = worse-only;
+      in-window = (omega arith, omega arith, (omega arith, omega arith, tt));
+    }
+
+abbrev pub better : Run sending
+better =
+    record {
+      holding = replicate 49152 0;
+      before = before;
+      calls = better-calls;
+      arrivals = 0 ∷ 1 ∷ 2 ∷ 3 ∷ [];
+      opens-now = opens-101;
+      stays-open = (refl, (refl, (refl, (refl, tt))));
+      long-enough = better-long;
+      only-these = better-only;
+      in-window = (omega arith, omega arith, (omega arith, omega arith, (omega arith, omega arith, tt)));
+    }
+
+pub fewer-lost-instance : (comesOut sending worse ≡ (0x11 ∷ 0x12 ∷ 0x13 ∷ []) ∷ (0x21 ∷ []) ∷ (0x41 ∷ 0x42 ∷ []) ∷ [])
+    × (comesOut sending better ≡ (0x11 ∷ 0x12 ∷ 0x13 ∷ []) ∷ (0x21 ∷ []) ∷ (0x31 ∷ 0x32 ∷ 0x33 ∷ []) ∷ (0x41 ∷ 0x42 ∷ []) ∷ [])
+unfolding part rest put joined lengths cutBy any least sumTo upTo ahead next bodyAt segmentAt segments wanted broken opened closed settledBy settled fateBy fate atGap inOrder pspFate hear carriedOut refused receivedBy received answer after afterAll framesOut
+fewer-lost-instance = (refl, refl)
