@@ -1,0 +1,77 @@
+-- A closed instance of what D-MPT delivers, on a card with other sessions. It cites definitions alone, so that it can be held against wrong ones.
+use Prim.Native.Nat.{ℕ}
+use mathlib.Core.Path.{_≡_, refl}
+use mathlib.Core.Bool.{true}
+use mathlib.Core.List.{List, [], _∷_, _++_}
+use lib.ListN.{replicate}
+use Rattle.octets.specs.Stretch.{part, rest, put, joined, lengths, cutBy}
+use Rattle.octets.specs.Count.{any, least, sumTo, upTo}
+use Rattle.flow.specs.Numbers.{ahead, next}
+use Rattle.flow.specs.Flow.{fresh}
+use Rattle.packet.specs.Header.{overIp, sub}
+use Rattle.packet.specs.Segments.{bodyAt, segmentAt, segments}
+use Rattle.packet.specs.Psp.{wanted}
+use Rattle.packet.specs.Dmpt.{mpegAt, mpegs}
+use Rattle.table.specs.declared.Kind.the-variants as kind
+use Rattle.table.specs.declared.Mode.the-variants as mode
+use Rattle.table.specs.Rows.{closedRow}
+use Rattle.table.specs.Broken.{broken}
+use Rattle.table.specs.Calls.{opened}
+use Rattle.card.specs.Join.{settledBy, settled, fateBy, fate, atGap, mpegFate, inOrder}
+use Rattle.card.specs.Hear.{pspFate, dmptFate, hear}
+use Rattle.card.specs.Receive.{rowOf, toDmpt, carriedOut, refused, receivedBy, received}
+use Rattle.card.specs.History.{Card, opens, framesOf, answer, after, afterAll, emptyCard}
+use Rattle.promises.specs.Dmpt.{carrying, nulls}
+use Rattle.promises.specs.Marked.{hand}
+
+-- Session 0x103 is open as D-MPT beside 0x101 and 0x102, which holds half a frame. Its packet has S clear, and yet some number; and it has
+-- two MPEG packets, the first of PID 0x1FFE and the second of PID 0x1FFF, with a bit set above that is none of the PID's.
+abbrev pub others-half : List ℕ
+others-half = 0x00 ∷ 0x00 ∷ 0x01 ∷ 0x02 ∷ 0x41 ∷ 0x01 ∷ 0x12 ∷ 0x34 ∷ 0x80 ∷ 0x03 ∷ 0x61 ∷ 0x62 ∷ 0x63 ∷ []
+
+abbrev pub mpeg-some : List ℕ
+mpeg-some = 0x47 ∷ 0x1F ∷ 0xFE ∷ (replicate 184 0xA1 ++ (0xA2 ∷ []))
+
+abbrev pub mpeg-null : List ℕ
+mpeg-null = 0x47 ∷ 0x5F ∷ 0xFF ∷ replicate 185 0xB1
+
+abbrev pub dmpt-packet : List ℕ
+dmpt-packet = 0x00 ∷ 0x00 ∷ 0x01 ∷ 0x03 ∷ 0x00 ∷ 0x05 ∷ 0x12 ∷ 0x34 ∷ (mpeg-some ++ mpeg-null)
+
+abbrev pub dmpt-card : Card
+dmpt-card = afterAll (emptyCard (replicate 49152 0)) (opens mode.Psp 0x102 ∷ hand others-half ∷ opens mode.Dmpt 0x103 ∷ opens mode.Psp 0x101 ∷ [])
+
+-- This card, told: 0x102 has heard its packet and holds 3 bytes in the place of its flow 1, and the others are fresh.
+abbrev pub dmpt-told : Card
+dmpt-told =
+    record {
+      table = record {
+        rows =
+            record { id = 0x102; kind = kind.Psp; flows = fresh ∷ record { heard = true; expected = 0x1235; held = 3 } ∷ fresh ∷ fresh ∷ [] }
+            ∷ record { id = 0x103; kind = kind.Dmpt; flows = replicate 4 fresh }
+            ∷ record { id = 0x101; kind = kind.Psp; flows = replicate 4 fresh }
+            ∷ closedRow
+            ∷ closedRow
+            ∷ closedRow
+            ∷ [];
+      };
+      holding = replicate 2048 0 ++ (0x61 ∷ 0x62 ∷ 0x63 ∷ replicate 47101 0);
+    }
+
+-- The packet is for a D-MPT session ..
+pub dmpt-goes : (dmpt-card ≡ dmpt-told) × (toDmpt (dmpt-card .table) (rowOf overIp (dmpt-card .table) dmpt-packet) ≡ true)
+unfolding part rest put joined lengths any least sumTo upTo ahead next bodyAt segmentAt segments wanted broken opened settledBy settled fateBy fate atGap inOrder pspFate hear carriedOut refused receivedBy received after afterAll
+dmpt-goes = (refl, refl)
+
+-- .. and accepted: the first MPEG packet is found, the second is dropped, and the card is as it was.
+pub dmpt-instance : ((answer dmpt-card (hand dmpt-packet)) .code ≡ 0)
+    × (framesOf (answer dmpt-card (hand dmpt-packet)) ≡ mpeg-some ∷ [])
+    × ((answer dmpt-card (hand dmpt-packet)) .dropped ≡ 188)
+    × ((answer dmpt-card (hand dmpt-packet)) .gap ≡ 0)
+    × (after dmpt-card (hand dmpt-packet) ≡ dmpt-told)
+unfolding part rest put joined lengths cutBy any least sumTo upTo ahead next bodyAt segmentAt segments wanted mpegAt mpegs broken opened settledBy settled fateBy fate atGap mpegFate inOrder pspFate dmptFate hear carriedOut refused receivedBy received answer after afterAll
+dmpt-instance = (refl, refl, refl, refl, refl)
+
+pub dmpt-carries : (carrying (mpegs (sub overIp dmpt-packet)) ≡ mpeg-some ∷ []) × (nulls (mpegs (sub overIp dmpt-packet)) ≡ mpeg-null ∷ [])
+unfolding part rest upTo mpegAt mpegs carrying nulls
+dmpt-carries = (refl, refl)

@@ -1,0 +1,107 @@
+-- There and back. The sender's packets keep the rules that demand 3 supposes, so demand 3 says what comes of them: over a network the frames that
+-- arrived whole; and where all arrive in order all of them, since each packet then arrives before any sent after it.
+use Prim.Native.Nat.{ℕ, _+_, _-_, _<_}
+use mathlib.Core.Path.{_≡_, refl, sym, ap, _∙_}
+use mathlib.Core.Bool.{Bool, true, false}
+use mathlib.Core.List.{List, [], _∷_, _++_, append-nil, append-assoc}
+use native.Mathlib.Omega.{arith}
+use lib.Dec.{ltb}
+use lib.ListN.{length, getD, length-append, List·getD-append}
+use lib.Seq.{getD-append-add}
+use borrow.Author.Tests.{ltb-true, ltb-false}
+use Rattle.flow.specs.Numbers.{numberAt}
+use Rattle.packet.specs.Header.{overIp, sub, number}
+use Rattle.packet.specs.Check.{kindPsp, check}
+use Rattle.sender.specs.Rules.{Pieces, FrameSized, Addressed, segmentsOf, wholeFrame, begunFrame, inTurn, allSegments}
+use Rattle.sender.proofs.Keeping.{sent-length}
+use Rattle.sender.proofs.Series.{code-is, sends-all}
+use Rattle.promises.specs.Demand.{Sending, Run}
+use Rattle.promises.specs.RoundTrip.{packetsGiven, SenderKeepsRules, SendingsGoOn, KeepsLimit, sendingOf, RoundTrip}
+use Rattle.promises.proofs.AllArrive.{inARow, all-packets, in-bound, all-whole, all-kept}
+use Rattle.promises.proofs.Demand.{demand-3}
+use Rattle.promises.proofs.Passed.{each-both}
+
+-- What the sender sends is a sending of these frames.
+pub sender-keeps-rules : SenderKeepsRules
+sender-keeps-rules =
+    record {
+      pieces = λ g. (sends-all (g .job) (g .sound) (g .turns) (g .number) (g .two-bytes) (g .usable) (g .enough)) .0;
+      are-sent = λ g.
+          let all = sends-all (g .job) (g .sound) (g .turns) (g .number) (g .two-bytes) (g .usable) (g .enough) in
+          record { these-frames = all .1; by-the-rules = all .2 };
+    }
+
+-- No packet is longer than its limit.
+pub keeps-limit : KeepsLimit
+keeps-limit a z = sent-length a (sym (code-is a) ∙ z)
+
+-- One sending behind another: the segments of both, ..
+segments-both : (packets behind : List (List ℕ)) → allSegments (packets ++ behind) ≡ allSegments packets ++ allSegments behind
+unfolding allSegments
+segments-both [] behind = refl
+segments-both (p ∷ packets) behind = rw (segments-both packets behind) (sym (append-assoc (segmentsOf p) (allSegments packets) (allSegments behind)))
+
+frames-both : (frames more : List Pieces) → inTurn (frames ++ more) ≡ inTurn frames ++ inTurn more
+unfolding inTurn
+frames-both [] more = refl
+frames-both (f ∷ frames) more = rw (frames-both frames more) (sym (append-assoc (wholeFrame true f) (inTurn frames) (inTurn more)))
+
+-- .. and their numbers
+number-on : (start n j : ℕ) → numberAt (numberAt start n) j ≡ numberAt start (n + j)
+unfolding numberAt
+number-on start n j = omega arith
+
+numbered-both : (start : ℕ) (packets behind : List (List ℕ)) →
+    ((i : ℕ) → i < length packets → number (sub overIp (getD packets i [])) ≡ numberAt start i) →
+    ((i : ℕ) → i < length behind → number (sub overIp (getD behind i [])) ≡ numberAt (numberAt start (length packets)) i) →
+    (i : ℕ) → i < length (packets ++ behind) → number (sub overIp (getD (packets ++ behind) i [])) ≡ numberAt start i
+numbered-both start packets behind front back i l = by (ltb i (length packets)) refl
+  where
+    by : (t : Bool) → ltb i (length packets) ≡ t → number (sub overIp (getD (packets ++ behind) i [])) ≡ numberAt start i
+    by true e =
+        let here = ltb-true i (length packets) e in
+        rw (List·getD-append packets behind [] i here) (front i here)
+    by false e =
+        let past = ltb-false i (length packets) e in
+        let j = i - length packets in
+        let split : i ≡ length packets + (i - length packets) = omega arith in
+        rw split
+        (ap (λ (p : List ℕ). number (sub overIp p)) (getD-append-add packets behind j [])
+        ∙ back j (omega (arith, length-append packets behind))
+        ∙ number-on start (length packets) j)
+
+pub sendings-go-on : SendingsGoOn
+unfolding begunFrame
+sendings-go-on session flow start frames more unfinished packets behind first then =
+    record {
+      sizes = each-both FrameSized frames more (first .sizes) (then .sizes);
+      passing = each-both (λ p. check overIp kindPsp p ≡ 0) packets behind (first .passing) (then .passing);
+      addressed = each-both (Addressed session flow) packets behind (first .addressed) (then .addressed);
+      numbered = numbered-both start packets behind (first .numbered) (then .numbered);
+      in-order =
+          rw (segments-both packets behind, first .in-order, then .in-order, frames-both frames more, append-nil (inTurn frames))
+          (sym (append-assoc (inTurn frames) (inTurn more) (begunFrame true unfinished)));
+    }
+
+-- What comes out: all frames, where all packets arrive in order; and over a network what demand 3 says.
+pub round-trip : RoundTrip
+round-trip =
+    record {
+      in-order = λ g o.
+          let is-sent = sender-keeps-rules .are-sent g in
+          let s : Sending = sendingOf g (sender-keeps-rules .pieces g) is-sent in
+          let r : Run s =
+          record {
+            holding = o .holding;
+            before = o .before;
+            calls = o .calls;
+            arrivals = inARow 0 (length (packetsGiven g));
+            opens-now = o .opens-now;
+            stays-open = o .stays-open;
+            long-enough = o .long-enough;
+            only-these = o .all-arrive ∙ sym (all-packets (packetsGiven g));
+            in-window = in-bound (length (packetsGiven g));
+          } in
+          all-kept (all-whole (sender-keeps-rules .pieces g) (packetsGiven g)) (demand-3 s r) ∙ is-sent .these-frames;
+      over-a-network = λ g frames is-sent r. demand-3 (sendingOf g frames is-sent) r;
+    }
