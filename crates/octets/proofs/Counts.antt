@@ -3,13 +3,15 @@
 -- looks for the first number that passes. A loop's own proof then only cites a begin, a turn and an end.
 use Prim.Native.Nat.{ℕ, zero, suc, _+_, _*_, _<_, _≤_}
 use mathlib.Core.Path.{_≡_, refl, ap, _∙_, sym}
-use mathlib.Core.Bool.{Bool, true, false, _||_, or-true, or-false, or-assoc, true≢false}
+use mathlib.Core.Bool.{Bool, true, false, not, _||_, or-true, or-false, or-assoc, true≢false}
 use mathlib.Core.Logic.{_⊎_, inl, inr, ⊎-elim}
 use mathlib.Core.List.{[], _∷_, _++_}
 use native.Mathlib.Numerals.{add-one}
 use native.Mathlib.Omega.{arith}
 use native.Mathlib.Nat.{mul-zero, mul-suc, not-suc-le-zero, eq-or-lt-of-le, le-of-suc-le-suc, le-refl, le-trans, le-add-right}
+use lib.Dec.{ltb, leb}
 use lib.ListN.{length, length-append}
+use borrow.Author.Tests.{lt-ltb, le-ltb, lt-leb, le-leb}
 use Rattle.octets.specs.Count.{any, least, sumTo, upTo}
 
 pub true-or-false : (b : Bool) → (b ≡ true) ⊎ (b ≡ false)
@@ -131,6 +133,21 @@ least-passes p (suc n) h =
     never : suc n < suc n → ⊥
     never l = omega arith
 
+-- the least lies below n exactly where some number passes
+pub least-found : (p : ℕ → Bool) (n : ℕ) → ltb (least p n) n ≡ any p n
+least-found p n =
+    ⊎-elim
+    (λ (a : any p n ≡ true). lt-ltb (least p n) n (least-below p n a) ∙ sym a)
+    (λ (a : any p n ≡ false). le-ltb (least p n) n (omega (arith, least-none p n a)) ∙ sym a)
+    (true-or-false (any p n))
+
+pub least-missed : (p : ℕ → Bool) (n : ℕ) → leb n (least p n) ≡ not (any p n)
+least-missed p n =
+    ⊎-elim
+    (λ (a : any p n ≡ true). lt-leb n (least p n) (least-below p n a) ∙ ap not (sym a))
+    (λ (a : any p n ≡ false). le-leb n (least p n) (omega (arith, least-none p n a)) ∙ ap not (sym a))
+    (true-or-false (any p n))
+
 -- Sums and lists.
 pub sum-none : (f : ℕ → ℕ) → sumTo f 0 ≡ 0
 unfolding sumTo
@@ -157,6 +174,30 @@ pub sum-same : (a n : ℕ) → sumTo (λ k. a) n ≡ a * n
 unfolding sumTo
 sum-same a zero = sym (mul-zero a)
 sum-same a (suc n) = ap (λ (m : ℕ). m + a) (sum-same a n) ∙ sym (mul-suc a n)
+
+-- Sums of terms that agree, that are all 0, that are added up.
+pub sum-agree : (f g : ℕ → ℕ) (n : ℕ) → ((k : ℕ) → k < n → f k ≡ g k) → sumTo f n ≡ sumTo g n
+unfolding sumTo
+sum-agree f g zero same = refl
+sum-agree f g (suc n) same = omega (arith, sum-agree f g n (λ k l. same k (omega arith)), same n (omega arith))
+
+pub sum-zero : (f : ℕ → ℕ) (n : ℕ) → ((k : ℕ) → k < n → f k ≡ 0) → sumTo f n ≡ 0
+sum-zero f n none = omega (arith, sum-agree f (λ k. 0) n none, sum-same 0 n)
+
+pub sum-both : (f g h : ℕ → ℕ) (n : ℕ) → ((k : ℕ) → k < n → f k + g k ≡ h k) → sumTo f n + sumTo g n ≡ sumTo h n
+unfolding sumTo
+sum-both f g h zero both = refl
+sum-both f g h (suc n) both = omega (arith, sum-both f g h n (λ k l. both k (omega arith)), both n (omega arith))
+
+-- all terms but one agree
+pub sum-but-one : (f g : ℕ → ℕ) (r n : ℕ) → r < n → ((k : ℕ) → k < n → (k ≡ r → ⊥) → g k ≡ f k) → sumTo g n + f r ≡ sumTo f n + g r
+unfolding sumTo
+sum-but-one f g r zero there same = absurd (not-suc-le-zero there)
+sum-but-one f g r (suc n) there same =
+    ⊎-elim
+    (λ (e : r ≡ n). rw e (omega (arith, sum-agree g f n (λ k l. same k (omega arith) (λ d. omega arith)))))
+    (λ (l : r < n). omega (arith, sum-but-one f g r n l (λ k m other. same k (omega arith) other), same n (omega arith) (λ d. omega arith)))
+    (eq-or-lt-of-le (le-of-suc-le-suc there))
 
 pub up-to-more : {A : Type 0} (f : ℕ → A) (n : ℕ) → upTo f (n + 1) ≡ upTo f n ++ (f n ∷ [])
 unfolding upTo

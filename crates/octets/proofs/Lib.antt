@@ -1,4 +1,5 @@
 pub mod Stretches
 pub mod Counts
+pub mod Elements
 pub mod Numbers
 pub mod Examples

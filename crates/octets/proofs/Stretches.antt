@@ -6,7 +6,7 @@ use native.Mathlib.Numerals.{add-one}
 use native.Mathlib.Omega.{arith}
 use mathlib.Core.Logic.{_⊎_, inl, inr, ⊎-elim}
 use mathlib.Core.List.{List, [], _∷_, _++_, map, append-assoc, append-nil}
-use lib.ListN.{length, take, drop, set, length-append, length-drop, take-append-drop, List·getD-append}
+use lib.ListN.{length, take, drop, set, length-append, length-take, length-drop, take-append-drop, List·getD-append}
 use lib.Seq.{length-take-le, take-length, take-take, take-append-le, take-at, take-all, drop-at, drop-cons, drop-drop, set-split, append-snoc, take-add, take-append-seam, drop-append-seam, getD-drop, getD-take, getD-append-add, ext-getD}
 use Rattle.octets.specs.Bytes.{byteAt}
 use Rattle.octets.specs.Stretch.{part, rest, put, joined, lengths, cutBy}
@@ -18,6 +18,11 @@ unfolding part
 length-part l from n h =
     let k : n ≤ length (drop from l) = simp length-drop (omega arith) in
     length-take-le n (drop from l) k
+
+-- .. and never longer than was asked for
+pub part-short : (l : List ℕ) (from n : ℕ) → length (part l from n) ≤ n
+unfolding part
+part-short l from n = omega (arith, length-take n (drop from l))
 
 pub part-none : (l : List ℕ) (from : ℕ) → part l from 0 ≡ []
 unfolding part

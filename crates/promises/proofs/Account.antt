@@ -2,7 +2,7 @@
 -- table. With it stands what the places hold (`places-hold`): together they are `byte-account`.
 use Prim.Native.Nat.{ℕ, zero, suc, _+_}
 use mathlib.Core.Path.{_≡_, refl, sym, ap, _∙_}
-use mathlib.Core.Bool.{false, cond}
+use mathlib.Core.Bool.{cond}
 use mathlib.Core.List.{List, [], _∷_}
 use native.Mathlib.Omega.{arith}
 use lib.Dec.{eqb}
@@ -12,7 +12,6 @@ use Rattle.octets.specs.Stretch.{joined}
 use Rattle.packet.specs.Header.{overIp, sub}
 use Rattle.table.specs.declared.Table.{Table}
 use Rattle.table.specs.Rows.{rowAt, find, heldIn, empty}
-use Rattle.table.specs.Broken.{broken}
 use Rattle.table.specs.Calls.{closeRefusals, closedBy, closed}
 use Rattle.card.specs.Join.{Fate}
 use Rattle.card.specs.Receive.{Outcome, asSlices, rowOf, heardBy, refused, received}

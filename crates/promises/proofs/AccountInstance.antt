@@ -2,7 +2,7 @@
 -- drops them at the close. It cites definitions alone, so that it can be held against wrong ones.
 use Prim.Native.Nat.{ℕ}
 use mathlib.Core.Path.{_≡_, refl}
-use mathlib.Core.Bool.{true, false}
+use mathlib.Core.Bool.{false}
 use mathlib.Core.List.{List, [], _∷_}
 use lib.ListN.{length, replicate}
 use Rattle.octets.specs.Stretch.{part, rest, put, joined, lengths, cutBy}
@@ -17,7 +17,7 @@ use Rattle.table.specs.Calls.{opened, closed}
 use Rattle.card.specs.Join.{settledBy, settled, fateBy, fate, atGap, inOrder}
 use Rattle.card.specs.Hear.{pspFate, hear}
 use Rattle.card.specs.Receive.{carriedOut, refused, receivedBy, received}
-use Rattle.card.specs.History.{Call, opens, closes, hands, answer, after, afterAll, emptyCard}
+use Rattle.card.specs.History.{Call, opens, closes, answer, after, afterAll, emptyCard}
 use Rattle.promises.specs.Account.{Lent, tableAfterAll, countedBy, bytesTaken, bytesDelivered, bytesDropped, heldInAll, takenBy, deliveredBy, droppedBy, gathered, bytesHeld}
 use Rattle.promises.specs.Marked.{A, B, single, hand}
 

@@ -7,9 +7,9 @@ use native.Mathlib.Omega.{arith}
 use lib.ListN.{length, take, drop, getD, replicate, take-append-drop}
 use Rattle.octets.specs.Stretch.{part, joined}
 use Rattle.octets.specs.Each.{Each}
+use Rattle.octets.proofs.Elements.{each-both, each-front, each-back}
 use Rattle.sender.specs.Rules.{Pieces, segmentsOf}
 use Rattle.promises.specs.Arrivals.{WithinBound, Window, InTime, placesFrom, carriers, Whole, Kept, no-more, kept, lost}
-use Rattle.promises.proofs.Passed.{each-both, each-front, each-back}
 use Rattle.promises.proofs.Survivors.{first-left, others-left}
 
 -- n places in a row, the first of them `from`

@@ -1,21 +1,22 @@
 -- The account over a history in which one holding slice goes through all calls: every byte value comes in as often as it is delivered, dropped
 -- or held, and no place has fewer bytes than the table says.
-use Prim.Native.Nat.{ℕ, _+_, _<_, _≤_}
+use Prim.Native.Nat.{ℕ, _+_, _<_}
 use mathlib.Core.Path.{_≡_, refl, _∙_}
 use mathlib.Core.Bool.{Bool, true, false, cond}
 use mathlib.Core.List.{List, [], _∷_}
 use native.Mathlib.Omega.{arith}
 use lib.Dec.{eqb}
-use lib.ListN.{length, drop, length-take}
+use lib.ListN.{length}
 use Rattle.octets.specs.Stretch.{part}
-use Rattle.octets.proofs.Counts.{sum-within}
+use Rattle.octets.proofs.Counts.{sum-within, sum-agree, sum-both}
+use Rattle.octets.proofs.Stretches.{part-short}
 use Rattle.flow.specs.Flow.{flows}
 use Rattle.table.specs.Rows.{rows, rowAt, flowAt, find}
 use Rattle.card.specs.Receive.{placeOf}
 use Rattle.card.specs.History.{Card, Call, opens, closes, hands, answer, after, afterAll, emptyCard}
 use Rattle.promises.specs.Account.{takenBy, deliveredBy, droppedBy, gathered, bytesOfRow, bytesHeld, heldInAll, times, EachByte}
 use Rattle.promises.proofs.Good.{Good, good-empty, good-after}
-use Rattle.promises.proofs.Measures.{Measure, by-length, by-value, measure-up-to, sum-agree, sum-both}
+use Rattle.promises.proofs.Measures.{Measure, by-length, by-value, measure-up-to}
 use Rattle.promises.proofs.Holdings.{inPlaces, places-keep, inTable, missing, missing-keeps, keptAt, keptInRow, keptInAll, empty-keeps}
 use Rattle.promises.proofs.OneCall.{droppedIn, call-balances}
 
@@ -69,10 +70,6 @@ unfolding afterAll
 none-missing c [] good none = none
 none-missing c (x ∷ more) good none =
     none-missing (after c x) more (good-after c x good) (omega (arith, call-balances missing-keeps c good x, none))
-
-part-short : (l : List ℕ) (from n : ℕ) → length (part l from n) ≤ n
-unfolding part
-part-short l from n = omega (arith, length-take n (drop from l))
 
 there-and-missing : (c : Card) (i : ℕ) → keptInRow (inPlaces length) c i + keptInRow missing c i ≡ keptInRow inTable c i
 there-and-missing c i =

@@ -6,6 +6,7 @@ use mathlib.Core.List.{List, [], _∷_, _++_, map}
 use native.Mathlib.Omega.{arith}
 use lib.ListN.{length, getD}
 use Rattle.octets.specs.Each.{Each}
+use Rattle.octets.proofs.Elements.{each-at}
 use Rattle.flow.specs.Flow.{fresh, flows}
 use Rattle.packet.specs.Header.{overIp}
 use Rattle.packet.specs.Check.{kindPsp, check}
@@ -21,7 +22,6 @@ use Rattle.promises.proofs.Readings.{Reading, readOut, framesRead, fram
 use Rattle.promises.proofs.Alone.{readAlone}
 use Rattle.promises.proofs.Good.{Good, good-empty, good-all, good-after, holding-kept, holding-kept-all}
 use Rattle.promises.proofs.Steps.{stands-opened}
-use Rattle.promises.proofs.Passed.{each-at}
 use Rattle.promises.proofs.OneFlow.{flow-demand}
 use Rattle.promises.proofs.Histories.{history-read}
 use Rattle.promises.proofs.Fewer.{fewer-by-demand}

@@ -11,19 +11,18 @@ use Rattle.octets.specs.Count.{any, least, sumTo, upTo}
 use Rattle.flow.specs.Numbers.{ahead, next, numberAt}
 use Rattle.packet.specs.Segments.{bodyAt, segmentAt, segments}
 use Rattle.packet.specs.Psp.{wanted}
-use Rattle.packet.specs.Dmpt.{mpegAt, mpegs}
 use Rattle.packet.specs.Check.{checkRefusals, check}
 use Rattle.packet.specs.Header.{overIp, sub, number}
 use Rattle.table.specs.declared.Mode.the-variants as mode
 use Rattle.table.specs.Broken.{broken}
-use Rattle.table.specs.Calls.{isOpen, opened, closed}
-use Rattle.card.specs.Join.{settledBy, settled, fateBy, fate, atGap, mpegFate, inOrder}
-use Rattle.card.specs.Hear.{pspFate, dmptFate, hear}
+use Rattle.table.specs.Calls.{opened, closed}
+use Rattle.card.specs.Join.{settledBy, settled, fateBy, fate, atGap, inOrder}
+use Rattle.card.specs.Hear.{pspFate, hear}
 use Rattle.card.specs.Receive.{carriedOut, refused, receivedBy, received}
-use Rattle.card.specs.History.{Card, Call, opens, closes, hands, answer, after, afterAll, emptyCard}
+use Rattle.card.specs.History.{Call, opens, closes, hands, answer, after, afterAll, emptyCard}
 use Rattle.sender.specs.Rules.{Pieces, wholeFrame, begunFrame, inTurn, allSegments, KeepsRules}
 use Rattle.promises.specs.Words.{packetsTo, framesOut, LongEnough}
-use Rattle.promises.specs.Arrivals.{InTime, inTime, placesFrom, carriers}
+use Rattle.promises.specs.Arrivals.{inTime, placesFrom, carriers}
 use Rattle.promises.specs.Demand.{Sending, Run, openedCard, comesOut, Verdict, verdictsOut, verdictsFrom, verdictsOf}
 
 -- Demand 3. Four frames, cut into pieces: the first is cut in two, the third too, and a fifth is begun. They go in four packets that are numbered

@@ -7,7 +7,7 @@ use mathlib.Core.List.{List, [], _∷_, List·Memᴰ, List·Memᴰ·head, List·
 use native.Mathlib.Omega.{arith}
 use lib.Dec.{ltb, eqb}
 use borrow.Author.Tests.{lt-ltb, le-ltb, eq-eqb, eqb-true}
-use Rattle.octets.specs.Each.{Each}
+use Rattle.octets.proofs.Elements.{each-too}
 use Rattle.sender.specs.Rules.{Pieces}
 use Rattle.promises.specs.Arrivals.{InTime, inTime, carriers, Whole}
 use Rattle.promises.specs.Demand.{Sending, Run, comesOut, WholeIn, Demand3, Rising, ComeOut, FewerLost}
@@ -44,10 +44,6 @@ only-lost {xs} {ys} q among k t =
     in-time-is-meant ys k .0 (arrives-in-time 0 ys k q (arrives-too among k (in-time-arrives xs k (in-time-is-meant xs k .1 t))))
 
 -- and so a frame that is whole among fewer arrivals is whole among more
-each-too : (P Q : ℕ → Type 0) (ks : List ℕ) → ((k : ℕ) → P k → Q k) → Each P ks → Each Q ks
-each-too P Q [] m p = tt
-each-too P Q (k ∷ ks) m p = (m k (p .0), each-too P Q ks m (p .1))
-
 pub whole-too : {xs ys : List ℕ} → Rising 0 ys → Sublistᴰ xs ys → (frames : List Pieces) (packets : List (List ℕ)) (i : ℕ) →
     Whole xs frames packets i → Whole ys frames packets i
 whole-too {xs} {ys} q among frames packets i w = each-too (InTime xs) (InTime ys) (carriers frames packets i) (only-lost q among) w

@@ -1,7 +1,7 @@
 -- What holds of every card that calls from an empty table can have come to, whatever was called: it has six rows of four flows, and it is not
 -- broken. Nor does any call change the length of the holding slice; and one that is refused changes nothing at all.
 use Prim.Native.Nat.{ℕ, zero, suc, _<_}
-use mathlib.Core.Path.{_≡_, refl, sym, ap, _∙_}
+use mathlib.Core.Path.{_≡_, refl, ap, _∙_}
 use mathlib.Core.Bool.{true, false}
 use mathlib.Core.Logic.{_⊎_, inl, inr}
 use mathlib.Core.List.{List, [], _∷_}

@@ -9,6 +9,7 @@ use lib.Seq.{getD-set-same, getD-set-other}
 use Rattle.octets.specs.Stretch.{part}
 use Rattle.octets.specs.Count.{sumTo}
 use Rattle.octets.proofs.Stretches.{length-part, part-none}
+use Rattle.octets.proofs.Counts.{sum-agree, sum-zero, sum-but-one}
 use Rattle.flow.specs.declared.Flow.{Flow}
 use Rattle.flow.specs.Flow.{flows, fresh}
 use Rattle.table.specs.declared.Kind.the-variants as kind
@@ -17,7 +18,7 @@ use Rattle.table.specs.Rows.{rows, rowAt, flowAt, closedRow, withRow}
 use Rattle.card.specs.Receive.{placeOf}
 use Rattle.card.specs.History.{Card, emptyCard}
 use Rattle.card.proofs.Step.{Shaped}
-use Rattle.promises.proofs.Measures.{Measure, by-length, by-nothing, sum-agree, sum-zero, sum-but-one}
+use Rattle.promises.proofs.Measures.{Measure, by-length, by-nothing}
 
 -- How a flow's bytes are counted: by the holding slice, the flow's place in it and the flow's record. Where the slice has the place, it is a
 -- measure of the bytes there; nothing held counts 0; and no byte outside counts.

@@ -1,6 +1,6 @@
 -- Isolation: what a session is told in answer to its own calls is what the session by itself would be told, a list that is made without any
 -- table. So two histories with the same own calls, opened the same way and with a holding slice of the same length, tell it the same.
-use Prim.Native.Nat.{ℕ, zero, suc, _<_}
+use Prim.Native.Nat.{ℕ}
 use mathlib.Core.Path.{_≡_, refl, sym, ap, _∙_}
 use mathlib.Core.Bool.{Bool, true, false, cond}
 use mathlib.Core.List.{List, [], _∷_}
@@ -8,8 +8,8 @@ use native.Mathlib.Omega.{arith}
 use lib.Dec.{eqb, ltb}
 use lib.ListN.{length}
 use borrow.Author.Tests.{eqb-true, lt-ltb}
-use Rattle.octets.specs.Count.{sumTo}
 use Rattle.octets.proofs.Stretches.{part-none}
+use Rattle.octets.proofs.Counts.{sum-agree}
 use Rattle.refusal.specs.Refusal.{first}
 use Rattle.flow.specs.declared.Flow.{Flow}
 use Rattle.flow.specs.Flow.{flows}
@@ -26,12 +26,6 @@ use Rattle.promises.proofs.Opens.{opens-by-ids}
 use Rattle.promises.proofs.Session.{Session, begun, refusal, toldOnly, sessionAt, heldBySession, toldAlone}
 use Rattle.promises.proofs.Showing.{Shows, shown-begun, shown-still, code-alone, told-at, shown-at}
 
--- two sums of the same numbers
-sum-alike : (f g : ℕ → ℕ) (n : ℕ) → ((k : ℕ) → k < n → f k ≡ g k) → sumTo f n ≡ sumTo g n
-unfolding sumTo
-sum-alike f g zero same = refl
-sum-alike f g (suc n) same = rw (sum-alike f g n (λ k l. same k (omega arith)), same n (omega arith)) refl
-
 module _ (session : ℕ) (named : eqb session 0 ≡ false) where
   -- The close of an open session is not refused, and drops what its flows hold.
   close-told : (c : Card) (a : Session) → Good c → Shows c session a → toldBy (answer c (closes session)) ≡ toldOnly 0 (heldBySession a)
@@ -41,7 +35,7 @@ module _ (session : ℕ) (named : eqb session 0 ≡ false) where
       let live : ltb (find t session) rows ≡ true = lt-ltb (find t session) rows (v 0 (omega arith) .is-there) in
       let none : first (closeRefusals t session) ≡ 0 = rw (g .whole, live, named) refl in
       let holds : heldIn (rowAt t (find t session)) ≡ heldBySession a =
-      sum-alike _ _ flows (λ k l. ap (λ (f : Flow). f .held) (v k l .its-record)) in
+      sum-agree _ _ flows (λ k l. ap (λ (f : Flow). f .held) (v k l .its-record)) in
       rw (none, holds, part-none [] 0) refl
 
   -- Call by call, what it is told comes from its own calls and not from the card.

@@ -10,6 +10,7 @@ use lib.ListN.{length, length-append}
 use Rattle.refusal.specs.Refusal.{first}
 use Rattle.octets.specs.Each.{Each}
 use Rattle.octets.proofs.Stretches.{put-nil}
+use Rattle.octets.proofs.Elements.{each-up-to}
 use Rattle.flow.specs.declared.Flow.{Flow}
 use Rattle.packet.specs.Header.{overIp, headerLength, sub, sSet, number, flowId}
 use Rattle.packet.specs.Dmpt.{mpegLength, mpegCount, mpegAt, mpegs, pid, nullPid}
@@ -27,7 +28,6 @@ use Rattle.card.proofs.Limits.{held-none, accepted-bounded}
 use Rattle.card.proofs.Step.{framesIn}
 use Rattle.promises.specs.Dmpt.{carrying, nulls, DmptDelivers}
 use Rattle.promises.proofs.Limits.{frames-back}
-use Rattle.promises.proofs.Passed.{each-up-to}
 
 -- One MPEG packet before the others, by its PID: it is delivered, ..
 gives-first : (null : Bool) (m : List ℕ) (others : List (List ℕ)) → (cond null (dropping m) (delivering m)) .delivered ++ others ≡ cond null others (m ∷ others)

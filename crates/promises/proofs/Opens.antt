@@ -3,14 +3,13 @@
 use Prim.Native.Nat.{ℕ, zero, suc, _<_, _≤_}
 use mathlib.Core.Path.{_≡_, refl, sym, ap, _∙_}
 use mathlib.Core.Bool.{Bool, true, false, cond, not, _&&_, _||_, or-comm, or-false, or-true, true≢false}
-use mathlib.Core.Logic.{⊎-elim}
 use mathlib.Core.List.{List, [], _∷_}
 use native.Mathlib.Omega.{arith}
 use lib.Dec.{eqb, ltb, leb, leb·suc-suc}
 use lib.ListN.{length}
-use borrow.Author.Tests.{lt-ltb, le-ltb, le-leb, lt-leb}
-use Rattle.octets.specs.Count.{any, least}
-use Rattle.octets.proofs.Counts.{true-or-false, none-all, least-below, least-none}
+use borrow.Author.Tests.{lt-ltb}
+use Rattle.octets.specs.Count.{any}
+use Rattle.octets.proofs.Counts.{least-found, least-missed, none-all}
 use Rattle.refusal.specs.Refusal.{first}
 use Rattle.table.specs.declared.Mode.{Mode}
 use Rattle.table.specs.declared.Table.{Table}
@@ -19,21 +18,6 @@ use Rattle.table.specs.Broken.{broken}
 use Rattle.table.specs.Calls.{isOpen, openRefusals, opened}
 use Rattle.table.proofs.Keeping.{rows-apart, opened-code}
 use Rattle.promises.proofs.Distinct.{has, Distinct, same-length}
-
--- The least number that passes is below the bound exactly where some number passes.
-least-found : (p : ℕ → Bool) (n : ℕ) → ltb (least p n) n ≡ any p n
-least-found p n =
-    ⊎-elim
-    (λ (a : any p n ≡ true). lt-ltb (least p n) n (least-below p n a) ∙ sym a)
-    (λ (a : any p n ≡ false). le-ltb (least p n) n (omega (arith, least-none p n a)) ∙ sym a)
-    (true-or-false (any p n))
-
-least-missed : (p : ℕ → Bool) (n : ℕ) → leb n (least p n) ≡ not (any p n)
-least-missed p n =
-    ⊎-elim
-    (λ (a : any p n ≡ true). lt-leb n (least p n) (least-below p n a) ∙ ap not (sym a))
-    (λ (a : any p n ≡ false). le-leb n (least p n) (omega (arith, least-none p n a)) ∙ ap not (sym a))
-    (true-or-false (any p n))
 
 -- the IDs of the open rows below row n, the last one first
 abbrev pub openIds : Table → ℕ → List ℕ

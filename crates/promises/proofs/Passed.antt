@@ -3,13 +3,12 @@
 use Prim.Native.Nat.{ℕ, zero, suc, _≤_, _<_}
 use mathlib.Core.Path.{_≡_, refl, ap, _∙_, subst}
 use mathlib.Core.Bool.{Bool, true, false}
-use mathlib.Core.List.{List, [], _∷_, _++_}
+use mathlib.Core.List.{List, [], _∷_}
 use native.Mathlib.Omega.{arith}
-use native.Mathlib.Nat.{not-suc-le-zero}
 use lib.ListN.{length, getD}
-use Rattle.octets.specs.Count.{upTo}
 use Rattle.octets.specs.Each.{Each}
 use Rattle.octets.proofs.Counts.{length-up-to}
+use Rattle.octets.proofs.Elements.{each-both, each-front, each-back, each-at, each-up-to}
 use Rattle.octets.proofs.Stretches.{length-part}
 use Rattle.flow.specs.declared.Flow.{Flow}
 use Rattle.flow.specs.Numbers.{numberAt}
@@ -21,30 +20,6 @@ use Rattle.packet.proofs.Passing.{PspPassed, check-passed, body-inside, body-so
 use Rattle.card.specs.Hear.{judgedBy, judgedOf}
 use Rattle.sender.specs.Rules.{Pieces, segmentsOf, allSegments, wholeFrame, begunFrame, inTurn, KeepsRules}
 use Rattle.sender.proofs.Frames.{Filled}
-
--- Something that holds of each element of two lists holds of each of both together, and the other way; and of an element by its place.
-module _ {A : Type 0} (P : A → Type 0) where
-  pub each-both : (a b : List A) → Each P a → Each P b → Each P (a ++ b)
-  each-both [] b p q = q
-  each-both (x ∷ a) b p q = (p .0, each-both a b (p .1) q)
-
-  pub each-front : (a b : List A) → Each P (a ++ b) → Each P a
-  each-front [] b p = tt
-  each-front (x ∷ a) b p = (p .0, each-front a b (p .1))
-
-  pub each-back : (a b : List A) → Each P (a ++ b) → Each P b
-  each-back [] b p = p
-  each-back (x ∷ a) b p = each-back a b (p .1)
-
-  pub each-at : (a : List A) (i : ℕ) (d : A) → Each P a → i < length a → P (getD a i d)
-  each-at [] i d p l = absurd (not-suc-le-zero l)
-  each-at (x ∷ a) zero d p l = p .0
-  each-at (x ∷ a) (suc i) d p l = each-at a i d (p .1) (omega arith)
-
-  pub each-up-to : (f : ℕ → A) (n : ℕ) → ((k : ℕ) → k < n → P (f k)) → Each P (upTo f n)
-  unfolding upTo
-  each-up-to f zero p = tt
-  each-up-to f (suc n) p = each-both (upTo f n) (f n ∷ []) (each-up-to f n (λ k l. p k (omega arith))) (p n (omega arith), tt)
 
 abbrev pub HasBytes : Segment → Type 0
 HasBytes s = Filled (s .body)

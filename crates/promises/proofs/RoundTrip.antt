@@ -2,24 +2,29 @@
 -- arrived whole; and where all arrive in order all of them, since each packet then arrives before any sent after it.
 use Prim.Native.Nat.{ℕ, _+_, _-_, _<_}
 use mathlib.Core.Path.{_≡_, refl, sym, ap, _∙_}
-use mathlib.Core.Bool.{Bool, true, false}
+use mathlib.Core.Bool.{Bool, true, false, cond}
 use mathlib.Core.List.{List, [], _∷_, _++_, append-nil, append-assoc}
 use native.Mathlib.Omega.{arith}
-use lib.Dec.{ltb}
+use native.Mathlib.Numerals.{add-one}
+use lib.Dec.{eqb, ltb}
 use lib.ListN.{length, getD, length-append, List·getD-append}
 use lib.Seq.{getD-append-add}
-use borrow.Author.Tests.{ltb-true, ltb-false}
-use Rattle.flow.specs.Numbers.{numberAt}
+use borrow.Author.Tests.{eqb-true, ltb-true, ltb-false}
+use Rattle.octets.proofs.Elements.{each-both}
+use Rattle.flow.specs.Numbers.{modulus, numberAt}
+use Rattle.flow.proofs.Numbers.{next-below, numberAt-first, numberAt-from-next}
 use Rattle.packet.specs.Header.{overIp, sub, number}
 use Rattle.packet.specs.Check.{kindPsp, check}
-use Rattle.sender.specs.Rules.{Pieces, FrameSized, Addressed, segmentsOf, wholeFrame, begunFrame, inTurn, allSegments}
-use Rattle.sender.proofs.Keeping.{sent-length}
+use Rattle.sender.specs.declared.Position.{Position}
+use Rattle.sender.specs.Send.{Asked, sent}
+use Rattle.sender.specs.Series.{Job, Turn, askedFor, packetLeft, seriesPackets, seriesNumber}
+use Rattle.sender.specs.Rules.{KeepsRules, Pieces, FrameSized, Addressed, segmentsOf, wholeFrame, begunFrame, inTurn, allSegments}
+use Rattle.sender.proofs.Keeping.{sent-length, sent-number}
 use Rattle.sender.proofs.Series.{code-is, sends-all}
 use Rattle.promises.specs.Demand.{Sending, Run}
 use Rattle.promises.specs.RoundTrip.{packetsGiven, SenderKeepsRules, SendingsGoOn, KeepsLimit, sendingOf, RoundTrip}
 use Rattle.promises.proofs.AllArrive.{inARow, all-packets, in-bound, all-whole, all-kept}
 use Rattle.promises.proofs.Demand.{demand-3}
-use Rattle.promises.proofs.Passed.{each-both}
 
 -- What the sender sends is a sending of these frames.
 pub sender-keeps-rules : SenderKeepsRules
@@ -70,9 +75,11 @@ numbered-both start packets behind front back i l = by (ltb i (length packets)) 
         ∙ back j (omega (arith, length-append packets behind))
         ∙ number-on start (length packets) j)
 
-pub sendings-go-on : SendingsGoOn
+both-keep : (session flow start : ℕ) (frames more : List Pieces) (unfinished : Pieces) (packets behind : List (List ℕ)) →
+    KeepsRules session flow start frames [] packets → KeepsRules session flow (numberAt start (length packets)) more unfinished behind →
+    KeepsRules session flow start (frames ++ more) unfinished (packets ++ behind)
 unfolding begunFrame
-sendings-go-on session flow start frames more unfinished packets behind first then =
+both-keep session flow start frames more unfinished packets behind first then =
     record {
       sizes = each-both FrameSized frames more (first .sizes) (then .sizes);
       passing = each-both (λ p. check overIp kindPsp p ≡ 0) packets behind (first .passing) (then .passing);
@@ -82,6 +89,31 @@ sendings-go-on session flow start frames more unfinished packets behind first th
           rw (segments-both packets behind, first .in-order, then .in-order, frames-both frames more, append-nil (inTurn frames))
           (sym (append-assoc (inTurn frames) (inTurn more) (begunFrame true unfinished)));
     }
+
+-- The number that a series gives back is that of the packet which would come next: each call that is not refused gives back the next of its own.
+series-number : (job : Job) (turns : List Turn) (number : ℕ) (at : Position) → number < modulus →
+    seriesNumber job number at turns ≡ numberAt number (length (seriesPackets job number at turns))
+unfolding seriesNumber seriesPackets
+series-number job [] number at b = sym (numberAt-first number b)
+series-number job (turn ∷ more) number at b =
+    by (eqb ((sent asked) .answer .code) 0) refl (series-number job more ((sent asked) .answer .number) ((sent asked) .answer .position))
+  where
+    asked : Asked
+    asked = askedFor job number at turn
+
+    by : (t : Bool) → eqb ((sent asked) .answer .code) 0 ≡ t →
+        ((sent asked) .answer .number < modulus → seriesNumber job ((sent asked) .answer .number) ((sent asked) .answer .position) more
+        ≡ numberAt ((sent asked) .answer .number) (length (seriesPackets job ((sent asked) .answer .number) ((sent asked) .answer .position) more))) →
+        cond t (seriesNumber job ((sent asked) .answer .number) ((sent asked) .answer .position) more) number
+        ≡ numberAt number (length (cond t (packetLeft (sent asked) ∷ seriesPackets job ((sent asked) .answer .number) ((sent asked) .answer .position) more) []))
+    by false e behind = sym (numberAt-first number b)
+    by true e behind =
+        let given = sent-number asked (sym (code-is asked) ∙ eqb-true ((sent asked) .answer .code) 0 e) in
+        let later = length (seriesPackets job ((sent asked) .answer .number) ((sent asked) .answer .position) more) in
+        behind (rw given (next-below number)) ∙ ap (λ (n : ℕ). numberAt n later) given ∙ numberAt-from-next number later ∙ ap (numberAt number) (add-one later)
+
+pub sendings-go-on : SendingsGoOn
+sendings-go-on = record { joined-up = both-keep; numbered-on = λ job number at turns b. series-number job turns number at b }
 
 -- What comes out: all frames, where all packets arrive in order; and over a network what demand 3 says.
 pub round-trip : RoundTrip

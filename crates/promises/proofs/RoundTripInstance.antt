@@ -1,8 +1,8 @@
 -- A closed instance of the round trip: premises met, both sides computed. It cites definitions alone, so that it can be held against wrong ones.
 use Prim.Native.Nat.{ℕ, zero, suc, _≤_}
 use mathlib.Core.Path.{_≡_, refl, sym}
-use mathlib.Core.Bool.{true, false}
-use mathlib.Core.List.{List, [], _∷_}
+use mathlib.Core.Bool.{false}
+use mathlib.Core.List.{[], _∷_}
 use native.Mathlib.Omega.{arith}
 use lib.ListN.{length, replicate, length-replicate}
 use Rattle.octets.specs.Stretch.{part, rest, put, joined, lengths, cutBy}

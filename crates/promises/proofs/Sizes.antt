@@ -3,7 +3,7 @@
 use Prim.Native.Nat.{ℕ, zero, suc, _≤_, _<_}
 use mathlib.Core.Path.{_≡_, refl}
 use mathlib.Core.Bool.{Bool, true, false, cond}
-use mathlib.Core.List.{List, [], _∷_, _++_}
+use mathlib.Core.List.{List, _++_}
 use native.Mathlib.Omega.{arith}
 use lib.Dec.{eqb, ltb}
 use lib.ListN.{length, length-append}
@@ -12,6 +12,7 @@ use Rattle.refusal.specs.Refusal.{first}
 use Rattle.octets.specs.Each.{Each}
 use Rattle.octets.specs.Count.{upTo}
 use Rattle.octets.proofs.Stretches.{length-part}
+use Rattle.octets.proofs.Elements.{each-both}
 use Rattle.flow.specs.Flow.{longest}
 use Rattle.packet.specs.Segments.{Segment, entryWidth, lengthAt, bodyAt, segmentAt, segments}
 use Rattle.packet.specs.Header.{segmentCount}
@@ -22,11 +23,6 @@ use Rattle.card.specs.Hear.{pspFate, dmptFate, fateOf}
 use Rattle.card.specs.Receive.{packetRefusals}
 use Rattle.card.proofs.Account.{in-order-next}
 use Rattle.card.proofs.Carrying.{mpeg-length, dmpt-header}
-
--- something that holds of each of two lists, one behind the other
-each-append : {A : Type 0} (P : A → Type 0) (xs ys : List A) → Each P xs → Each P ys → Each P (xs ++ ys)
-each-append P [] ys a b = b
-each-append P (x ∷ xs) ys a b = (a .0, each-append P xs ys (a .1) b)
 
 -- 1 to 2,048 bytes
 abbrev pub Sized : List ℕ → Type 0
@@ -79,7 +75,7 @@ module _ {X : Type 0} (rule : List ℕ → X → Fate) (f : Fate) (piece : ℕ �
   in-order-sized (suc k) l =
       let so-far = inOrder rule f (upTo piece k) in
       rw (in-order-next rule f piece k)
-      (each-append Sized (so-far .delivered) (rule (so-far .held) (piece k) .delivered) (in-order-sized k (omega arith))
+      (each-both Sized (so-far .delivered) (rule (so-far .held) (piece k) .delivered) (in-order-sized k (omega arith))
       (each (so-far .held) k (omega arith)))
 
 -- What becomes of a packet that is not refused, PSP and D-MPT.

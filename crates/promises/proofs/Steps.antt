@@ -1,20 +1,20 @@
 -- How a call changes a card, seen from one flow of one session: its own packet is heard by it, and nothing else that is called touches its
 -- record, its bytes or its row, short of its session's close. Everything that is said of histories rests on these steps.
-use Prim.Native.Nat.{ℕ, zero, suc, _<_, _≤_}
+use Prim.Native.Nat.{ℕ, _<_, _≤_}
 use mathlib.Core.Path.{_≡_, refl, sym, ap, subst, _∙_}
 use mathlib.Core.Bool.{Bool, true, false, not, cond, _&&_, true≢false}
 use mathlib.Core.Logic.{_⊎_, inl, inr, ⊎-elim}
 use mathlib.Core.List.{List, [], _∷_, _++_}
 use native.Mathlib.Omega.{arith}
 use lib.Dec.{eqb, leb, ltb}
-use lib.ListN.{length, set, getD-replicate}
+use lib.ListN.{length, getD-replicate}
 use lib.Seq.{getD-set-same, getD-set-other}
-use borrow.Author.Tests.{eqb-true, eqb-false, eq-eqb, ne-eqb, ltb-true, ltb-false, lt-ltb, leb-true, le-leb, not-false}
+use borrow.Author.Tests.{eqb-true, eqb-false, eq-eqb, ne-eqb, lt-ltb, le-leb}
 use Rattle.octets.specs.Stretch.{part}
 use Rattle.octets.proofs.Counts.{true-or-false, least-same, least-passes, none-at}
 use Rattle.octets.proofs.Stretches.{part-none}
 use Rattle.refusal.specs.Refusal.{Refusal, first, _when_}
-use Rattle.refusal.proofs.Laws.{numbered, first-passed}
+use Rattle.refusal.proofs.Laws.{numbered, and-left, and-right, first-passed}
 use Rattle.flow.specs.declared.Flow.{Flow}
 use Rattle.flow.specs.Flow.{fresh, flows, longest}
 use Rattle.packet.specs.Header.{overIp, sub, sessionId, beforeSession, flowId, shortestPacket}
@@ -25,14 +25,13 @@ use Rattle.table.specs.declared.Mode.the-variants as mode
 use Rattle.table.specs.declared.Row.{Row}
 use Rattle.table.specs.declared.Table.{Table}
 use Rattle.table.specs.Rows.{rows, isClosed, isDmpt, rowAt, flowAt, closedRow, openIn, find, freeIn, lowestFree, withRow}
-use Rattle.table.specs.Broken.{broken}
 use Rattle.table.specs.Calls.{kindOf, isOpen, freshRow, opened, closed}
-use Rattle.table.proofs.Keeping.{FlowWhole, flows-whole, opened-there, opened-table, opened-code, Opens, opens, afterOpen, closed-table, closed-code, Closes, closes, afterClose}
-use Rattle.card.specs.Hear.{Heard, judgedOf, hear, recordAfter}
+use Rattle.table.proofs.Keeping.{flows-whole, opened-there, opened-table, opened-code, opens, closed-table, closed-code, closes}
+use Rattle.card.specs.Hear.{judgedOf, hear, recordAfter}
 use Rattle.card.specs.Receive.{placeOf, Slices, asSlices, tooSmall, rowOf, toDmpt, flowOf, heardBy, earlyRefusals, packetRefusals, flowRefusals, dataRefusals, received}
-use Rattle.card.specs.History.{Card, Call, opens as opensCall, closes as closesCall, hands, framesOf, answer, after, afterAll, emptyCard}
-use Rattle.card.proofs.Accepted.{received-code, accepted, flow-there}
-use Rattle.card.proofs.Step.{Shaped, StepOf, one-flow-step}
+use Rattle.card.specs.History.{Card, Call, opens as opensCall, closes as closesCall, hands, framesOf, answer, after}
+use Rattle.card.proofs.Accepted.{received-code, accepted}
+use Rattle.card.proofs.Step.{StepOf, one-flow-step}
 use Rattle.promises.specs.Words.{ofSession, ofFlow, handsTo, closesIt}
 use Rattle.promises.proofs.Good.{Good, refused-stays}
 
@@ -64,9 +63,10 @@ stands-by c d session flow kind f held s same as-before =
 found-open : (t : Table) (session : ℕ) → find t session < rows → openIn t session (find t session) ≡ true
 found-open t session l = least-passes (openIn t session) rows l
 
-and-true : (a b : Bool) → (a && b) ≡ true → (a ≡ true) × (b ≡ true)
-and-true true b e = (refl, e)
-and-true false b e = absurd (true≢false (sym e))
+found-id : (t : Table) (session : ℕ) → find t session < rows → rowAt t (find t session) .id ≡ session
+found-id t session l =
+    eqb-true (rowAt t (find t session) .id) session
+    (and-right (not (isClosed (rowAt t (find t session) .kind))) (eqb (rowAt t (find t session) .id) session) (found-open t session l))
 
 -- a row replaced, seen from another
 other-row : (t : Table) (i : ℕ) (row : Row) (j : ℕ) → (j ≡ i → ⊥) → rowAt (withRow t i row) j ≡ rowAt t j
@@ -121,9 +121,8 @@ none-right false b e = refl
 
 in-another : (t : Table) (id session : ℕ) → find t id < rows → (id ≡ session → ⊥) → openIn t session (find t id) ≡ false
 in-another t id session l other =
-    let its = and-true (not (isClosed (rowAt t (find t id) .kind))) (eqb (rowAt t (find t id) .id) id) (found-open t id l) in
     none-right (not (isClosed (rowAt t (find t id) .kind))) (eqb (rowAt t (find t id) .id) session)
-    (ne-eqb (rowAt t (find t id) .id) session (λ e. other (sym (eqb-true (rowAt t (find t id) .id) id (its .1)) ∙ e)))
+    (ne-eqb (rowAt t (find t id) .id) session (λ e. other (sym (found-id t id l) ∙ e)))
 
 close-stays : (c : Card) (id session flow : ℕ) (k : Kind) (f : Flow) (held : List ℕ) → Good c → Stands c session flow k f held →
     (id ≡ session → ⊥) → closed (c .table) id .code ≡ 0 → Stands (after c (closesCall id)) session flow k f held
@@ -137,9 +136,10 @@ close-stays c id session flow k f held g s other z =
 -- A packet handed in. Its session's row, and the flow there, are told by the packet.
 of-session : (session flow : ℕ) (packet : List ℕ) → ofFlow session flow packet ≡ true → (sessionId overIp packet ≡ session) × (flowId (sub overIp packet) ≡ flow)
 of-session session flow packet e =
-    let both = and-true (ofSession session packet) (eqb (flowId (sub overIp packet)) flow) e in
-    let id = and-true (leb shortestPacket (length packet)) (eqb (sessionId overIp packet) session) (both .0) in
-    (eqb-true (sessionId overIp packet) session (id .1), eqb-true (flowId (sub overIp packet)) flow (both .1))
+    let its = and-left (ofSession session packet) (eqb (flowId (sub overIp packet)) flow) e in (
+      eqb-true (sessionId overIp packet) session (and-right (leb shortestPacket (length packet)) (eqb (sessionId overIp packet) session) its),
+      eqb-true (flowId (sub overIp packet)) flow (and-right (ofSession session packet) (eqb (flowId (sub overIp packet)) flow) e),
+    )
 
 is-of : (session flow : ℕ) (packet : List ℕ) → shortestPacket ≤ length packet → sessionId overIp packet ≡ session → flowId (sub overIp packet) ≡ flow →
     ofFlow session flow packet ≡ true
@@ -149,9 +149,7 @@ is-of session flow packet long id k =
 -- two sessions that are open in one row are one
 one-row : (t : Table) (a b : ℕ) → find t a < rows → find t b < rows → find t a ≡ find t b → a ≡ b
 one-row t a b l m e =
-    let of-a = and-true (not (isClosed (rowAt t (find t a) .kind))) (eqb (rowAt t (find t a) .id) a) (found-open t a l) in
-    let of-b = and-true (not (isClosed (rowAt t (find t b) .kind))) (eqb (rowAt t (find t b) .id) b) (found-open t b m) in
-    sym (eqb-true (rowAt t (find t a) .id) a (of-a .1)) ∙ ap (λ (i : ℕ). rowAt t i .id) e ∙ eqb-true (rowAt t (find t b) .id) b (of-b .1)
+    sym (found-id t a l) ∙ ap (λ (i : ℕ). rowAt t i .id) e ∙ found-id t b m
 
 -- an accepted packet of another flow
 module _ (c : Card) (packet out lens : List ℕ) (g : Good c) (z : answer c (hands packet out lens) .code ≡ 0) where

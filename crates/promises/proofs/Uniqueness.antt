@@ -1,9 +1,6 @@
 -- No call leaves its outcome open: what the definition says is permitted, and any two permitted outcomes are the same. Each crate has
 -- proved this of its own calls; here the laws stand together.
-use Prim.Native.Nat.{ℕ, _+_}
-use mathlib.Core.Path.{refl, sym, _∙_}
-use mathlib.Core.List.{List}
-use denote.Ref.{RefT}
+use Prim.Native.Nat.{_+_}
 use Rattle.flow.specs.Flow.{fresh, judge}
 use Rattle.flow.proofs.Unique.{fresh-permitted, fresh-unique, judge-permitted, judge-unique}
 use Rattle.packet.specs.Header.{overIp}
@@ -18,7 +15,7 @@ use Rattle.sender.specs.Send.{sent}
 use Rattle.sender.proofs.Unique.{send-permitted, send-unique}
 use Rattle.capture.specs.File as capture
 use Rattle.capture.proofs.Unique as capture-laws
-use Rattle.promises.specs.Unique.{SameSlice, UniqueOpen, UniqueClose, UniqueReceive, UniqueSend}
+use Rattle.promises.specs.Unique.{UniqueOpen, UniqueClose, UniqueReceive, UniqueSend}
 use Rattle.promises.specs.Unique.{UniqueCheck, UniqueSegment, UniqueCapture, UniqueFlow}
 
 pub unique-open : UniqueOpen
@@ -66,23 +63,6 @@ unique-segment slice k = (
   },
 )
 
--- .. and so is the body of an entry of a capture file
-module _ (file : RefT (List ℕ)) (index : ℕ) where
-  abbrev body-there : RefT (List ℕ)
-  body-there =
-      record {
-        ptr = (file .ptr .0, file .ptr .1 + capture.bodyStart capture.headLength capture.entryLength (file .now) index);
-        name = file .name;
-        now = (capture.nthEntry (file .now) index) .body;
-      }
-
-  body-permitted : capture.PermitsBody file index body-there
-  body-permitted = record { in-the-file = refl; at-its-place = refl; its-bytes = refl }
-
-  body-unique : (a b : RefT (List ℕ)) → capture.PermitsBody file index a → capture.PermitsBody file index b → SameSlice a b
-  body-unique a b p q =
-      (p .in-the-file ∙ sym (q .in-the-file), p .at-its-place ∙ sym (q .at-its-place), p .its-bytes ∙ sym (q .its-bytes))
-
 pub unique-capture : UniqueCapture
 unique-capture file index = (
   record {
@@ -90,7 +70,7 @@ unique-capture file index = (
     permitted = capture-laws.check-permitted (file .now);
     only-one = capture-laws.check-unique (file .now);
   },
-  record { outcome = body-there file index; permitted = body-permitted file index; only-one = body-unique file index },
+  record { outcome = capture-laws.body-there file index; permitted = capture-laws.body-permitted file index; only-one = capture-laws.body-unique file index },
 )
 
 pub unique-flow : UniqueFlow

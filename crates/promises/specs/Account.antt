@@ -16,7 +16,7 @@ use Rattle.packet.specs.Dmpt.{mpegs}
 use Rattle.table.specs.declared.Table.{Table}
 use Rattle.table.specs.Rows.{rows, rowAt, flowAt, find, heldIn, empty}
 use Rattle.card.specs.Receive.{placeOf, asSlices, rowOf, toDmpt, heardBy}
-use Rattle.card.specs.History.{Card, Call, opens, closes, hands, Answer, framesOf, answer, after, afterAll, emptyCard}
+use Rattle.card.specs.History.{Card, Call, opens, closes, hands, framesOf, answer, after, afterAll, emptyCard}
 
 -- the body of a packet: the bodies of its segments, or its MPEG packets, those with PID 0x1FFF included
 abbrev pub packetBody : Bool → List ℕ → List ℕ

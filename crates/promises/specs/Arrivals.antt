@@ -1,7 +1,7 @@
 -- The network (document 01, "Demand 3 and the next rule suppose"). The sender's packets have the places 0, 1, 2, .. in the order of sending, and
 -- no two have the same place, however often the 16-bit numbers have begun again. An arrival is the place of the packet that arrives: so
 -- one list of places says what was lost, what came again and what came late.
-use Prim.Native.Nat.{ℕ, zero, suc, _+_, _≤_, _<_, max}
+use Prim.Native.Nat.{ℕ, suc, _+_, _≤_, _<_, max}
 use mathlib.Core.Path.{_≡_}
 use mathlib.Core.Bool.{Bool, true, false, cond}
 use mathlib.Core.List.{List, [], _∷_, _++_}

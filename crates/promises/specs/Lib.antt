@@ -8,4 +8,5 @@ pub mod Limits
 pub mod Refusals
 pub mod Unique
 pub mod RoundTrip
+pub mod Captures
 pub mod Marked

@@ -14,7 +14,7 @@ use Rattle.flow.specs.Flow.{flows}
 use Rattle.table.specs.declared.Mode.the-variants as mode
 use Rattle.table.specs.Rows.{rowAt, flowAt, find}
 use Rattle.card.specs.Receive.{holdingSize, mostBytes, mostFrames, placeOf}
-use Rattle.card.specs.History.{Card, Call, opens, hands, Answer, framesOf, answer, after, emptyCard}
+use Rattle.card.specs.History.{Card, Call, opens, hands, framesOf, answer, after, emptyCard}
 use Rattle.sender.specs.Series.{Job, Turn, startOfFrame, seriesPackets}
 
 abbrev pub A : List ℕ

@@ -11,8 +11,9 @@ use Rattle.flow.specs.Numbers.{modulus, numberAt}
 use Rattle.packet.specs.Header.{idLength}
 use Rattle.table.specs.declared.Mode.the-variants as mode
 use Rattle.card.specs.History.{Call, opens, answer, after, afterAll, emptyCard}
+use Rattle.sender.specs.declared.Position.{Position}
 use Rattle.sender.specs.Send.{Asked, sent}
-use Rattle.sender.specs.Series.{Job, Turn, Sound, Usable, startOfFrame, seriesPackets}
+use Rattle.sender.specs.Series.{Job, Turn, Sound, Usable, startOfFrame, seriesPackets, seriesNumber}
 use Rattle.sender.specs.Rules.{Pieces, KeepsRules}
 use Rattle.promises.specs.Words.{packetsTo, framesOut, LongEnough, StaysOpen}
 use Rattle.promises.specs.Arrivals.{Kept}
@@ -44,13 +45,15 @@ pub record SenderKeepsRules : Type 0 where
   pub pieces : Given → List Pieces
   pub are-sent : (g : Given) → IsSent g (pieces g)
 
--- .. and one sending behind another, numbered on, is a sending: so frames may be given to the sender 127 at a time, as 33 has it, for ever
-abbrev pub SendingsGoOn : Type 0
-SendingsGoOn =
-    (session flow start : ℕ) (frames more : List Pieces) (unfinished : Pieces) (packets behind : List (List ℕ)) →
-    KeepsRules session flow start frames [] packets →
-    KeepsRules session flow (numberAt start (length packets)) more unfinished behind →
-    KeepsRules session flow start (frames ++ more) unfinished (packets ++ behind)
+-- .. and one sending behind another, numbered on, is a sending; and the number that a series gives back is the one to go on with. So frames may be given to
+-- the sender 127 at a time, which is all that 33 lets pass, for ever.
+pub record SendingsGoOn : Type 0 where
+  pub joined-up : (session flow start : ℕ) (frames more : List Pieces) (unfinished : Pieces) (packets behind : List (List ℕ)) →
+      KeepsRules session flow start frames [] packets →
+      KeepsRules session flow (numberAt start (length packets)) more unfinished behind →
+      KeepsRules session flow start (frames ++ more) unfinished (packets ++ behind)
+  pub numbered-on : (job : Job) (number : ℕ) (at : Position) (turns : List Turn) → number < modulus →
+      seriesNumber job number at turns ≡ numberAt number (length (seriesPackets job number at turns))
 
 -- .. and no packet is longer than its limit, which counts what follows the session ID
 abbrev pub KeepsLimit : Type 0

@@ -6,17 +6,14 @@ use mathlib.Core.Path.{_≡_}
 use mathlib.Core.List.{List}
 use denote.Ref.{RefT}
 use Rattle.flow.specs.declared.Flow.{Flow}
-use Rattle.flow.specs.declared.Judged.{Judged}
 use Rattle.flow.specs.Flow.{PermitsFresh, PermitsJudge}
 use Rattle.packet.specs.Check as packet
 use Rattle.table.specs.declared.Mode.{Mode}
 use Rattle.table.specs.declared.Table.{Table}
-use Rattle.table.specs.declared.Opening.{Opening}
-use Rattle.table.specs.declared.Closing.{Closing}
 use Rattle.table.specs.Rows.{PermitsEmpty}
 use Rattle.table.specs.Calls.{PermitsOpen, PermitsClose}
-use Rattle.card.specs.Receive.{Slices, Outcome, PermitsReceive}
-use Rattle.sender.specs.Send.{Asked, SendOutcome, PermitsSend}
+use Rattle.card.specs.Receive.{Slices, PermitsReceive}
+use Rattle.sender.specs.Send.{Asked, PermitsSend}
 use Rattle.capture.specs.File as capture
 
 -- one outcome is permitted, where two outcomes count as one if they are the `same`

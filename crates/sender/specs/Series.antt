@@ -66,3 +66,10 @@ seriesEnd job number at [] = at
 seriesEnd job number at (turn ∷ more) =
     let o = sent (askedFor job number at turn) in
     cond (eqb (o .answer .code) 0) (seriesEnd job (o .answer .number) (o .answer .position) more) at
+
+-- .. and the number that it ends with, which the next series starts with
+unfoldable pub seriesNumber : Job → ℕ → Position → List Turn → ℕ
+seriesNumber job number at [] = number
+seriesNumber job number at (turn ∷ more) =
+    let o = sent (askedFor job number at turn) in
+    cond (eqb (o .answer .code) 0) (seriesNumber job (o .answer .number) (o .answer .position) more) number

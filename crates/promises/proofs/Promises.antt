@@ -1,0 +1,116 @@
+-- The promises, by name. What each says stands in specs/, in the file that is named beside it; why it is so, in the file of this folder that it is cited from.
+-- No axiom is used, and no premise but those that the statements have. They speak of the very definitions that the contracts of `open`, `close`,
+-- `receive` and `send` cite, so they hold of the code.
+use Rattle.promises.specs.Arrivals.{InTimeIsMeant}
+use Rattle.promises.specs.Demand.{Demand3, FewerLost, GapsAreTold}
+use Rattle.promises.specs.Account.{ByteAccount, EachByte}
+use Rattle.promises.specs.Dmpt.{DmptDelivers}
+use Rattle.promises.specs.Isolation.{Isolation, OpenByIds}
+use Rattle.promises.specs.Limits.{WithinLimits, NeverBroken}
+use Rattle.promises.specs.Refusals.{RefusalsChangeNothing}
+use Rattle.promises.specs.Unique.{UniqueOpen, UniqueClose, UniqueReceive, UniqueSend, UniqueCheck, UniqueSegment, UniqueCapture, UniqueFlow}
+use Rattle.promises.specs.RoundTrip.{SenderKeepsRules, SendingsGoOn, KeepsLimit, RoundTrip}
+use Rattle.promises.specs.Marked.{Marked, BesidesMarked}
+use Rattle.promises.specs.Captures.{ReadsBack}
+use Rattle.promises.proofs.InTime as in-time
+use Rattle.promises.proofs.Demand as demand
+use Rattle.promises.proofs.Gaps as gaps
+use Rattle.promises.proofs.Bytes as bytes
+use Rattle.promises.proofs.Account as account
+use Rattle.promises.proofs.Mpegs as mpegs
+use Rattle.promises.proofs.Isolation as isolated
+use Rattle.promises.proofs.Limits as limits
+use Rattle.promises.proofs.Refusals as refusals
+use Rattle.promises.proofs.Uniqueness as unique
+use Rattle.promises.proofs.RoundTrip as trip
+use Rattle.promises.proofs.Marked as cases
+use Rattle.capture.proofs.ReadsBack as capture
+
+-- Demand 3, and what goes with it: specs/Demand.antt, and specs/Arrivals.antt for what the network does.
+pub demand-3 : Demand3
+demand-3 = demand.demand-3
+
+pub fewer-lost : FewerLost
+fewer-lost = demand.fewer-lost
+
+pub gaps-are-told : GapsAreTold
+gaps-are-told = gaps.gaps-are-told
+
+pub in-time-is-meant : InTimeIsMeant
+in-time-is-meant = in-time.in-time-is-meant
+
+-- The byte account: specs/Account.antt. What D-MPT delivers: specs/Dmpt.antt.
+pub byte-account : ByteAccount
+byte-account = account.byte-account
+
+pub each-byte : EachByte
+each-byte = bytes.each-byte
+
+pub dmpt-delivers : DmptDelivers
+dmpt-delivers = mpegs.dmpt-delivers
+
+-- Session against session: specs/Isolation.antt.
+pub isolation : Isolation
+isolation = isolated.isolation
+
+pub open-by-ids : OpenByIds
+open-by-ids = isolated.open-by-ids
+
+-- What no call does: specs/Limits.antt, specs/Refusals.antt.
+pub never-broken : NeverBroken
+never-broken = account.never-broken
+
+pub within-limits : WithinLimits
+within-limits = limits.within-limits
+
+pub refusals-change-nothing : RefusalsChangeNothing
+refusals-change-nothing = refusals.refusals-change-nothing
+
+-- One outcome for each call: specs/Unique.antt.
+pub unique-open : UniqueOpen
+unique-open = unique.unique-open
+
+pub unique-close : UniqueClose
+unique-close = unique.unique-close
+
+pub unique-receive : UniqueReceive
+unique-receive = unique.unique-receive
+
+pub unique-send : UniqueSend
+unique-send = unique.unique-send
+
+pub unique-check : UniqueCheck
+unique-check = unique.unique-check
+
+pub unique-segment : UniqueSegment
+unique-segment = unique.unique-segment
+
+pub unique-capture : UniqueCapture
+unique-capture = unique.unique-capture
+
+pub unique-flow : UniqueFlow
+unique-flow = unique.unique-flow
+
+-- Our own sender, and there and back: specs/RoundTrip.antt.
+pub sender-keeps-rules : SenderKeepsRules
+sender-keeps-rules = trip.sender-keeps-rules
+
+pub sendings-go-on : SendingsGoOn
+sendings-go-on = trip.sendings-go-on
+
+pub keeps-limit : KeepsLimit
+keeps-limit = trip.keeps-limit
+
+pub round-trip : RoundTrip
+round-trip = trip.round-trip
+
+-- Capture files: specs/Captures.antt.
+pub reads-back : ReadsBack
+reads-back = record { read-then-written = capture.reads-back; written-passes = capture.written-sound; written-then-read = capture.written-reads }
+
+-- The marked cases, and those beside them: specs/Marked.antt.
+pub marked : Marked
+marked = cases.marked
+
+pub besides-marked : BesidesMarked
+besides-marked = cases.besides-marked
