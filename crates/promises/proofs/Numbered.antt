@@ -59,7 +59,7 @@ module _ (whole : ℕ → Type 0) (frames : List Pieces) where
         in-order = (omega arith, r .in-order);
         were-sent = (some-left f fs frames i e, r .were-sent);
         all-whole = (w, r .all-whole);
-        no-other = λ j from below v. ⊎-elim (λ s. List·Memᴰ·head s) (λ s. List·Memᴰ·tail (r .no-other j s below v)) (at-or-behind i j from);
+        no-other = λ j from below v. ⊎-elim (λ s. List·Memᴰ·head {xs = numbersOf more} s) (λ s. List·Memᴰ·tail (r .no-other j s below v)) (at-or-behind i j from);
         their-bytes = rw (first-left f fs [] frames i e) (ap (λ rest. joined f ∷ rest) (r .their-bytes));
       }
   numbered {i} e (lost {f = f} {fs = fs} w more) =
