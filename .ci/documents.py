@@ -1,8 +1,8 @@
 """Whether the documents name what is there.
 
 In README.md, docs/ and the pages of examples/ and second/, every path in backquotes that begins with a folder of this repository exists, and every
-`file`: `name`, `name` names declarations of that file. Every must-fail edit stands in docs/PROMISES.md, and every edit named there
-exists. Prints what is wrong and ends with status 1; ends with 0 where nothing is."""
+`file`: `name`, `name` names declarations of that file. Every must-fail edit and every wrong definition stands in docs/PROMISES.md, and every one named
+there exists. Prints what is wrong and ends with status 1; ends with 0 where nothing is."""
 import glob
 import os
 import re
@@ -40,18 +40,19 @@ def wrong_in(document):
 
 
 def edits():
-    """The must-fail edits, as crate/name."""
-    return {os.path.join(p.split("/")[1], os.path.basename(p)[:-5]) for p in glob.glob("crates/*/must-fail/*.edit")}
+    """The must-fail edits, as crate/name, and the wrong definitions, as wrong-definitions/name."""
+    found = glob.glob("crates/*/must-fail/*.edit") + glob.glob("tests/wrong-definitions/*.edit")
+    return {os.path.join(p.split("/")[1], os.path.basename(p)[:-5]) for p in found}
 
 
 def wrong_edits():
     text = open("docs/PROMISES.md", encoding="utf-8").read()
-    crates = "|".join(sorted(os.listdir("crates")))
+    crates = "|".join(sorted(os.listdir("crates")) + ["wrong-definitions"])
     named = {n for n in re.findall(rf"`((?:{crates})/[a-z0-9_]+)`", text) if not os.path.exists(n)}
     for edit in sorted(edits() - named):
-        yield f"docs/PROMISES.md: the must-fail edit {edit} is not named"
+        yield f"docs/PROMISES.md: {edit} is not named"
     for edit in sorted(named - edits()):
-        yield f"docs/PROMISES.md: there is no must-fail edit {edit}"
+        yield f"docs/PROMISES.md: there is no edit {edit}"
 
 
 documents = ["README.md", *sorted(glob.glob("docs/**/*.md", recursive=True)), "examples/README.md", "second/README.md"]

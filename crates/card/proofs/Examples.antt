@@ -1,4 +1,4 @@
--- The join rule computed at its limits. (Whole data calls are computed in crate `promises`, which has the time for it.)
+-- The join rule computed at its limits. (Whole data calls are computed in crate `cases`, which has the time for it.)
 use Prim.Native.Nat.{ℕ}
 use mathlib.Core.Path.{_≡_, refl}
 use mathlib.Core.Bool.{Bool, true, false}

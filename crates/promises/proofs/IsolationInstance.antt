@@ -20,34 +20,47 @@ use Rattle.card.specs.History.{Card, Call, opens, closes, hands, answer, after,
 use Rattle.promises.specs.Isolation.{own, Told, told, cardAfter}
 use Rattle.promises.specs.Marked.{A, B, hand, of6, of9}
 
--- A and B, then the half of a frame, then the close: alone in row 0
+-- A and B, then the half of a frame on flow 2, then the close: alone but for a session in row 0 that is never heard of again, so that it is in row 1
 abbrev half-a-frame : List ℕ
 half-a-frame = 0x00 ∷ 0x00 ∷ 0x01 ∷ 0x01 ∷ 0x42 ∷ 0x01 ∷ 0x00 ∷ 0x09 ∷ 0x80 ∷ 0x02 ∷ 0x81 ∷ 0x82 ∷ []
 
 abbrev alone-calls : List Call
 alone-calls = hand A ∷ hand B ∷ hand half-a-frame ∷ closes 0x101 ∷ []
 
--- the same among others, in row 1: session 0x102 hears the like on its own flow 1 and is closed; what is lent is as long, but not the same
+abbrev one-before : List Call
+one-before = opens mode.Psp 0x109 ∷ []
+
+-- The same among others, in row 0, which another session had left. Session 0x102, in row 1, hears the like on its own flow 1, between A and B, and is closed; an
+-- open of 0x101 is refused; and what is lent is as long, but not the same.
 abbrev to-102 : ℕ → List ℕ
 to-102 number = 0x00 ∷ 0x00 ∷ 0x01 ∷ 0x02 ∷ 0x41 ∷ 0x01 ∷ 0x00 ∷ number ∷ 0x80 ∷ 0x03 ∷ 0x91 ∷ 0x92 ∷ 0x93 ∷ []
 
 abbrev hand-other : List ℕ → Call
 hand-other packet = hands packet (replicate 6144 7) (replicate 127 8)
 
+abbrev others-first : List Call
+others-first = opens mode.Dmpt 0x104 ∷ opens mode.Psp 0x102 ∷ hand (to-102 0) ∷ closes 0x104 ∷ []
+
 abbrev among-others : List Call
 among-others =
-    hand-other A ∷ hand (to-102 1) ∷ hand-other B ∷ closes 0x102 ∷ opens mode.Psp 0x103 ∷ hand-other half-a-frame ∷ closes 0x101 ∷ hand A ∷ []
-
-abbrev others-first : List Call
-others-first = opens mode.Psp 0x102 ∷ hand (to-102 0) ∷ []
+    hand-other A
+    ∷ hand (to-102 1)
+    ∷ closes 0x102
+    ∷ opens mode.Dmpt 0x101
+    ∷ hand-other B
+    ∷ opens mode.Psp 0x103
+    ∷ hand-other half-a-frame
+    ∷ closes 0x101
+    ∷ hand A
+    ∷ []
 
 same-own : own 0x101 alone-calls ≡ own 0x101 among-others
 unfolding rest own
 same-own = refl
 
-opens-both : (answer (cardAfter (replicate 49152 0) []) (opens mode.Psp 0x101) .code ≡ 0)
+opens-both : (answer (cardAfter (replicate 49152 0) one-before) (opens mode.Psp 0x101) .code ≡ 0)
     × (answer (cardAfter (replicate 49152 5) others-first) (opens mode.Psp 0x101) .code ≡ 0)
-unfolding part rest put joined lengths any least sumTo upTo ahead next bodyAt segmentAt segments wanted broken opened settledBy settled fateBy fate atGap inOrder pspFate hear carriedOut refused receivedBy received answer after afterAll
+unfolding part rest put joined lengths any least sumTo upTo ahead next bodyAt segmentAt segments wanted broken opened closed settledBy settled fateBy fate atGap inOrder pspFate hear carriedOut refused receivedBy received answer after afterAll
 opens-both = (refl, refl)
 
 abbrev answered : List Told
@@ -58,7 +71,7 @@ answered =
     ∷ record { code = 0; frames = 0; bytes = 0; dropped = 2; gap = 0; output = []; lengths = [] }
     ∷ []
 
-isolation-instance : (told 0x101 (after (cardAfter (replicate 49152 0) []) (opens mode.Psp 0x101)) alone-calls ≡ answered)
+isolation-instance : (told 0x101 (after (cardAfter (replicate 49152 0) one-before) (opens mode.Psp 0x101)) alone-calls ≡ answered)
     × (told 0x101 (after (cardAfter (replicate 49152 5) others-first) (opens mode.Psp 0x101)) among-others ≡ answered)
 unfolding part rest put joined lengths any least sumTo upTo ahead next bodyAt segmentAt segments wanted broken opened closed settledBy settled fateBy fate atGap inOrder pspFate hear carriedOut refused receivedBy received answer after afterAll told
 isolation-instance = (refl, refl)
