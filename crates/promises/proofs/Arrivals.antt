@@ -24,7 +24,7 @@ use Rattle.promises.specs.Arrivals.{WithinBound, Window, inTime}
 use Rattle.promises.proofs.Readings.{framesRead}
 use Rattle.promises.proofs.Alone.{readAlone, framesAlone}
 use Rattle.promises.proofs.InTime.{in-time-after, in-time-before, in-time-at, in-time-none}
-use Rattle.promises.proofs.Given.{given, left, behind, behind-nothing}
+use Rattle.promises.proofs.FromTheFront.{given, left, behind, behind-nothing}
 use Rattle.promises.proofs.Hearing.{listening, alone-late, frames-heard}
 
 -- a packet that came gives what its segments give; one that is missing gives nothing and leaves nothing held

@@ -21,7 +21,7 @@ use Rattle.promises.specs.Demand.{Sending, Run, openedCard, WholeIn, Dem
 use Rattle.promises.proofs.Readings.{Reading, readOut, framesRead, frames-read}
 use Rattle.promises.proofs.Alone.{readAlone}
 use Rattle.promises.proofs.Good.{Good, good-empty, good-all, good-after, holding-kept, holding-kept-all}
-use Rattle.promises.proofs.Steps.{stands-opened}
+use Rattle.promises.proofs.Standing.{stands-opened}
 use Rattle.promises.proofs.OneFlow.{flow-demand}
 use Rattle.promises.proofs.Histories.{history-read}
 use Rattle.promises.proofs.Fewer.{fewer-by-demand}

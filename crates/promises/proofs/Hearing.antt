@@ -14,7 +14,7 @@ use Rattle.card.specs.Hear.{Heard, judgedOf, fateOf, hear, recordAfter}
 use Rattle.sender.specs.Rules.{segmentsOf}
 use Rattle.promises.proofs.Readings.{Reading, framesRead}
 use Rattle.promises.proofs.Alone.{readAlone, framesAlone}
-use Rattle.promises.proofs.Given.{given, left, behind, packet-gives, packet-leaves}
+use Rattle.promises.proofs.FromTheFront.{given, left, behind, packet-gives, packet-leaves}
 
 -- the record of a flow that accepted number n and holds these bytes
 abbrev pub listening : ℕ → List ℕ → Flow

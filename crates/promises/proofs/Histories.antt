@@ -27,7 +27,8 @@ use Rattle.promises.proofs.Readings.{Reading, readOut}
 use Rattle.promises.proofs.Alone.{heardAlone, readAlone}
 use Rattle.promises.proofs.Good.{Good, good-after, holding-kept, refused-stays}
 use Rattle.promises.proofs.Refusals.{refusals-change-nothing}
-use Rattle.promises.proofs.Steps.{Stands, stands-stay, stands-heard, hands-code}
+use Rattle.promises.proofs.Standing.{Stands}
+use Rattle.promises.proofs.Steps.{stands-stay, stands-heard, hands-code}
 
 -- the two stretches of the PSP check
 psp-check : (packet : List ℕ) → check overIp kindPsp packet ≡ 0 → (first (beforeSession overIp packet) ≡ 0) × (first (pspRefusals entryWidth (sub overIp packet)) ≡ 0)

@@ -12,7 +12,7 @@ use Rattle.packet.specs.Segments.{Segment}
 use Rattle.card.specs.Join.{fate}
 use Rattle.sender.specs.Rules.{segmentsOf, allSegments}
 use Rattle.promises.specs.Arrivals.{placesFrom}
-use Rattle.promises.proofs.Given.{given, left}
+use Rattle.promises.proofs.FromTheFront.{given, left}
 use Rattle.promises.proofs.Walk.{walk}
 use Rattle.promises.proofs.Arrivals.{gives, leaves, along}
 

@@ -5,14 +5,15 @@ use mathlib.Core.Path.{_≡_, refl, ap}
 use mathlib.Core.List.{List}
 use Rattle.packet.specs.Header.{overIp}
 use Rattle.table.specs.declared.Table.{Table}
-use Rattle.table.proofs.Keeping.{refused-keeps, refused-close-keeps}
+use Rattle.table.proofs.Keeping.{refused-close-keeps}
 use Rattle.card.specs.Receive.{Slices, Outcome, asSlices, refused, received}
-use Rattle.card.specs.History.{Card, Call, opens, closes, hands, answer, after}
+use Rattle.card.specs.History.{Card, Call, opens, closes, hands, answer}
 use Rattle.card.proofs.Accepted.{received-refused}
 use Rattle.sender.specs.Send as sender
 use Rattle.sender.proofs.Sending.{sent-refused}
 use Rattle.sender.proofs.Series.{code-is}
 use Rattle.promises.specs.Refusals.{RefusalsChangeNothing}
+use Rattle.promises.proofs.Good.{refused-stays}
 
 -- The data call: a number other than 0 comes with nothing else.
 pub record Unchanged (t : Table) (s : Slices) (o : Outcome) : Type 0 where
@@ -32,15 +33,7 @@ pub refused-unchanged : (lead : ℕ) (t : Table) (packet : List ℕ) (s : Slices
     Unchanged t s (received lead t packet s)
 refused-unchanged lead t packet s other = refused-by (received lead t packet s .answer .code) lead t packet s refl other
 
--- Every call on a card.
-unchanged : (c : Card) (x : Call) → ((answer c x) .code ≡ 0 → ⊥) → after c x ≡ c
-unfolding answer after
-unchanged c (opens asked id) other = rw (refused-keeps (c .table) id asked other) refl
-unchanged c (closes id) other = rw (refused-close-keeps (c .table) id other .0) refl
-unchanged c (hands packet out lens) other =
-    let u = refused-unchanged overIp (c .table) packet (asSlices (c .holding) out lens) other in
-    rw (u .same-table, u .same-slices) refl
-
+-- Every call on a card. (That the card is as it was is `refused-stays`.)
 none-counted : (c : Card) (x : Call) → ((answer c x) .code ≡ 0 → ⊥) →
     ((answer c x) .frames ≡ 0) × ((answer c x) .bytes ≡ 0) × ((answer c x) .dropped ≡ 0) × ((answer c x) .gap ≡ 0)
 unfolding answer
@@ -66,4 +59,4 @@ given-back a other =
 
 pub refusals-change-nothing : RefusalsChangeNothing
 refusals-change-nothing =
-    record { table-and-places = unchanged; counts = none-counted; slices = same-slices; sends = given-back }
+    record { table-and-places = refused-stays; counts = none-counted; slices = same-slices; sends = given-back }

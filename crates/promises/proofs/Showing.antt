@@ -29,7 +29,8 @@ use Rattle.card.proofs.Limits.{accepted-bounded}
 use Rattle.promises.specs.Words.{ofSession, ofFlow, handsTo, closesIt}
 use Rattle.promises.specs.Isolation.{toldBy}
 use Rattle.promises.proofs.Good.{Good, refused-stays}
-use Rattle.promises.proofs.Steps.{Stands, stands-opened, stands-stay, stands-heard}
+use Rattle.promises.proofs.Standing.{Stands, stands-opened}
+use Rattle.promises.proofs.Steps.{stands-stay, stands-heard}
 use Rattle.promises.proofs.Session.{Session, begun, behindId, refusal, hears, hearing, toldOf, toldAt, sessionAt}
 
 -- Every flow of the session stands in the card as the session has it.

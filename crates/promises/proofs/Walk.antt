@@ -10,7 +10,7 @@ use Rattle.flow.specs.Flow.{longest}
 use Rattle.packet.specs.Segments.{Segment}
 use Rattle.card.specs.Join.{Fate, dropping, settledBy, fate}
 use Rattle.sender.specs.Rules.{Pieces}
-use Rattle.promises.proofs.Given.{fate-begins, fate-joins, fate-misses, fate-goes-on}
+use Rattle.promises.proofs.FromTheFront.{fate-begins, fate-joins, fate-misses, fate-goes-on}
 
 -- a segment that came is joined; one that is missing loses what is held
 abbrev pub attempt : Bool → List ℕ → Segment → Fate
