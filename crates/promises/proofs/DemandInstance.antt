@@ -23,7 +23,8 @@ use Rattle.card.specs.History.{Call, opens, closes, hands, answer, after, after
 use Rattle.sender.specs.Rules.{Pieces, wholeFrame, begunFrame, inTurn, allSegments, KeepsRules}
 use Rattle.promises.specs.Words.{packetsTo, framesOut, LongEnough}
 use Rattle.promises.specs.Arrivals.{inTime, placesFrom, carriers}
-use Rattle.promises.specs.Demand.{Sending, Run, openedCard, comesOut, Verdict, verdictsOut, verdictsFrom, verdictsOf}
+use Rattle.promises.specs.Demand.{Sending, Run, openedCard, comesOut}
+use Rattle.promises.specs.Gaps.{Verdict, verdictsOut, verdictsFrom, verdictsOf}
 
 -- Demand 3. Four frames, cut into pieces: the first is cut in two, the third too, and a fifth is begun. They go in four packets that are numbered
 -- from 0xFFFE on, so that the third has number 0.

@@ -18,7 +18,7 @@ use Rattle.card.specs.Hear.{judgedOf}
 use Rattle.card.specs.History.{Card, Call, answer, after}
 use Rattle.promises.specs.Words.{handsTo}
 use Rattle.promises.specs.Arrivals.{WithinBound, Window}
-use Rattle.promises.specs.Demand.{Verdict, verdictsOut, verdictsFrom, verdictsOf, GapsAreTold}
+use Rattle.promises.specs.Gaps.{Verdict, verdictsOut, verdictsFrom, verdictsOf, GapsAreTold}
 use Rattle.promises.proofs.Readings.{Reading, readOut}
 use Rattle.promises.proofs.Alone.{readAlone}
 use Rattle.promises.proofs.Hearing.{alone-late, alone-heard}

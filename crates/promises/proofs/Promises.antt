@@ -2,7 +2,8 @@
 -- No axiom is used, and no premise but those that the statements have. They speak of the very definitions that the contracts of `open`, `close`,
 -- `receive` and `send` cite, so they hold of the code.
 use Rattle.promises.specs.Arrivals.{InTimeIsMeant}
-use Rattle.promises.specs.Demand.{Demand3, FewerLost, GapsAreTold}
+use Rattle.promises.specs.Demand.{Demand3, FewerLost}
+use Rattle.promises.specs.Gaps.{GapsAreTold}
 use Rattle.promises.specs.Account.{ByteAccount, EachByte}
 use Rattle.promises.specs.Dmpt.{DmptDelivers}
 use Rattle.promises.specs.Isolation.{Isolation, OpenByIds}
@@ -26,7 +27,7 @@ use Rattle.promises.proofs.RoundTrip as trip
 use Rattle.promises.proofs.Marked as cases
 use Rattle.capture.proofs.ReadsBack as capture
 
--- Demand 3, and what goes with it: specs/Demand.antt, and specs/Arrivals.antt for what the network does.
+-- Demand 3, and what goes with it: specs/Demand.antt, with specs/Arrivals.antt for what the network does, and specs/Gaps.antt.
 pub demand-3 : Demand3
 demand-3 = demand.demand-3
 

@@ -1,19 +1,17 @@
--- Demand 3: the third of the three demands that README begins with; what it supposes is in document 01, "Demand 3 and the next rule suppose". Frames of 1 to 2,048 bytes are cut for one freshly opened
--- PSP flow by any sender that keeps the published rules and this paper's limits; the network loses, repeats and delays packets within the
--- bound. What comes out is precisely the frames whose every packet arrived before any packet sent after it, unaltered and in sending order.
--- So where packets are only lost, one lost fewer never takes away or alters a frame.
+-- Demand 3, the third of the three demands that README begins with; what it supposes is in document 01, "Demand 3 and the next rule suppose". Frames of
+-- 1 to 2,048 bytes are cut for one freshly opened PSP flow by any sender that keeps the published rules and the paper's limits; the network loses,
+-- repeats and delays packets within the bound. What comes out is precisely the frames whose every packet arrived before any packet sent after it,
+-- unaltered and in sending order. So where packets are only lost, one lost fewer never takes away or alters a frame.
 use Prim.Native.Nat.{ℕ, suc, _-_, _≤_, _<_}
 use mathlib.Core.Path.{_≡_}
-use mathlib.Core.Bool.{cond}
-use mathlib.Core.List.{List, [], _∷_, _++_, map, List·Memᴰ, Sublistᴰ}
-use lib.Dec.{leb}
+use mathlib.Core.List.{List, [], _∷_, map, List·Memᴰ, Sublistᴰ}
 use lib.ListN.{length, getD}
 use Rattle.octets.specs.Stretch.{joined}
 use Rattle.octets.specs.Each.{Each}
 use Rattle.table.specs.declared.Mode.the-variants as mode
 use Rattle.card.specs.History.{Card, Call, opens, answer, after, afterAll, emptyCard}
 use Rattle.sender.specs.Rules.{Pieces, KeepsRules}
-use Rattle.promises.specs.Words.{handsTo, packetsTo, framesOut, LongEnough, StaysOpen}
+use Rattle.promises.specs.Words.{packetsTo, framesOut, LongEnough, StaysOpen}
 use Rattle.promises.specs.Arrivals.{Window, Whole, Kept}
 
 -- What was sent, by a sender that keeps the rules: the sizes of frames and packets, the marks, the numbers and the order are in `KeepsRules`.
@@ -27,9 +25,9 @@ pub record Sending : Type 0 where
   pub keeps-rules : KeepsRules session flow start frames unfinished packets
 
 -- A run of a card: any calls from an empty table, then the session's opening as PSP, then any calls again, none of which closes it. Among them
--- its flow gets the sender's packets, and no others, in the order of `arrivals`. (A place where no packet was sent does not arrive: past the end of the
--- packets stands an empty list, which is no packet of any flow.) What else is called, for other sessions and other flows,
--- before and after, refused or not, is left open.
+-- its flow gets the sender's packets, and no others, in the order of `arrivals`. What else is called, for other sessions and other flows, before and
+-- after, refused or not, is left open. (That each arrival was sent is not asked for: past the end of the packets stands an empty list, which is no
+-- packet of any flow.)
 pub record Run (s : Sending) : Type 0 where
   pub holding : List ℕ
   pub before : List Call
@@ -84,29 +82,3 @@ abbrev pub FewerLost : Type 0
 FewerLost =
     (s : Sending) (worse better : Run s) → Rising 0 (better .arrivals) → Sublistᴰ (worse .arrivals) (better .arrivals) →
     NoneLost s worse better
-
--- What the calls for a flow are answered: number and gap, in order.
-pub record Verdict : Type 0 where
-  pub code : ℕ
-  pub gap : ℕ
-
-unfoldable pub verdictsOut : ℕ → ℕ → Card → List Call → List Verdict
-verdictsOut session flow c [] = []
-verdictsOut session flow c (x ∷ more) =
-    cond (handsTo session flow x) (record { code = (answer c x) .code; gap = (answer c x) .gap } ∷ []) [] ++ verdictsOut session flow (after c x) more
-
--- What they ought to be, told along the sender's packets: the first arrival is accepted with gap 0. From then on one at or beyond the place expected
--- next is accepted, and its gap is how many packets it passed over; any other is late.
-unfoldable pub verdictsFrom : ℕ → List ℕ → List Verdict
-verdictsFrom expected [] = []
-verdictsFrom expected (x ∷ more) =
-    cond (leb expected x) (record { code = 0; gap = x - expected } ∷ verdictsFrom (suc x) more)
-    (record { code = 12; gap = 0 } ∷ verdictsFrom expected more)
-
-unfoldable pub verdictsOf : List ℕ → List Verdict
-verdictsOf [] = []
-verdictsOf (x ∷ more) = record { code = 0; gap = 0 } ∷ verdictsFrom (suc x) more
-
--- `gaps-are-told`
-abbrev pub GapsAreTold : Type 0
-GapsAreTold = (s : Sending) (r : Run s) → verdictsOut (s .session) (s .flow) (openedCard s r) (r .calls) ≡ verdictsOf (r .arrivals)

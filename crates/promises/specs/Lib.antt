@@ -1,6 +1,7 @@
 pub mod Words
 pub mod Arrivals
 pub mod Demand
+pub mod Gaps
 pub mod Account
 pub mod Dmpt
 pub mod Isolation

@@ -1,0 +1,36 @@
+-- The gap, along the sender's packets (document 01, "Opening, closing, listening" and "Demand 3 and the next rule suppose"). In a run as demand 3 has it, a packet is
+-- late exactly where one sent after it, or itself, has arrived before; and the gap that is reported with any other is how many packets were passed over.
+use Prim.Native.Nat.{ℕ, suc, _-_}
+use mathlib.Core.Path.{_≡_}
+use mathlib.Core.Bool.{cond}
+use mathlib.Core.List.{List, [], _∷_, _++_}
+use lib.Dec.{leb}
+use Rattle.card.specs.History.{Card, Call, answer, after}
+use Rattle.promises.specs.Words.{handsTo}
+use Rattle.promises.specs.Demand.{Sending, Run, openedCard}
+
+-- What the calls for a flow are answered: number and gap, in order.
+pub record Verdict : Type 0 where
+  pub code : ℕ
+  pub gap : ℕ
+
+unfoldable pub verdictsOut : ℕ → ℕ → Card → List Call → List Verdict
+verdictsOut session flow c [] = []
+verdictsOut session flow c (x ∷ more) =
+    cond (handsTo session flow x) (record { code = (answer c x) .code; gap = (answer c x) .gap } ∷ []) [] ++ verdictsOut session flow (after c x) more
+
+-- What they ought to be, told along the sender's packets: the first arrival is accepted with gap 0. From then on one at or beyond the place expected
+-- next is accepted, and its gap is how many packets it passed over; any other is late.
+unfoldable pub verdictsFrom : ℕ → List ℕ → List Verdict
+verdictsFrom expected [] = []
+verdictsFrom expected (x ∷ more) =
+    cond (leb expected x) (record { code = 0; gap = x - expected } ∷ verdictsFrom (suc x) more)
+    (record { code = 12; gap = 0 } ∷ verdictsFrom expected more)
+
+unfoldable pub verdictsOf : List ℕ → List Verdict
+verdictsOf [] = []
+verdictsOf (x ∷ more) = record { code = 0; gap = 0 } ∷ verdictsFrom (suc x) more
+
+-- `gaps-are-told`
+abbrev pub GapsAreTold : Type 0
+GapsAreTold = (s : Sending) (r : Run s) → verdictsOut (s .session) (s .flow) (openedCard s r) (r .calls) ≡ verdictsOf (r .arrivals)
