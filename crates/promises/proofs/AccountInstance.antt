@@ -18,7 +18,7 @@ use Rattle.card.specs.Join.{settledBy, settled, fateBy, fate, atGap, inOrder}
 use Rattle.card.specs.Hear.{pspFate, hear}
 use Rattle.card.specs.Receive.{carriedOut, refused, receivedBy, received}
 use Rattle.card.specs.History.{Call, opens, closes, answer, after, afterAll, emptyCard}
-use Rattle.promises.specs.Account.{Lent, tableAfterAll, countedBy, bytesTaken, bytesDelivered, bytesDropped, heldInAll, takenBy, deliveredBy, droppedBy, gathered, bytesHeld}
+use Rattle.promises.specs.Account.{Lent, tableAfterAll, countedBy, bytesTaken, bytesDelivered, bytesDropped, heldInAll, takenBy, deliveredBy, droppedBy, gathered, bytesHeld, times}
 use Rattle.promises.specs.Marked.{A, B, single, hand}
 
 -- the beginning of a frame behind a gap of 4
@@ -65,3 +65,13 @@ each-byte-instance = (refl, refl, refl, refl)
 closed-unbroken : broken (afterAll (emptyCard (replicate 49152 0)) calls .table) ≡ false
 unfolding part rest put joined lengths cutBy any least sumTo upTo ahead next bodyAt segmentAt segments wanted broken opened closed settledBy settled fateBy fate atGap inOrder pspFate hear carriedOut refused receivedBy received answer after afterAll
 closed-unbroken = refl
+
+-- a close is not given the holding slice: what was held stands there still, in the place of row 0, flow 1, which begins at 2,048
+close-leaves-places : part (afterAll (emptyCard (replicate 49152 0)) calls .holding) 2048 4 ≡ 0x71 ∷ 0x72 ∷ 0x73 ∷ 0 ∷ []
+unfolding part rest put joined lengths cutBy any least sumTo upTo ahead next bodyAt segmentAt segments wanted broken opened closed settledBy settled fateBy fate atGap inOrder pspFate hear carriedOut refused receivedBy received answer after afterAll
+close-leaves-places = refl
+
+-- how often a value stands in a list
+times-counted : (times 0x21 (0x21 ∷ 0x22 ∷ 0x21 ∷ []) ≡ 2) × (times 0x23 (0x21 ∷ 0x22 ∷ 0x21 ∷ []) ≡ 0)
+unfolding times
+times-counted = (refl, refl)
