@@ -25,7 +25,7 @@ use Rattle.capture.specs.File.{bodyStart, fileRefusal, Entry, nthEntry, fileOf}
 use Rattle.capture.proofs.Examples.{capture}
 use Rattle.listing.specs.Run.{begin, runOne, standing, answerAt}
 use Rattle.listing.specs.Listing.{columns, line, lineAt, refusedLine, listingBy, listing}
-use Rattle.listing.specs.Trace.{frameLine, framesText, flowLine, flowText, rowLine, rowText, rowsText, tracedAt, traceBy, trace}
+use Rattle.trace.specs.Trace.{frameLine, framesText, flowLine, flowText, rowLine, rowText, rowsText, tracedAt, traceBy, trace}
 
 pub listed : listing capture
     ≡ ascii "n what code frames bytes dropped gap\n"

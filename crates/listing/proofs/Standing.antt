@@ -1,11 +1,10 @@
--- How a run stands: its table is never broken, and after an entry its frames lie in the slices.
+-- How a run stands: its table is never broken, and after an entry its frames lie in the slices, few and short.
 use Prim.Native.Nat.{ℕ, zero, suc, _≤_}
-use mathlib.Core.Path.{_≡_, refl, sym, ap, subst, _∙_}
+use mathlib.Core.Path.{_≡_, refl, sym, ap, _∙_}
 use mathlib.Core.Bool.{Bool, true, false, cond}
 use mathlib.Core.List.{List, []}
 use native.Mathlib.Omega.{arith}
 use lib.Dec.{eqb}
-use lib.ListN.{length}
 use Rattle.octets.specs.Bytes.{be32At, byteAt}
 use Rattle.octets.specs.Stretch.{cutBy}
 use Rattle.octets.specs.Count.{sumTo}
@@ -22,7 +21,6 @@ use Rattle.card.proofs.Keeping.{received-keeps}
 use Rattle.card.proofs.Limits.{within-limits, lengths-add-up}
 use Rattle.capture.specs.File.{Entry, openPsp, openDmpt, closing, nthEntry}
 use Rattle.listing.specs.Run.{Running, callOf, outputAfter, lengthsAfter, answerTo, runOne, begin, standing, answerAt}
-use Rattle.listing.specs.Walk.{Findable}
 
 -- what holds of every call that an entry may stand for holds of the call that it stands for
 either : (P : Call → Type 0) (b : Bool) {x y : Call} → P x → P y → P (cond b x y)
@@ -74,13 +72,13 @@ unfolding standing answerAt
 frames-of-entry file k = frames-same (standing file k) (nthEntry file k)
 
 -- they are few and short
-abbrev Short : ℕ → List ℕ → Type 0
+abbrev pub Short : ℕ → List ℕ → Type 0
 Short count lens = (count ≤ mostFrames) × (sumTo (byteAt lens) count ≤ mostBytes)
 
 none-short : (lens : List ℕ) → Short 0 lens
 none-short lens = (omega arith, omega (arith, sum-none (byteAt lens)))
 
-frames-short : (r : Running) (e : Entry) → Short (answerTo r e .frames) (runOne r e .lengths)
+pub frames-short : (r : Running) (e : Entry) → Short (answerTo r e .frames) (runOne r e .lengths)
 unfolding runOne answer
 frames-short r e =
     let s = asSlices (r .card .holding) (r .output) (r .lengths) in
@@ -89,15 +87,3 @@ frames-short r e =
     (λ m id. none-short (r .lengths))
     (λ id. none-short (r .lengths))
     (few .most-frames, omega (arith, few .most-bytes, lengths-add-up overIp (r .card .table) (e .body) s))
-
-pub frames-findable : (file : List ℕ) (k : ℕ) (output lens : List ℕ) → lens ≡ standing file (suc k) .lengths → mostBytes ≤ length output → mostFrames ≤ length lens →
-    Findable output lens (answerAt file k .frames)
-unfolding standing answerAt
-frames-findable file k output lens e output-long lens-long =
-    let short = frames-short (standing file k) (nthEntry file k) in
-    record {
-      few = short .0;
-      all-short = subst (λ (l : List ℕ). sumTo (byteAt l) (answerAt file k .frames) ≤ mostBytes) (sym e) (short .1);
-      lens-long = lens-long;
-      output-long = output-long;
-    }

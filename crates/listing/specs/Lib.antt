@@ -1,4 +1,3 @@
 pub mod Run
 pub mod Listing
-pub mod Trace
 pub mod Walk

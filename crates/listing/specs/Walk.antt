@@ -1,15 +1,11 @@
 -- What the runner's functions are held to, in the words of the definitions beside this file, and the room that texts need. Who calls the runner
 -- needs these; whoever wants to know what is printed does not.
-use Prim.Native.Nat.{ℕ, _+_, _*_, _<_, _≤_}
+use Prim.Native.Nat.{ℕ, _+_, _*_, _≤_}
 use mathlib.Core.Path.{_≡_}
 use mathlib.Core.List.{List, []}
-use lib.ListN.{length, replicate}
-use Rattle.octets.specs.Bytes.{byteAt}
-use Rattle.octets.specs.Count.{sumTo}
-use Rattle.flow.specs.Flow.{flows, longest}
-use Rattle.table.specs.declared.Row.{Row}
+use lib.ListN.{replicate}
 use Rattle.table.specs.declared.Table.{Table}
-use Rattle.table.specs.Rows.{rows, flowAt, empty}
+use Rattle.table.specs.Rows.{empty}
 use Rattle.card.specs.declared.Received.{Received}
 use Rattle.card.specs.Receive.{holdingSize, mostFrames, mostBytes}
 use Rattle.card.specs.History.{Answer}
@@ -63,12 +59,6 @@ pub record Unused (file holding output lens : List ℕ) : Type 0 where
   pub output-zero : output ≡ replicate mostBytes 0
   pub lens-zero : lens ≡ replicate mostFrames 0
 
--- slices that are large enough for any call
-pub record Enough (holding output lens : List ℕ) : Type 0 where
-  pub holding-long : holdingSize ≤ length holding
-  pub output-long : mostBytes ≤ length output
-  pub lens-long : mostFrames ≤ length lens
-
 -- The room that texts need: a number with its space, the longest word for a kind, the columns of an answer, a line, the
 -- heading, a whole listing.
 abbrev pub columnRoom : ℕ
@@ -88,37 +78,3 @@ headingRoom = 37
 
 abbrev pub listingRoom : ℕ
 listingRoom = headingRoom + lineRoom * mostEntries
-
--- the line of a frame without its bytes, the lines of a call's frames, the line of a flow, of a row, a row with its flows, all rows
-abbrev pub frameRoom : ℕ
-frameRoom = 8
-
-abbrev pub framesRoom : ℕ
-framesRoom = frameRoom * mostFrames + 2 * mostBytes
-
-abbrev pub flowRoom : ℕ
-flowRoom = 6 + mostDigits + 3 * columnRoom + 1 + (1 + 2 * longest) + 1
-
-abbrev pub rowLineRoom : ℕ
-rowLineRoom = 5 + mostDigits + 2 * columnRoom + 1
-
-abbrev pub rowRoom : ℕ
-rowRoom = rowLineRoom + flowRoom * flows
-
-abbrev pub rowsRoom : ℕ
-rowsRoom = rowRoom * rows
-
--- an entry of a trace
-abbrev pub entryRoom : ℕ
-entryRoom = lineRoom + framesRoom + rowsRoom
-
--- the frames of a call lie in the slices
-pub record Findable (output lens : List ℕ) (count : ℕ) : Type 0 where
-  pub few : count ≤ mostFrames
-  pub all-short : sumTo (byteAt lens) count ≤ mostBytes
-  pub lens-long : mostFrames ≤ length lens
-  pub output-long : mostBytes ≤ length output
-
--- no flow of the row holds more than a place has
-abbrev pub HeldFew : Row → Type 0
-HeldFew row = (k : ℕ) → k < flows → flowAt row k .held ≤ longest

@@ -1,7 +1,6 @@
-// Running a capture from an empty table, and the text that it prints: the listing, whole, and the trace, entry by entry.
+// Running a capture from an empty table, entry by entry, and the listing that it prints.
 pub mod line;
 mod run;
-mod trace;
 
 ghost use mathlib.Core.Path.{_≡_};
 ghost use Prim.Native.Nat.{_+_, _<_, _≤_};
@@ -11,8 +10,7 @@ ghost use Rattle.text.specs.Text.{Wrote};
 ghost use Rattle.capture.specs.File.{headLength, entryCount, fileRefusal};
 ghost use Rattle.listing.specs.Run.{answerAt};
 ghost use Rattle.listing.specs.Listing.{lineAt, listing};
-ghost use Rattle.listing.specs.Trace.{tracedAt};
-ghost use Rattle.listing.specs.Walk.{Stands, Begins, Unused, Enough, lineRoom, listingRoom, entryRoom};
+ghost use Rattle.listing.specs.Walk.{Stands, Begins, Unused, lineRoom, listingRoom};
 use capture::reader;
 use table::Table;
 
@@ -20,12 +18,9 @@ use table::Table;
 // word, five columns and the end of the line.
 const HEADING_ROOM: usize = 37;
 
-const LINE_ROOM: usize = text::MOST_DIGITS + 1 + 5 + 5 * (1 + text::MOST_DIGITS) + 1;
+pub const LINE_ROOM: usize = text::MOST_DIGITS + 1 + 5 + 5 * (1 + text::MOST_DIGITS) + 1;
 
 pub const LISTING_ROOM: usize = HEADING_ROOM + LINE_ROOM * capture::MOST_ENTRIES;
-
-// Room for the trace of any entry: its line, the lines of its frames, and all rows with all flows holding all they can.
-pub const ENTRY_ROOM: usize = LINE_ROOM + trace::FRAMES_ROOM + trace::ROWS_ROOM;
 
 // Where a run stands: before entry `index`, whose body starts at `start`, with the table as it is there.
 pub struct Walk {
@@ -42,7 +37,7 @@ pub struct Listed {
 }
 
 // Runs an entry and writes its line.
-fn list_entry(
+pub fn list_entry(
     file: &[u8],
     walk: Walk,
     holding: &mut [u8],
@@ -145,33 +140,4 @@ pub fn list(file: &[u8], text: &mut [u8]) -> usize
     let mut output = output_room();
     let mut lengths = lengths_room();
     list_entries(file, &mut holding, &mut output, &mut lengths, text)
-}
-
-// Runs an entry and writes its trace at the start of the text: its line, the frames that it delivered, and the open rows afterwards.
-pub fn trace_entry(
-    file: &[u8],
-    walk: Walk,
-    holding: &mut [u8],
-    output: &mut [u8],
-    lengths: &mut [u16],
-    text: &mut [u8],
-) -> Listed
-    requires { ⌜ Stands (now file) walk (now holding) (now output) (now lengths) × (walk .index < entryCount headLength (now file)) ⌝ }
-    requires { ⌜ Enough (now holding) (now output) (now lengths) × (entryRoom ≤ length (now text)) ⌝ }
-    ensures { λ r. ⌜ Wrote (now (text .entry)) (now (text .exit)) 0 (r .next) (tracedAt (now (file .entry)) (walk .index)) ⌝ }
-    ensures { λ r. ⌜ Stands (now (file .entry)) (r .walk) (now (holding .exit)) (now (output .exit)) (now (lengths .exit)) ⌝ }
-    ensures { λ r. ⌜ (r .walk .index ≡ walk .index + 1) × (r .frames ≡ (answerAt (now (file .entry)) (walk .index)) .frames) ⌝ }
-{
-    let listed = list_entry(file, walk, holding, output, lengths, text, 0);
-    let frames = listed.frames;
-    let behind_line = listed.next;
-    let behind_frames = trace::write_frames(text, behind_line, output, lengths, frames as usize);
-    let further = listed.walk;
-    let table = further.table;
-    let behind_rows = trace::write_rows(text, behind_frames, table, holding);
-    Listed {
-        next: behind_rows,
-        frames,
-        walk: further,
-    }
 }

@@ -2,12 +2,13 @@
 //
 // Lists a capture as psplist does, and behind each entry's line shows what the card did: the frames that the entry delivered, and how the
 // open rows and their flows stand afterwards, with the bytes that they hold. A trace may be long, so it is written entry by entry; the text
-// of each is what `listing::trace_entry` made.
+// of each is what `trace::trace_entry` made.
 ghost use mathlib.Core.Path.{_≡_};
 ghost use Prim.Native.Nat.{_+_, _≤_};
 ghost use lib.ListN.{length};
 ghost use Rattle.capture.specs.File.{longestFile};
-ghost use Rattle.listing.specs.Walk.{Unused, Enough, entryRoom};
+ghost use Rattle.listing.specs.Walk.{Unused};
+ghost use Rattle.trace.specs.Rooms.{Enough, entryRoom};
 use capture::reader;
 use libc::STDIN_FILENO;
 use libc::STDOUT_FILENO;
@@ -27,10 +28,10 @@ fn file_room() -> [u8; capture::LONGEST_FILE + 1]
     [0; capture::LONGEST_FILE + 1]
 }
 
-fn text_room() -> [u8; listing::ENTRY_ROOM]
+fn text_room() -> [u8; trace::ENTRY_ROOM]
     ensures { λ r. ⌜ entryRoom ≡ length r ⌝ }
 {
-    [0; listing::ENTRY_ROOM]
+    [0; trace::ENTRY_ROOM]
 }
 
 // Traces a capture; or says that it is refused.
@@ -64,7 +65,7 @@ fn trace_entries(
     let count = reader::entry_count(file);
     let mut walk = listing::begin(file);
     while walk.index < count {
-        let traced = listing::trace_entry(file, walk, holding, output, lengths, text);
+        let traced = trace::trace_entry(file, walk, holding, output, lengths, text);
         let length = traced.next;
         io::write_all(STDOUT_FILENO, &text[..length]);
         walk = traced.walk;

@@ -1,26 +1,23 @@
-// What a trace shows behind an entry's line: the frames that the entry delivered, and the open rows with what their flows hold.
+// The open rows, with what their flows hold.
 ghost use mathlib.Core.Path.{_≡_};
 ghost use mathlib.Core.Bool.{false};
-ghost use mathlib.Core.List.{map};
 ghost use Prim.Native.Nat.{_+_, _*_, _<_, _≤_};
 ghost use lib.ListN.{length};
-ghost use Rattle.octets.specs.Stretch.{part, joined};
+ghost use Rattle.octets.specs.Stretch.{part};
 ghost use Rattle.flow.specs.Flow.{flows, longest};
 ghost use Rattle.table.specs.Rows.{rows};
 ghost use Rattle.table.specs.Broken.{broken};
-ghost use Rattle.card.specs.Receive.{holdingSize, framesFound};
+ghost use Rattle.card.specs.Receive.{holdingSize};
 ghost use Rattle.text.specs.Text.{Wrote};
-ghost use Rattle.listing.specs.Trace.{frameLine, hexOrDash, flowText, kindNumber, rowLine, rowText, rowsText};
-ghost use Rattle.listing.specs.Walk.{Findable, frameRoom, framesRoom, flowRoom, rowLineRoom, rowRoom, rowsRoom, HeldFew};
+ghost use Rattle.trace.specs.Trace.{hexOrDash, flowText, kindNumber, rowLine, rowText, rowsText};
+ghost use Rattle.trace.specs.Rooms.{flowRoom, rowLineRoom, rowRoom, rowsRoom, HeldFew};
+use crate::wide;
 use flow::FLOWS;
 use flow::Flow;
 use table::Kind;
 use table::ROWS;
 use table::Row;
 use table::Table;
-
-// Room for the lines of a call's frames: in each a word, and the end of the line; and two digits for each byte.
-pub const FRAMES_ROOM: usize = 8 * card::MOST_FRAMES + 2 * card::MOST_BYTES;
 
 // Room for a column; for the line of a flow: the word, the row, three columns, a space, a dash or two digits for each byte, the end of the
 // line; for that of a row: the word, the row, two columns and the end of the line; and for all rows with their flows.
@@ -36,49 +33,6 @@ const FLOW_ROOM: usize = 6
 const ROW_LINE_ROOM: usize = 5 + text::MOST_DIGITS + 2 * COLUMN_ROOM + 1;
 
 pub const ROWS_ROOM: usize = (ROW_LINE_ROOM + FLOW_ROOM * FLOWS) * ROWS;
-
-// A frame's length as a number to count with. The contract says its bound, which a sum needs.
-fn wide(length: u16) -> usize
-    ensures { λ r. ⌜ (r ≡ length) × (r < 65536) ⌝ }
-{
-    length as usize
-}
-
-// Writes the line of one frame: `size` bytes from place `from` on.
-fn write_frame(text: &mut [u8], at: usize, bytes: &[u8], from: usize, size: usize) -> usize
-    requires { ⌜ (at + frameRoom + 2 * size ≤ length (now text)) × (from + size ≤ length (now bytes)) ⌝ }
-    ensures { λ r. ⌜ Wrote (now (text .entry)) (now (text .exit)) at r (frameLine (part (now (bytes .entry)) from size)) ⌝ }
-    ensures { λ r. ⌜ r ≡ at + frameRoom + 2 * size ⌝ }
-{
-    let behind_word = text::write_words(text, at, b" frame ");
-    let behind_bytes = text::write_hex(text, behind_word, bytes, from, size);
-    text::write_byte(text, behind_bytes, b'\n')
-}
-
-// Writes a line for each of the frames that stand back to back in the output.
-pub fn write_frames(
-    text: &mut [u8],
-    at: usize,
-    output: &[u8],
-    lengths: &[u16],
-    count: usize,
-) -> usize
-    requires { ⌜ Findable (now output) (now lengths) count × (at + framesRoom ≤ length (now text)) ⌝ }
-    ensures { λ r. ⌜ Wrote (now (text .entry)) (now (text .exit)) at r
-        (joined (map frameLine (framesFound count (now (lengths .entry)) (now (output .entry))))) ⌝ }
-    ensures { λ r. ⌜ r ≤ at + framesRoom ⌝ }
-{
-    let mut next = at;
-    let mut from: usize = 0;
-    let mut i: usize = 0;
-    while i < count {
-        let size = wide(lengths[i]);
-        next = write_frame(text, next, output, from, size);
-        from += size;
-        i += 1;
-    }
-    next
-}
 
 // Writes the bytes that a flow holds, or a dash.
 fn write_held(text: &mut [u8], at: usize, holding: &[u8], from: usize, count: usize) -> usize

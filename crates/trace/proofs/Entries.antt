@@ -5,17 +5,34 @@ use mathlib.Core.Bool.{false}
 use mathlib.Core.List.{List, map}
 use native.Mathlib.Numerals.{add-one}
 use lib.ListN.{length}
+use Rattle.octets.specs.Bytes.{byteAt}
+use Rattle.octets.specs.Count.{sumTo}
 use Rattle.octets.specs.Stretch.{joined}
 use Rattle.table.specs.Broken.{broken}
 use Rattle.card.specs.Receive.{mostBytes, mostFrames, framesFound}
 use Rattle.text.specs.Text.{Wrote}
 use Rattle.text.proofs.Writing.{wrote-then, wrote-as}
+use Rattle.capture.specs.File.{nthEntry}
 use Rattle.listing.specs.declared.Walk.{Walk}
 use Rattle.listing.specs.Run.{Running, standing, answerAt}
 use Rattle.listing.specs.Listing.{lineAt}
-use Rattle.listing.specs.Trace.{frameLine, framesText, rowsText, tracedAt}
-use Rattle.listing.specs.Walk.{asRunning, Stands, Findable}
-use Rattle.listing.proofs.Standing.{never-broken, frames-of-entry, frames-findable}
+use Rattle.listing.specs.Walk.{asRunning, Stands}
+use Rattle.listing.proofs.Standing.{never-broken, frames-of-entry, frames-short}
+use Rattle.trace.specs.Trace.{frameLine, framesText, rowsText, tracedAt}
+use Rattle.trace.specs.Rooms.{Findable}
+
+-- the frames of entry k can be found in slices that are long enough
+pub frames-findable : (file : List ℕ) (k : ℕ) (output lens : List ℕ) → lens ≡ standing file (suc k) .lengths → mostBytes ≤ length output → mostFrames ≤ length lens →
+    Findable output lens (answerAt file k .frames)
+unfolding standing answerAt
+frames-findable file k output lens e output-long lens-long =
+    let short = frames-short (standing file k) (nthEntry file k) in
+    record {
+      few = short .0;
+      all-short = subst (λ (l : List ℕ). sumTo (byteAt l) (answerAt file k .frames) ≤ mostBytes) (sym e) (short .1);
+      lens-long = lens-long;
+      output-long = output-long;
+    }
 
 -- behind entry k
 module _ {file : List ℕ} {w : Walk} {holding output lens : List ℕ} (s : Stands file w holding output lens) (k : ℕ) (further : w .index ≡ k + 1) where

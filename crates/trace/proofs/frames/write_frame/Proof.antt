@@ -1,8 +1,8 @@
--- `listing::trace::write_frame` writes the three pieces of the line, one behind the other.
-use Rattle.listing.proofs.Tracing.{frame-written}
+-- `trace::frames::write_frame` writes the three pieces of the line, one behind the other.
+use Rattle.trace.proofs.Tracing.{frame-written}
 use borrow.Author.Needs.{needs}
-use Rattle.listing.proofs.trace.write_frame.Statement.{statement}
-use Rattle.listing.proofs.trace.write_frame.Tie as tie
+use Rattle.trace.proofs.frames.write_frame.Statement.{statement}
+use Rattle.trace.proofs.frames.write_frame.Tie as tie
 
 slice-aggregate-write-words : tie.Need-slice-aggregate-write-words
 slice-aggregate-write-words c = search needs

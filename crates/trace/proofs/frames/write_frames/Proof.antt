@@ -1,11 +1,11 @@
--- `listing::trace::write_frames` is right since after i turns the lines of the first i frames are written (`Framing`).
+-- `trace::frames::write_frames` is right since after i turns the lines of the first i frames are written (`Framing`).
 use Prim.Native.Nat.{_-_}
 use native.Mathlib.Omega.{arith}
 use Rattle.text.proofs.Writing.{wrote-length}
-use Rattle.listing.proofs.Tracing.{Framing, framing-begin, frame-within, frame-room, framing-turn, framing-end}
+use Rattle.trace.proofs.Tracing.{Framing, framing-begin, frame-within, frame-room, framing-turn, framing-end}
 use borrow.Author.Needs.{needs}
-use Rattle.listing.proofs.trace.write_frames.Statement.{statement}
-use Rattle.listing.proofs.trace.write_frames.Tie as tie
+use Rattle.trace.proofs.frames.write_frames.Statement.{statement}
+use Rattle.trace.proofs.frames.write_frames.Tie as tie
 
 abbrev Inv-loop : tie.InvT-loop
 Inv-loop text₀ at output lengths count next₀ from₀ i₀ text next from i = Framing text₀ at output lengths count text next from i

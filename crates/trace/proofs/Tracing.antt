@@ -20,8 +20,9 @@ use Rattle.table.proofs.Keeping.{flows-whole}
 use Rattle.card.specs.Receive.{mostBytes, holdingSize, placeOf, framesFound}
 use Rattle.text.specs.Text.{ascii, decimal, column, hex, space, newline, mostDigits, Wrote}
 use Rattle.text.proofs.Writing.{wrote-length, wrote-then, wrote-none, wrote-as}
-use Rattle.listing.specs.Trace.{frameLine, hexOrDash, flowLine, flowText, kindNumber, rowLine, rowText, rowsText}
-use Rattle.listing.specs.Walk.{columnRoom, frameRoom, framesRoom, flowRoom, rowLineRoom, rowRoom, rowsRoom, Findable, HeldFew}
+use Rattle.listing.specs.Walk.{columnRoom}
+use Rattle.trace.specs.Trace.{frameLine, hexOrDash, flowLine, flowText, kindNumber, rowLine, rowText, rowsText}
+use Rattle.trace.specs.Rooms.{frameRoom, framesRoom, flowRoom, rowLineRoom, rowRoom, rowsRoom, Findable, HeldFew}
 
 -- The line of a frame: a word, its bytes, the end of the line.
 pub frame-written : {a b c d : List ℕ} {at behind-word behind-bytes next : ℕ} (bytes : List ℕ) (from size : ℕ) →

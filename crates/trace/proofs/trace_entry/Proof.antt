@@ -1,9 +1,9 @@
--- `listing::trace_entry` is right since the frames and the rows that it shows are those of the run behind the entry (`Entries`).
+-- `trace::trace_entry` is right since the frames and the rows that it shows are those of the run behind the entry (`Entries`).
 use native.Mathlib.Omega.{arith}
-use Rattle.listing.proofs.Entries.{table-whole, findable, entry-traced}
+use Rattle.trace.proofs.Entries.{table-whole, findable, entry-traced}
 use borrow.Author.Needs.{needs}
-use Rattle.listing.proofs.trace_entry.Statement.{statement}
-use Rattle.listing.proofs.trace_entry.Tie as tie
+use Rattle.trace.proofs.trace_entry.Statement.{statement}
+use Rattle.trace.proofs.trace_entry.Tie as tie
 
 list-entry-requires : tie.Need-list-entry-requires
 list-entry-requires c κs = search needs

@@ -1,8 +1,8 @@
--- `listing::trace::write_held` makes the same distinction as `hexOrDash`.
-use Rattle.listing.proofs.Tracing.{held-none, held-some}
+-- `trace::rows::write_held` makes the same distinction as `hexOrDash`.
+use Rattle.trace.proofs.Tracing.{held-none, held-some}
 use borrow.Author.Needs.{needs}
-use Rattle.listing.proofs.trace.write_held.Statement.{statement}
-use Rattle.listing.proofs.trace.write_held.Tie as tie
+use Rattle.trace.proofs.rows.write_held.Statement.{statement}
+use Rattle.trace.proofs.rows.write_held.Tie as tie
 
 write-byte-requires : tie.Need-write-byte-requires
 write-byte-requires c κs = search needs

@@ -1,8 +1,8 @@
--- `listing::trace::write_row_line` writes the five pieces of the line, one behind the other.
-use Rattle.listing.proofs.Tracing.{row-line-written}
+-- `trace::rows::write_row_line` writes the five pieces of the line, one behind the other.
+use Rattle.trace.proofs.Tracing.{row-line-written}
 use borrow.Author.Needs.{needs}
-use Rattle.listing.proofs.trace.write_row_line.Statement.{statement}
-use Rattle.listing.proofs.trace.write_row_line.Tie as tie
+use Rattle.trace.proofs.rows.write_row_line.Statement.{statement}
+use Rattle.trace.proofs.rows.write_row_line.Tie as tie
 
 slice-aggregate-write-words : tie.Need-slice-aggregate-write-words
 slice-aggregate-write-words c = search needs

@@ -1,13 +1,13 @@
--- `listing::trace::write_flow` writes nothing for a fresh flow, and else the pieces of its line, one behind the other.
+-- `trace::rows::write_flow` writes nothing for a fresh flow, and else the pieces of its line, one behind the other.
 use Prim.Native.Nat.{_+_, _≤_}
 use native.Mathlib.Omega.{arith}
 use borrow.Author.Tests.{not-true, not-false}
 use Rattle.text.specs.Text.{Wrote}
 use Rattle.text.proofs.Writing.{wrote-length}
-use Rattle.listing.proofs.Tracing.{flow-fresh, place-inside, flowNumbers, numbersRoom, numbers-written, space-room, held-room, end-room, flow-written}
+use Rattle.trace.proofs.Tracing.{flow-fresh, place-inside, flowNumbers, numbersRoom, numbers-written, space-room, held-room, end-room, flow-written}
 use borrow.Author.Needs.{needs}
-use Rattle.listing.proofs.trace.write_flow.Statement.{statement}
-use Rattle.listing.proofs.trace.write_flow.Tie as tie
+use Rattle.trace.proofs.rows.write_flow.Statement.{statement}
+use Rattle.trace.proofs.rows.write_flow.Tie as tie
 
 -- the place where the function starts, seen from behind the numbers
 abbrev start : tie.After-write-column3 → tie.Start

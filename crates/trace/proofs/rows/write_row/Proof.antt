@@ -1,15 +1,15 @@
--- `listing::trace::write_row` writes nothing for a closed row, and else its line and then its flows, one after another (`Pieces`).
+-- `trace::rows::write_row` writes nothing for a closed row, and else its line and then its flows, one after another (`Pieces`).
 use Prim.Native.Nat.{_-_}
 use mathlib.Core.Path.{sym, _∙_}
 use native.Mathlib.Omega.{arith}
 use Rattle.flow.specs.Flow.{flows}
 use Rattle.text.proofs.Writing.{wrote-length, wrote-then}
-use Rattle.listing.specs.Walk.{flowRoom}
+use Rattle.trace.specs.Rooms.{flowRoom}
 use Rattle.text.proofs.Pieces.{Pieces, pieces-begin, pieces-room, pieces-turn, pieces-end}
-use Rattle.listing.proofs.Tracing.{flowsOf, row-closed, row-written}
+use Rattle.trace.proofs.Tracing.{flowsOf, row-closed, row-written}
 use borrow.Author.Needs.{needs}
-use Rattle.listing.proofs.trace.write_row.Statement.{statement}
-use Rattle.listing.proofs.trace.write_row.Tie as tie
+use Rattle.trace.proofs.rows.write_row.Statement.{statement}
+use Rattle.trace.proofs.rows.write_row.Tie as tie
 
 abbrev Inv-loop : tie.InvT-loop
 Inv-loop text₀ at r holding row next₀ k₀ text next k = Pieces (flowsOf holding r row) flows flowRoom text₀ next₀ text next k

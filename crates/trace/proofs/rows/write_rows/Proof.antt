@@ -1,14 +1,14 @@
--- `listing::trace::write_rows` writes one row after another (`Pieces`).
+-- `trace::rows::write_rows` writes one row after another (`Pieces`).
 use Prim.Native.Nat.{_-_}
 use native.Mathlib.Omega.{arith}
 use Rattle.table.specs.Rows.{rows}
 use Rattle.text.proofs.Writing.{wrote-length}
-use Rattle.listing.specs.Walk.{rowRoom}
+use Rattle.trace.specs.Rooms.{rowRoom}
 use Rattle.text.proofs.Pieces.{Pieces, pieces-begin, pieces-room, pieces-turn, pieces-end}
-use Rattle.listing.proofs.Tracing.{rowsOf, held-few, rows-written}
+use Rattle.trace.proofs.Tracing.{rowsOf, held-few, rows-written}
 use borrow.Author.Needs.{needs}
-use Rattle.listing.proofs.trace.write_rows.Statement.{statement}
-use Rattle.listing.proofs.trace.write_rows.Tie as tie
+use Rattle.trace.proofs.rows.write_rows.Statement.{statement}
+use Rattle.trace.proofs.rows.write_rows.Tie as tie
 
 abbrev Inv-loop : tie.InvT-loop
 Inv-loop text₀ at holding table next₀ r₀ text next r = Pieces (rowsOf holding table) rows rowRoom text₀ at text next r

@@ -1,0 +1,55 @@
+// The trace of an entry: its line in the listing, and behind it what the card did: the frames that the entry delivered, and the open rows with
+// what their flows hold.
+mod frames;
+mod rows;
+
+ghost use mathlib.Core.Path.{_≡_};
+ghost use Prim.Native.Nat.{_+_, _<_, _≤_};
+ghost use lib.ListN.{length};
+ghost use Rattle.text.specs.Text.{Wrote};
+ghost use Rattle.capture.specs.File.{headLength, entryCount};
+ghost use Rattle.listing.specs.Run.{answerAt};
+ghost use Rattle.listing.specs.Walk.{Stands};
+ghost use Rattle.trace.specs.Trace.{tracedAt};
+ghost use Rattle.trace.specs.Rooms.{Enough, entryRoom};
+use listing::Listed;
+use listing::Walk;
+
+// Room for the trace of any entry: its line, the lines of its frames, and all rows with all flows holding all they can.
+pub const ENTRY_ROOM: usize = listing::LINE_ROOM + frames::FRAMES_ROOM + rows::ROWS_ROOM;
+
+// A frame's length as a number to count with. The contract says its bound, which a sum needs.
+fn wide(length: u16) -> usize
+    ensures { λ r. ⌜ (r ≡ length) × (r < 65536) ⌝ }
+{
+    length as usize
+}
+
+// Runs an entry and writes its trace at the start of the text: its line, the frames that it delivered, and the open rows afterwards.
+pub fn trace_entry(
+    file: &[u8],
+    walk: Walk,
+    holding: &mut [u8],
+    output: &mut [u8],
+    lengths: &mut [u16],
+    text: &mut [u8],
+) -> Listed
+    requires { ⌜ Stands (now file) walk (now holding) (now output) (now lengths) × (walk .index < entryCount headLength (now file)) ⌝ }
+    requires { ⌜ Enough (now holding) (now output) (now lengths) × (entryRoom ≤ length (now text)) ⌝ }
+    ensures { λ r. ⌜ Wrote (now (text .entry)) (now (text .exit)) 0 (r .next) (tracedAt (now (file .entry)) (walk .index)) ⌝ }
+    ensures { λ r. ⌜ Stands (now (file .entry)) (r .walk) (now (holding .exit)) (now (output .exit)) (now (lengths .exit)) ⌝ }
+    ensures { λ r. ⌜ (r .walk .index ≡ walk .index + 1) × (r .frames ≡ (answerAt (now (file .entry)) (walk .index)) .frames) ⌝ }
+{
+    let listed = listing::list_entry(file, walk, holding, output, lengths, text, 0);
+    let frames = listed.frames;
+    let behind_line = listed.next;
+    let behind_frames = frames::write_frames(text, behind_line, output, lengths, frames as usize);
+    let further = listed.walk;
+    let table = further.table;
+    let behind_rows = rows::write_rows(text, behind_frames, table, holding);
+    Listed {
+        next: behind_rows,
+        frames,
+        walk: further,
+    }
+}
