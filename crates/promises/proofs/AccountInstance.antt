@@ -3,22 +3,23 @@
 use Prim.Native.Nat.{ℕ}
 use mathlib.Core.Path.{_≡_, refl}
 use mathlib.Core.Bool.{false}
-use mathlib.Core.List.{List, [], _∷_}
+use mathlib.Core.List.{List, [], _∷_, _++_}
 use lib.ListN.{length, replicate}
 use Rattle.octets.specs.Stretch.{part, rest, put, joined, lengths, cutBy}
 use Rattle.octets.specs.Count.{any, least, sumTo, upTo}
 use Rattle.flow.specs.Numbers.{ahead, next}
 use Rattle.packet.specs.Segments.{bodyAt, segmentAt, segments}
 use Rattle.packet.specs.Psp.{wanted}
+use Rattle.packet.specs.Dmpt.{mpegAt, mpegs}
 use Rattle.table.specs.declared.Mode.the-variants as mode
 use Rattle.table.specs.Rows.{empty}
 use Rattle.table.specs.Broken.{broken}
 use Rattle.table.specs.Calls.{opened, closed}
-use Rattle.card.specs.Join.{settledBy, settled, fateBy, fate, atGap, inOrder}
-use Rattle.card.specs.Hear.{pspFate, hear}
+use Rattle.card.specs.Join.{settledBy, settled, fateBy, fate, atGap, mpegFate, inOrder}
+use Rattle.card.specs.Hear.{pspFate, dmptFate, hear}
 use Rattle.card.specs.Receive.{carriedOut, refused, receivedBy, received}
 use Rattle.card.specs.History.{Call, opens, closes, answer, after, afterAll, emptyCard}
-use Rattle.promises.specs.Account.{Lent, tableAfterAll, countedBy, bytesTaken, bytesDelivered, bytesDropped, heldInAll, takenBy, deliveredBy, droppedBy, gathered, bytesHeld, times}
+use Rattle.promises.specs.Account.{Lent, cardFor, tableAfterAll, countedBy, bytesTaken, bytesDelivered, bytesDropped, heldInAll, takenBy, deliveredBy, droppedBy, gathered, bytesHeld}
 use Rattle.promises.specs.Marked.{A, B, single, hand}
 
 -- the beginning of a frame behind a gap of 4
@@ -45,6 +46,34 @@ byte-account-instance : (countedBy bytesTaken empty slices-change ≡ 18)
 unfolding part rest put joined lengths cutBy any least sumTo upTo ahead next bodyAt segmentAt segments wanted broken opened settledBy settled fateBy fate atGap inOrder pspFate hear carriedOut refused receivedBy received answer after countedBy tableAfterAll
 byte-account-instance = (refl, refl, refl, refl)
 
+-- the slice that is a byte short was refused by 1
+abbrev short-slice : Lent
+short-slice = with-slice (replicate 49151 0) (hand B)
+
+abbrev before-it : List Lent
+before-it = with-slice [] (opens mode.Psp 0x101) ∷ with-slice (replicate 49152 0) (hand A) ∷ []
+
+refused-by-1 : (answer (cardFor (tableAfterAll empty before-it) short-slice) (hand B)) .code ≡ 1
+unfolding part rest put joined lengths cutBy any least sumTo upTo ahead next bodyAt segmentAt segments wanted broken opened settledBy settled fateBy fate atGap inOrder pspFate hear carriedOut refused receivedBy received answer after tableAfterAll
+refused-by-1 = refl
+
+-- then a D-MPT session with a packet of two MPEG packets, one of which carries nothing, and the close of the other session, which drops the 3 bytes
+abbrev mpegs-come : List ℕ
+mpegs-come =
+    0x00 ∷ 0x00 ∷ 0x01 ∷ 0x03 ∷ 0x00 ∷ 0x00 ∷ 0x00 ∷ 0x00 ∷ 0x47 ∷ 0x1F ∷ 0xFF ∷ (replicate 185 0xB1 ++ (0x47 ∷ 0x00 ∷ 0x10 ∷ replicate 185 0xA1))
+
+abbrev and-closes : List Lent
+and-closes =
+    slices-change
+    ++ (with-slice [] (opens mode.Dmpt 0x103) ∷ with-slice (replicate 49152 4) (hand mpegs-come) ∷ with-slice [] (closes 0x101) ∷ [])
+
+closes-counted : (countedBy bytesTaken empty and-closes ≡ 394)
+    × (countedBy bytesDelivered empty and-closes ≡ 203)
+    × (countedBy bytesDropped empty and-closes ≡ 191)
+    × (heldInAll (tableAfterAll empty and-closes) ≡ 0)
+unfolding part rest put joined lengths cutBy any least sumTo upTo ahead next bodyAt segmentAt segments wanted mpegAt mpegs broken opened closed settledBy settled fateBy fate atGap mpegFate inOrder pspFate dmptFate hear carriedOut refused receivedBy received answer after countedBy tableAfterAll
+closes-counted = (refl, refl, refl, refl)
+
 never-broken-instance : (broken (tableAfterAll empty slices-change) ≡ false) × (length (tableAfterAll empty slices-change .rows) ≡ 6)
 unfolding part rest put joined lengths cutBy any least sumTo upTo ahead next bodyAt segmentAt segments wanted broken opened settledBy settled fateBy fate atGap inOrder pspFate hear carriedOut refused receivedBy received answer after tableAfterAll
 never-broken-instance = (refl, refl)
@@ -70,8 +99,3 @@ closed-unbroken = refl
 close-leaves-places : part (afterAll (emptyCard (replicate 49152 0)) calls .holding) 2048 4 ≡ 0x71 ∷ 0x72 ∷ 0x73 ∷ 0 ∷ []
 unfolding part rest put joined lengths cutBy any least sumTo upTo ahead next bodyAt segmentAt segments wanted broken opened closed settledBy settled fateBy fate atGap inOrder pspFate hear carriedOut refused receivedBy received answer after afterAll
 close-leaves-places = refl
-
--- how often a value stands in a list
-times-counted : (times 0x21 (0x21 ∷ 0x22 ∷ 0x21 ∷ []) ≡ 2) × (times 0x23 (0x21 ∷ 0x22 ∷ 0x21 ∷ []) ≡ 0)
-unfolding times
-times-counted = (refl, refl)
