@@ -16,8 +16,9 @@ use Rattle.table.specs.declared.Table.{Table}
 use Rattle.table.specs.Rows.{rows}
 use Rattle.table.specs.Broken.{broken}
 use Rattle.table.specs.Calls.{isOpen}
+use Rattle.join.specs.Slices.{Slices}
 use Rattle.card.specs.Hear.{judgedOf}
-use Rattle.card.specs.Receive.{Slices, rowOf, toDmpt, flowOf, heardBy, tooSmall, packetRefusals, dataRefusals, carriedOut, refused, receivedBy, received}
+use Rattle.card.specs.Receive.{rowOf, toDmpt, flowOf, heardBy, tooSmall, packetRefusals, dataRefusals, carriedOut, refused, receivedBy, received}
 use Rattle.card.proofs.Hearing.{flow-in-row}
 
 -- The answer's number is that of the order.

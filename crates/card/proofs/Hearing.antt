@@ -21,12 +21,14 @@ use Rattle.table.specs.declared.Table.{Table}
 use Rattle.table.specs.Rows.{rows, rowAt, flowAt}
 use Rattle.table.specs.Broken.{broken}
 use Rattle.table.proofs.Keeping.{flows-whole}
+use Rattle.join.specs.declared.Tally.{Tally}
+use Rattle.join.specs.Join.{Fate}
+use Rattle.join.specs.Slices.{asSlices, mostFrames, mostBytes, Slices}
+use Rattle.join.specs.Placed.{nothingYet, Placed, Roomy}
 use Rattle.card.specs.declared.Received.{Received}
-use Rattle.card.specs.declared.join.Tally.{Tally}
-use Rattle.card.specs.Join.{Fate}
 use Rattle.card.specs.Hear.{judgedOf, fateOf, hear}
-use Rattle.card.specs.Receive.{asSlices, holdingSize, placeOf, mostFrames, mostBytes, Slices, Outcome, toDmpt, flowOf, heardBy, tooSmall, packetRefusals, flowRefusals, carriedOut, refusedAnswer, refused, receivedBy}
-use Rattle.card.specs.Placed.{nothingYet, Placed, answered, Roomy}
+use Rattle.card.specs.Receive.{holdingSize, placeOf, Outcome, toDmpt, flowOf, heardBy, tooSmall, packetRefusals, flowRefusals, carriedOut, refusedAnswer, refused, receivedBy}
+use Rattle.card.specs.Ready.{answered}
 
 -- What is not refused for its size is large enough.
 pub record Large (s : Slices) : Type 0 where

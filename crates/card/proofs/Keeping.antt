@@ -24,11 +24,12 @@ use Rattle.table.specs.declared.Table.{Table}
 use Rattle.table.specs.Rows.{rows, isClosed, rowAt, openIn, withFlow}
 use Rattle.table.specs.Broken.{broken}
 use Rattle.table.proofs.Keeping.{accepted-keeps}
+use Rattle.join.specs.Slices.{Slices}
+use Rattle.join.proofs.Carrying.{dmpt-header, dmpt-holds-none}
 use Rattle.card.specs.Hear.{hear, recordAfter}
-use Rattle.card.specs.Receive.{Slices, rowOf, toDmpt, flowOf, heardBy, packetRefusals, carriedOut, refused, received}
+use Rattle.card.specs.Receive.{rowOf, toDmpt, flowOf, heardBy, packetRefusals, carriedOut, refused, received}
 use Rattle.card.proofs.Hearing.{dmpt-bare}
 use Rattle.card.proofs.Accepted.{Accepted, accepted, flow-there, received-accepted, received-refused}
-use Rattle.card.proofs.Carrying.{dmpt-header, dmpt-holds-none}
 use Rattle.card.proofs.Limits.{accepted-bounded, held-none}
 
 module _ (lead : ℕ) (t : Table) (packet : List ℕ) (s : Slices) (a : Accepted lead t packet s) where

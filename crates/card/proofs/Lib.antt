@@ -1,7 +1,4 @@
-pub mod Placing
-pub mod Account
-pub mod Walking
-pub mod Carrying
+pub mod ByKind
 pub mod Hearing
 pub mod Receiving
 pub mod Unique
@@ -9,4 +6,3 @@ pub mod Accepted
 pub mod Limits
 pub mod Step
 pub mod Keeping
-pub mod Examples

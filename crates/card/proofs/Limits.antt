@@ -20,12 +20,13 @@ use Rattle.packet.specs.Segments.{entryWidth, lengthAt, segments}
 use Rattle.packet.specs.Dmpt.{carried, mpegCount, mpegs}
 use Rattle.packet.proofs.Passing.{psp-passed, dmpt-passed, mpegs-fill}
 use Rattle.table.specs.declared.Table.{Table}
-use Rattle.card.specs.Join.{Fate}
-use Rattle.card.specs.Hear.{judgedBy, judgedOf, pspFate, dmptFate, fateOf, hear}
-use Rattle.card.specs.Receive.{placeOf, mostFrames, mostBytes, Slices, rowOf, toDmpt, flowOf, heldBy, heardBy, packetRefusals, carriedOut, refused, received}
-use Rattle.card.proofs.Account.{told}
-use Rattle.card.proofs.Walking.{so-far-accounts, all-few}
-use Rattle.card.proofs.Carrying as carrying
+use Rattle.join.specs.Join.{Fate, pspFate, dmptFate}
+use Rattle.join.specs.Slices.{mostFrames, mostBytes, Slices}
+use Rattle.join.proofs.Account.{told}
+use Rattle.join.proofs.Walking.{so-far-accounts, all-few}
+use Rattle.join.proofs.Carrying as carrying
+use Rattle.card.specs.Hear.{judgedBy, judgedOf, fateOf, hear}
+use Rattle.card.specs.Receive.{placeOf, rowOf, toDmpt, flowOf, heldBy, heardBy, packetRefusals, carriedOut, refused, received}
 use Rattle.card.proofs.Hearing.{large-enough, place-roomy, held-fits, dmpt-bare}
 use Rattle.card.proofs.Accepted as call
 

@@ -14,9 +14,10 @@ use Rattle.table.specs.declared.Table.{Table}
 use Rattle.table.specs.Rows.{rows, find}
 use Rattle.table.specs.Broken.{broken}
 use Rattle.table.specs.Calls.{isOpen}
+use Rattle.join.specs.Slices.{Slices}
 use Rattle.card.specs.declared.Received.{Received}
-use Rattle.card.specs.Receive.{Slices, Outcome, rowOf, tooSmall, earlyRefusals, flowRefusals, dataRefusals, refusedAnswer, receivedBy, received, PermitsReceive}
-use Rattle.card.specs.Placed.{Ready}
+use Rattle.card.specs.Receive.{Outcome, rowOf, tooSmall, earlyRefusals, flowRefusals, dataRefusals, refusedAnswer, receivedBy, received, PermitsReceive}
+use Rattle.card.specs.Ready.{Ready}
 use Rattle.card.proofs.Hearing.{refused-by, refused-answer}
 
 -- an outcome that is the definition's is permitted, field by field

@@ -19,8 +19,9 @@ use Rattle.packet.specs.Header.{flowId, sub}
 use Rattle.table.specs.declared.Kind.the-variants as kind
 use Rattle.table.specs.declared.Table.{Table}
 use Rattle.table.specs.Rows.{rows, rowAt, flowAt}
+use Rattle.join.specs.Slices.{mostFrames, mostBytes, Slices}
 use Rattle.card.specs.Hear.{Heard, recordAfter}
-use Rattle.card.specs.Receive.{placeOf, mostFrames, mostBytes, Slices, Outcome, rowOf, heardBy, carriedOut, received, framesFound}
+use Rattle.card.specs.Receive.{placeOf, Outcome, rowOf, heardBy, carriedOut, received, framesFound}
 use Rattle.card.proofs.Hearing.{Large, large-enough}
 use Rattle.card.proofs.Accepted.{accepted, flow-there, received-accepted}
 use Rattle.card.proofs.Limits.{accepted-bounded}

@@ -4,7 +4,8 @@ use mathlib.Core.Path.{_≡_, refl, sym, _∙_}
 use mathlib.Core.List.{List}
 use Rattle.packet.specs.Header.{overIp}
 use Rattle.table.specs.declared.Table.{Table}
-use Rattle.card.specs.Receive.{asSlices, Slices, Outcome, received, PermitsReceive}
+use Rattle.join.specs.Slices.{asSlices, Slices}
+use Rattle.card.specs.Receive.{Outcome, received, PermitsReceive}
 use Rattle.card.proofs.Receiving.{permits}
 
 pub receive-permitted : (t : Table) (packet : List ℕ) (s : Slices) → PermitsReceive t packet s (received overIp t packet s)

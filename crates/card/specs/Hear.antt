@@ -9,9 +9,9 @@ use Rattle.flow.specs.declared.Flow.{Flow}
 use Rattle.flow.specs.declared.Judged.{Judged}
 use Rattle.flow.specs.Flow.{judge, unnumbered, longest}
 use Rattle.packet.specs.Header.{sSet, number}
-use Rattle.packet.specs.Segments.{Segment, entryWidth, segments}
+use Rattle.packet.specs.Segments.{entryWidth, segments}
 use Rattle.packet.specs.Dmpt.{mpegs}
-use Rattle.card.specs.Join.{Fate, keeping, fate, atGap, mpegFate, inOrder}
+use Rattle.join.specs.Join.{Fate, pspFate, dmptFate}
 
 -- With S set the number is judged; with S clear it is ignored, the gap is 0 and the record stays as it was. (PSP has S set, by 8.) The
 -- test is: S.
@@ -21,14 +21,6 @@ judgedBy false f n = unnumbered f
 
 abbrev pub judgedOf : Flow → List ℕ → Judged
 judgedOf f sub = judgedBy (sSet sub) f (number sub)
-
--- an accepted PSP packet: the gap first, then its segments in order
-unfoldable pub pspFate : ℕ → ℕ → List ℕ → List Segment → Fate
-pspFate longest gap held segs = inOrder (fate longest) (atGap gap held) segs
-
--- an accepted D-MPT packet: its MPEG packets in order
-unfoldable pub dmptFate : List ℕ → List (List ℕ) → Fate
-dmptFate held packets = inOrder mpegFate (keeping held) packets
 
 -- by the kind of the session: whether it is D-MPT
 abbrev pub fateOf : Bool → ℕ → List ℕ → List ℕ → Fate

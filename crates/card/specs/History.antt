@@ -7,7 +7,8 @@ use Rattle.table.specs.declared.Mode.{Mode}
 use Rattle.table.specs.declared.Table.{Table}
 use Rattle.table.specs.Rows.{empty}
 use Rattle.table.specs.Calls.{opened, closed}
-use Rattle.card.specs.Receive.{asSlices, Outcome, received, framesFound}
+use Rattle.join.specs.Slices.{asSlices}
+use Rattle.card.specs.Receive.{Outcome, received, framesFound}
 
 -- table and holding slice between calls
 pub record Card : Type 0 where

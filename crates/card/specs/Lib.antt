@@ -1,5 +1,4 @@
-pub mod Join
 pub mod Hear
 pub mod Receive
 pub mod History
-pub mod Placed
+pub mod Ready

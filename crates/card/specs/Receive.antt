@@ -20,6 +20,7 @@ use Rattle.table.specs.declared.Table.{Table}
 use Rattle.table.specs.Rows.{rows, isDmpt, rowAt, flowAt, find, withFlow}
 use Rattle.table.specs.Broken.{broken}
 use Rattle.table.specs.Calls.{isOpen}
+use Rattle.join.specs.Slices.{Slices, mostFrames, mostBytes}
 use Rattle.card.specs.declared.Received.{Received}
 use Rattle.card.specs.Hear.{Heard, judgedOf, hear, recordAfter}
 
@@ -30,22 +31,7 @@ holdingSize = rows * flows * longest
 abbrev pub placeOf : ℕ → ℕ → ℕ
 placeOf r k = (flows * r + k) * longest
 
--- The room that a call asks for in the two slices for what comes out. No packet fills more (`within-limits`).
-abbrev pub mostFrames : ℕ
-mostFrames = 127
-
-abbrev pub mostBytes : ℕ
-mostBytes = 6144
-
--- The slices, as they are lent or as they are left. And everything that a call answers and leaves: the table afterwards is in the answer.
-pub record Slices : Type 0 where
-  pub holding : List ℕ
-  pub output : List ℕ
-  pub lengths : List ℕ
-
-abbrev pub asSlices : List ℕ → List ℕ → List ℕ → Slices
-asSlices holding output lens = record { holding = holding; output = output; lengths = lens }
-
+-- Everything that a call answers and leaves: the table afterwards is in the answer.
 pub record Outcome : Type 0 where
   pub answer : Received
   pub slices : Slices

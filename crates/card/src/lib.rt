@@ -1,11 +1,8 @@
-// The data call: a packet comes in, whole frames go out, and what is left of a frame waits in its flow's place. `join` has the join rule
-// of PSP, `mpegs` the rule of D-MPT; this file has the order of refusals, and what the answer and the next table are.
+// The data call: a packet comes in, whole frames go out, and what is left of a frame waits in its flow's place. Crate `join` has the join
+// rule of PSP and the rule of D-MPT; this one has the order of refusals, and what the answer and the next table are.
 //
 // All of a packet is judged before anything is written. Each segment entry is read when it is needed, so no copy of the segment table is
 // made, and the call keeps nothing from one packet to the next but what stands in the table and in the holding slice.
-mod join;
-mod mpegs;
-
 ghost use mathlib.Core.Path.{_≡_};
 ghost use mathlib.Core.Bool.{true, _||_};
 ghost use Prim.Native.Nat.{_+_, _<_, _≤_};
@@ -16,13 +13,16 @@ ghost use Rattle.octets.specs.Stretch.{part};
 ghost use Rattle.flow.specs.Flow.{longest, flows};
 ghost use Rattle.packet.specs.Header.{mostLead, idLength, headerLength, longestPacket};
 ghost use Rattle.table.specs.Rows.{rows};
+ghost use Rattle.join.specs.Slices.{asSlices, mostFrames, mostBytes};
+ghost use Rattle.join.specs.Placed.{nothingYet, Placed, Roomy, Within};
 ghost use Rattle.card.specs.Hear.{judgedOf, fateOf};
-ghost use Rattle.card.specs.Receive.{asSlices, holdingSize, placeOf, mostFrames, mostBytes, Outcome, packetRefusals, flowRefusals, earlyRefusals, refusedAnswer, receivedBy, PermitsReceive};
-ghost use Rattle.card.specs.Placed.{nothingYet, Placed, answered, Roomy, Within, Ready};
-use crate::join::Tally;
+ghost use Rattle.card.specs.Receive.{holdingSize, placeOf, Outcome, packetRefusals, flowRefusals, earlyRefusals, refusedAnswer, receivedBy, PermitsReceive};
+ghost use Rattle.card.specs.Ready.{answered, Ready};
 use flow::FLOWS;
 use flow::Flow;
 use flow::Judged;
+use join::Tally;
+use join::mpegs;
 use packet::dmpt;
 use packet::header;
 use packet::psp;

@@ -21,9 +21,10 @@ use Rattle.table.specs.declared.Row.{Row}
 use Rattle.table.specs.declared.Table.{Table}
 use Rattle.table.specs.Rows.{closedRow, empty}
 use Rattle.table.specs.Broken.{broken}
-use Rattle.card.specs.Join.{settledBy, settled, fateBy, fate, atGap, mpegFate, inOrder}
-use Rattle.card.specs.Hear.{pspFate, dmptFate, hear}
-use Rattle.card.specs.Receive.{Slices, Outcome, carriedOut, refused, receivedBy, received}
+use Rattle.join.specs.Join.{settledBy, settled, fateBy, fate, atGap, mpegFate, inOrder, pspFate, dmptFate}
+use Rattle.join.specs.Slices.{Slices}
+use Rattle.card.specs.Hear.{hear}
+use Rattle.card.specs.Receive.{Outcome, carriedOut, refused, receivedBy, received}
 
 -- Whole calls. Session 0x101 is open in row 2, so that the place of its flow 1 starts at 9 x 2,048 = 18,432; session 0x102 is open in
 -- row 1 and holds 3 bytes of a frame on its own flow 1, in the place from 5 x 2,048 = 10,240 on; session 0x104 is D-MPT, in row 5. Sizes are

@@ -16,8 +16,8 @@ use Rattle.table.specs.declared.Kind.the-variants as kind
 use Rattle.table.specs.declared.Row.{Row}
 use Rattle.table.specs.Broken.{broken}
 use Rattle.table.specs.Calls.{opened, closed}
-use Rattle.card.specs.Join.{settledBy, settled, fateBy, fate, atGap, inOrder}
-use Rattle.card.specs.Hear.{pspFate, hear}
+use Rattle.join.specs.Join.{settledBy, settled, fateBy, fate, atGap, inOrder, pspFate}
+use Rattle.card.specs.Hear.{hear}
 use Rattle.card.specs.Receive.{carriedOut, refused, receivedBy, received}
 use Rattle.card.specs.History.{answer, after}
 use Rattle.text.specs.Text.{ascii, digits, decimal, column, hex}

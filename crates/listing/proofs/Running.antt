@@ -12,8 +12,9 @@ use Rattle.table.specs.declared.Table.{Table}
 use Rattle.table.specs.declared.Mode.{Mode}
 use Rattle.table.specs.declared.Mode.the-variants as mode
 use Rattle.table.specs.Calls.{opened, closed}
+use Rattle.join.specs.Slices.{asSlices}
 use Rattle.card.specs.declared.Received.{Received}
-use Rattle.card.specs.Receive.{asSlices, PermitsReceive}
+use Rattle.card.specs.Receive.{PermitsReceive}
 use Rattle.card.specs.History.{Call, opens, closes, hands, handed, answer, after}
 use Rattle.capture.specs.File.{Entry, openPsp, openDmpt, closing, idBody, bodyIn, kinds, takesLength}
 use Rattle.listing.specs.Run.{Running, callOf, outputAfter, lengthsAfter, runOne}

@@ -15,7 +15,8 @@ use Rattle.table.specs.declared.Mode.{Mode}
 use Rattle.table.specs.declared.Mode.the-variants as mode
 use Rattle.table.specs.Broken.{broken}
 use Rattle.table.proofs.Keeping.{empty-unbroken, opened-keeps, closed-keeps}
-use Rattle.card.specs.Receive.{mostFrames, mostBytes, asSlices, framesFound}
+use Rattle.join.specs.Slices.{mostFrames, mostBytes, asSlices}
+use Rattle.card.specs.Receive.{framesFound}
 use Rattle.card.specs.History.{Call, opens, closes, hands, framesOf, answer, after}
 use Rattle.card.proofs.Keeping.{received-keeps}
 use Rattle.card.proofs.Limits.{within-limits, lengths-add-up}

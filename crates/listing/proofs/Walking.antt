@@ -8,8 +8,9 @@ use native.Mathlib.Omega.{arith}
 use lib.ListN.{length, replicate}
 use Rattle.table.specs.declared.Table.{Table}
 use Rattle.table.specs.Rows.{empty}
+use Rattle.join.specs.Slices.{mostBytes}
 use Rattle.card.specs.declared.Received.{Received}
-use Rattle.card.specs.Receive.{holdingSize, mostBytes}
+use Rattle.card.specs.Receive.{holdingSize}
 use Rattle.text.specs.Text.{Wrote}
 use Rattle.text.proofs.Writing.{wrote-as, wrote-then}
 use Rattle.text.proofs.Pieces.{Pieces, pieces-begin, pieces-room, pieces-turn, pieces-end}

@@ -7,7 +7,8 @@ use lib.Dec.{eqb}
 use lib.ListN.{replicate}
 use Rattle.octets.specs.Bytes.{be32At}
 use Rattle.table.specs.declared.Mode.the-variants as mode
-use Rattle.card.specs.Receive.{holdingSize, mostBytes, mostFrames}
+use Rattle.join.specs.Slices.{mostBytes, mostFrames}
+use Rattle.card.specs.Receive.{holdingSize}
 use Rattle.card.specs.History.{Card, Call, opens, closes, hands, Answer, answer, after, emptyCard}
 use Rattle.capture.specs.File.{Entry, openPsp, openDmpt, closing, nthEntry}
 

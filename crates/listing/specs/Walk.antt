@@ -6,8 +6,9 @@ use mathlib.Core.List.{List, []}
 use lib.ListN.{replicate}
 use Rattle.table.specs.declared.Table.{Table}
 use Rattle.table.specs.Rows.{empty}
+use Rattle.join.specs.Slices.{mostFrames, mostBytes}
 use Rattle.card.specs.declared.Received.{Received}
-use Rattle.card.specs.Receive.{holdingSize, mostFrames, mostBytes}
+use Rattle.card.specs.Receive.{holdingSize}
 use Rattle.card.specs.History.{Answer}
 use Rattle.text.specs.Text.{mostDigits}
 use Rattle.capture.specs.File.{Entry, headLength, entryLength, mostEntries, entryCount, bodyStart, fileRefusal}

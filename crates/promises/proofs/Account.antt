@@ -13,8 +13,9 @@ use Rattle.packet.specs.Header.{overIp, sub}
 use Rattle.table.specs.declared.Table.{Table}
 use Rattle.table.specs.Rows.{rowAt, find, heldIn, empty}
 use Rattle.table.specs.Calls.{closeRefusals, closedBy, closed}
-use Rattle.card.specs.Join.{Fate}
-use Rattle.card.specs.Receive.{Outcome, asSlices, rowOf, heardBy, refused, received}
+use Rattle.join.specs.Join.{Fate}
+use Rattle.join.specs.Slices.{asSlices}
+use Rattle.card.specs.Receive.{Outcome, rowOf, heardBy, refused, received}
 use Rattle.table.proofs.Keeping.{closes as closes-there}
 use Rattle.card.specs.History.{Card, Call, opens, closes, hands, answer, afterAll, emptyCard}
 use Rattle.card.proofs.Accepted.{received-refused}

@@ -15,8 +15,8 @@ use Rattle.table.specs.declared.Mode.the-variants as mode
 use Rattle.table.specs.Rows.{empty}
 use Rattle.table.specs.Broken.{broken}
 use Rattle.table.specs.Calls.{opened, closed}
-use Rattle.card.specs.Join.{settledBy, settled, fateBy, fate, atGap, mpegFate, inOrder}
-use Rattle.card.specs.Hear.{pspFate, dmptFate, hear}
+use Rattle.join.specs.Join.{settledBy, settled, fateBy, fate, atGap, mpegFate, inOrder, pspFate, dmptFate}
+use Rattle.card.specs.Hear.{hear}
 use Rattle.card.specs.Receive.{carriedOut, refused, receivedBy, received}
 use Rattle.card.specs.History.{Call, opens, closes, answer, after, afterAll, emptyCard}
 use Rattle.promises.specs.Account.{Lent, cardFor, tableAfterAll, countedBy, bytesTaken, bytesDelivered, bytesDropped, heldInAll, takenBy, deliveredBy, droppedBy, gathered, bytesHeld}

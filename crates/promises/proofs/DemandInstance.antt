@@ -16,8 +16,8 @@ use Rattle.packet.specs.Header.{overIp, sub, number}
 use Rattle.table.specs.declared.Mode.the-variants as mode
 use Rattle.table.specs.Broken.{broken}
 use Rattle.table.specs.Calls.{opened, closed}
-use Rattle.card.specs.Join.{settledBy, settled, fateBy, fate, atGap, inOrder}
-use Rattle.card.specs.Hear.{pspFate, hear}
+use Rattle.join.specs.Join.{settledBy, settled, fateBy, fate, atGap, inOrder, pspFate}
+use Rattle.card.specs.Hear.{hear}
 use Rattle.card.specs.Receive.{carriedOut, refused, receivedBy, received}
 use Rattle.card.specs.History.{Call, opens, closes, hands, answer, after, afterAll, emptyCard}
 use Rattle.sender.specs.Rules.{Pieces, wholeFrame, begunFrame, inTurn, allSegments, KeepsRules}

@@ -17,8 +17,8 @@ use Rattle.table.specs.declared.Mode.the-variants as mode
 use Rattle.table.specs.Rows.{closedRow}
 use Rattle.table.specs.Broken.{broken}
 use Rattle.table.specs.Calls.{opened}
-use Rattle.card.specs.Join.{settledBy, settled, fateBy, fate, atGap, mpegFate, inOrder}
-use Rattle.card.specs.Hear.{pspFate, dmptFate, hear}
+use Rattle.join.specs.Join.{settledBy, settled, fateBy, fate, atGap, mpegFate, inOrder, pspFate, dmptFate}
+use Rattle.card.specs.Hear.{hear}
 use Rattle.card.specs.Receive.{rowOf, toDmpt, carriedOut, refused, receivedBy, received}
 use Rattle.card.specs.History.{Card, opens, framesOf, answer, after, afterAll, emptyCard}
 use Rattle.promises.specs.Dmpt.{carrying, nulls}

@@ -13,8 +13,8 @@ use Rattle.flow.specs.declared.Flow.{Flow}
 use Rattle.flow.specs.Flow.{longest}
 use Rattle.packet.specs.Segments.{Segment, entryWidth, segments}
 use Rattle.packet.specs.Dmpt.{pid, nullPid, mpegs}
-use Rattle.card.specs.Join.{Fate, delivering, dropping, keeping, andThen, settledBy, settled, fateBy, fate, atGap, mpegFate, inOrder}
-use Rattle.card.specs.Hear.{judgedOf, pspFate, dmptFate, hear}
+use Rattle.join.specs.Join.{Fate, delivering, dropping, keeping, andThen, settledBy, settled, fateBy, fate, atGap, mpegFate, inOrder, pspFate, dmptFate}
+use Rattle.card.specs.Hear.{judgedOf, hear}
 use Rattle.promises.specs.Account.{packetBody}
 use Rattle.promises.proofs.Measures.{Measure, measure-joined}
 

@@ -10,8 +10,7 @@ use lib.Dec.{ltb, eqb}
 use borrow.Author.Tests.{le-ltb, ne-eqb}
 use Rattle.flow.specs.Flow.{longest}
 use Rattle.packet.specs.Segments.{Segment}
-use Rattle.card.specs.Join.{Fate, dropping, andThen, settledBy, settled, fateBy, fate, atGap, inOrder}
-use Rattle.card.specs.Hear.{pspFate}
+use Rattle.join.specs.Join.{Fate, dropping, andThen, settledBy, settled, fateBy, fate, atGap, inOrder, pspFate}
 
 abbrev pub given : List ℕ → List Segment → List (List ℕ)
 given held [] = []

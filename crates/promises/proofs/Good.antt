@@ -22,7 +22,8 @@ use Rattle.table.specs.Broken.{broken}
 use Rattle.table.specs.Calls.{freshRow, openedBy, opened, closedBy, closed, openRefusals, closeRefusals}
 use Rattle.table.proofs.Keeping.{empty-unbroken, opened-keeps, closed-keeps, refused-keeps, refused-close-keeps}
 use Rattle.refusal.specs.Refusal.{first}
-use Rattle.card.specs.Receive.{Slices, asSlices, refused, received}
+use Rattle.join.specs.Slices.{Slices, asSlices}
+use Rattle.card.specs.Receive.{refused, received}
 use Rattle.card.specs.History.{Card, Call, opens, closes, hands, answer, after, afterAll, emptyCard}
 use Rattle.card.proofs.Accepted.{received-refused}
 use Rattle.card.proofs.Keeping.{received-keeps}

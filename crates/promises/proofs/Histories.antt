@@ -19,8 +19,9 @@ use Rattle.packet.specs.Segments.{entryWidth}
 use Rattle.packet.specs.Psp.{pspRefusals}
 use Rattle.packet.specs.Check.{kindPsp, checkRefusals, check}
 use Rattle.table.specs.declared.Kind.the-variants as kind
+use Rattle.join.specs.Slices.{mostFrames, mostBytes, asSlices}
 use Rattle.card.specs.Hear.{judgedOf, recordAfter}
-use Rattle.card.specs.Receive.{holdingSize, mostFrames, mostBytes, asSlices, tooSmall, framesFound}
+use Rattle.card.specs.Receive.{holdingSize, tooSmall, framesFound}
 use Rattle.card.specs.History.{Card, Call, opens, closes, hands, answer, after}
 use Rattle.promises.specs.Words.{ofFlow, handsTo, closesIt, packetsTo, Room, StaysOpen}
 use Rattle.promises.proofs.Readings.{Reading, readOut}

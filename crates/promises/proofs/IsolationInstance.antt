@@ -13,8 +13,8 @@ use Rattle.packet.specs.Psp.{wanted}
 use Rattle.table.specs.declared.Mode.the-variants as mode
 use Rattle.table.specs.Broken.{broken}
 use Rattle.table.specs.Calls.{isOpen, opened, closed}
-use Rattle.card.specs.Join.{settledBy, settled, fateBy, fate, atGap, inOrder}
-use Rattle.card.specs.Hear.{pspFate, hear}
+use Rattle.join.specs.Join.{settledBy, settled, fateBy, fate, atGap, inOrder, pspFate}
+use Rattle.card.specs.Hear.{hear}
 use Rattle.card.specs.Receive.{carriedOut, refused, receivedBy, received}
 use Rattle.card.specs.History.{Card, Call, opens, closes, hands, answer, after, afterAll}
 use Rattle.promises.specs.Isolation.{own, Told, told, cardAfter}

@@ -10,8 +10,9 @@ use Rattle.octets.specs.Stretch.{part, rest, put, joined, lengths, cutBy}
 use Rattle.octets.proofs.Stretches.{length-lengths, part-none, part-put, put-front, cut-joined}
 use Rattle.packet.specs.Header.{overIp, sub}
 use Rattle.table.specs.declared.Table.{Table}
+use Rattle.join.specs.Slices.{Slices, asSlices}
 use Rattle.card.specs.Hear.{hear, judgedOf}
-use Rattle.card.specs.Receive.{Slices, asSlices, rowOf, toDmpt, flowOf, heldBy, heardBy, carriedOut, refused, received, framesFound}
+use Rattle.card.specs.Receive.{rowOf, toDmpt, flowOf, heldBy, heardBy, carriedOut, refused, received, framesFound}
 use Rattle.card.specs.History.{opens, closes, hands, answer}
 use Rattle.card.proofs.Hearing.{large-enough}
 use Rattle.card.proofs.Accepted.{accepted, received-accepted, received-refused}

@@ -7,8 +7,8 @@ use Rattle.packet.specs.Segments.{bodyAt, segmentAt, segments}
 use Rattle.packet.specs.Psp.{wanted}
 use Rattle.table.specs.Broken.{broken}
 use Rattle.table.specs.Calls.{opened}
-use Rattle.card.specs.Join.{settledBy, settled, fateBy, fate, atGap, inOrder}
-use Rattle.card.specs.Hear.{pspFate, hear}
+use Rattle.join.specs.Join.{settledBy, settled, fateBy, fate, atGap, inOrder, pspFate}
+use Rattle.card.specs.Hear.{hear}
 use Rattle.card.specs.Receive.{carriedOut, refused, receivedBy, received}
 use Rattle.card.specs.History.{answer, after}
 use Rattle.sender.specs.Cut.{cut, frameStart}

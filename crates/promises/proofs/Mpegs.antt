@@ -16,13 +16,14 @@ use Rattle.packet.specs.Header.{overIp, headerLength, sub, sSet, number, flowId
 use Rattle.packet.specs.Dmpt.{mpegLength, mpegCount, mpegAt, mpegs, pid, nullPid}
 use Rattle.packet.proofs.Passing.{mpeg-inside}
 use Rattle.table.specs.declared.Table.{Table}
-use Rattle.card.specs.Join.{Fate, delivering, dropping, keeping, andThen, mpegFate, inOrder}
-use Rattle.card.specs.Hear.{dmptFate, judgedBy, hear}
-use Rattle.card.specs.Receive.{Slices, asSlices, placeOf, rowOf, toDmpt, flowOf, heardBy, packetRefusals, carriedOut, received}
+use Rattle.join.specs.Join.{Fate, delivering, dropping, keeping, andThen, mpegFate, inOrder, dmptFate}
+use Rattle.join.specs.Slices.{Slices, asSlices}
+use Rattle.join.proofs.Carrying.{mpeg-length, dmpt-header, dmpt-holds-none}
+use Rattle.card.specs.Hear.{judgedBy, hear}
+use Rattle.card.specs.Receive.{placeOf, rowOf, toDmpt, flowOf, heardBy, packetRefusals, carriedOut, received}
 use Rattle.card.specs.History.{answer, after}
 use Rattle.card.proofs.Hearing.{large-enough}
 use Rattle.card.proofs.Accepted.{Accepted, accepted, received-accepted}
-use Rattle.card.proofs.Carrying.{mpeg-length, dmpt-header, dmpt-holds-none}
 use Rattle.card.proofs.Keeping.{clear-leaves}
 use Rattle.card.proofs.Limits.{held-none, accepted-bounded}
 use Rattle.card.proofs.Step.{framesIn}

@@ -16,8 +16,9 @@ use Rattle.table.specs.declared.Mode.{Mode}
 use Rattle.table.specs.Rows.{rows, find, freeIn, lowestFree, closedRow}
 use Rattle.table.specs.Calls.{isOpen, freshRow, openRefusals, openedBy, opened, closeRefusals, closedBy, closed}
 use Rattle.table.proofs.Keeping.{flows-whole}
-use Rattle.card.specs.Join.{Fate}
-use Rattle.card.specs.Receive.{Outcome, asSlices, rowOf, toDmpt, heardBy, framesFound, refused, received}
+use Rattle.join.specs.Join.{Fate}
+use Rattle.join.specs.Slices.{asSlices}
+use Rattle.card.specs.Receive.{Outcome, rowOf, toDmpt, heardBy, framesFound, refused, received}
 use Rattle.card.specs.History.{Card, Call, opens, closes, hands, answer, after}
 use Rattle.card.proofs.Accepted.{received-refused}
 use Rattle.card.proofs.Step.{framesIn}

@@ -16,8 +16,9 @@ use Rattle.packet.specs.Header.{overIp, sub, flowId}
 use Rattle.table.specs.declared.Row.{Row}
 use Rattle.table.specs.Rows.{rows, rowAt, flowAt}
 use Rattle.table.proofs.Keeping.{flows-whole}
+use Rattle.join.specs.Slices.{Slices, asSlices}
 use Rattle.card.specs.Hear.{Heard, recordAfter}
-use Rattle.card.specs.Receive.{Slices, Outcome, asSlices, placeOf, rowOf, toDmpt, flowOf, heldBy, heardBy, received}
+use Rattle.card.specs.Receive.{Outcome, placeOf, rowOf, toDmpt, flowOf, heldBy, heardBy, received}
 use Rattle.card.specs.History.{Card}
 use Rattle.card.proofs.Hearing.{large-enough}
 use Rattle.card.proofs.Accepted.{Accepted, accepted, flow-there}

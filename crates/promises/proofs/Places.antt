@@ -9,7 +9,7 @@ use lib.ListN.{length, replicate, length-append, length-replicate}
 use Rattle.octets.specs.Each.{Each}
 use Rattle.flow.specs.Flow.{longest}
 use Rattle.packet.specs.Segments.{Segment}
-use Rattle.card.specs.Join.{fate}
+use Rattle.join.specs.Join.{fate}
 use Rattle.sender.specs.Rules.{segmentsOf, allSegments}
 use Rattle.promises.specs.Arrivals.{placesFrom}
 use Rattle.promises.proofs.FromTheFront.{given, left}

@@ -6,7 +6,8 @@ use mathlib.Core.List.{List}
 use Rattle.packet.specs.Header.{overIp}
 use Rattle.table.specs.declared.Table.{Table}
 use Rattle.table.proofs.Keeping.{refused-close-keeps}
-use Rattle.card.specs.Receive.{Slices, Outcome, asSlices, refused, received}
+use Rattle.join.specs.Slices.{Slices, asSlices}
+use Rattle.card.specs.Receive.{Outcome, refused, received}
 use Rattle.card.specs.History.{Card, Call, opens, closes, hands, answer}
 use Rattle.card.proofs.Accepted.{received-refused}
 use Rattle.sender.specs.Send as sender

@@ -15,8 +15,9 @@ use Rattle.table.specs.declared.Kind.{Kind}
 use Rattle.table.specs.declared.Mode.{Mode}
 use Rattle.table.specs.Rows.{isDmpt}
 use Rattle.table.specs.Calls.{kindOf}
+use Rattle.join.specs.Slices.{mostBytes, mostFrames}
 use Rattle.card.specs.Hear.{Heard, judgedOf, hear, recordAfter}
-use Rattle.card.specs.Receive.{holdingSize, mostBytes, mostFrames, packetRefusals}
+use Rattle.card.specs.Receive.{holdingSize, packetRefusals}
 use Rattle.promises.specs.Isolation.{Own, gets, ends, Told}
 
 -- Flows are read by number. A packet that names a flow past the last is refused, by 7 at the latest, before any record counts.

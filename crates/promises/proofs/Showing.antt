@@ -20,8 +20,9 @@ use Rattle.packet.specs.Header.{overIp, sub, sessionId, flowId, shortestPacket}
 use Rattle.table.specs.declared.Mode.{Mode}
 use Rattle.table.specs.declared.Table.{Table}
 use Rattle.table.specs.Rows.{rows, isDmpt, find}
+use Rattle.join.specs.Slices.{Slices, asSlices}
 use Rattle.card.specs.Hear.{Heard, judgedOf, recordAfter}
-use Rattle.card.specs.Receive.{Slices, asSlices, rowOf, heardBy, packetRefusals, flowRefusals, carriedOut, refused}
+use Rattle.card.specs.Receive.{rowOf, heardBy, packetRefusals, flowRefusals, carriedOut, refused}
 use Rattle.card.specs.History.{Card, Call, opens, hands, dataAnswer, answer, after}
 use Rattle.card.proofs.Accepted.{Accepted, accepted, flow-there, received-code, received-accepted, received-refused}
 use Rattle.card.proofs.Hearing.{large-enough, flow-in-row}

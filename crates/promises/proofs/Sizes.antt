@@ -18,11 +18,11 @@ use Rattle.packet.specs.Segments.{Segment, entryWidth, lengthAt, bodyAt, segmen
 use Rattle.packet.specs.Header.{segmentCount}
 use Rattle.packet.specs.Dmpt.{mpegLength, mpegCount, mpegAt, mpegs, pid, nullPid}
 use Rattle.packet.proofs.Passing.{PspPassed, psp-passed, body-inside, body-some, mpeg-inside}
-use Rattle.card.specs.Join.{Fate, delivering, dropping, keeping, settledBy, settled, fateBy, fate, atGap, mpegFate, inOrder}
-use Rattle.card.specs.Hear.{pspFate, dmptFate, fateOf}
+use Rattle.join.specs.Join.{Fate, delivering, dropping, keeping, settledBy, settled, fateBy, fate, atGap, mpegFate, inOrder, pspFate, dmptFate}
+use Rattle.join.proofs.Account.{in-order-next}
+use Rattle.join.proofs.Carrying.{mpeg-length, dmpt-header}
+use Rattle.card.specs.Hear.{fateOf}
 use Rattle.card.specs.Receive.{packetRefusals}
-use Rattle.card.proofs.Account.{in-order-next}
-use Rattle.card.proofs.Carrying.{mpeg-length, dmpt-header}
 
 -- 1 to 2,048 bytes
 abbrev pub Sized : List ℕ → Type 0

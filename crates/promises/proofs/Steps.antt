@@ -20,8 +20,9 @@ use Rattle.table.specs.declared.Table.{Table}
 use Rattle.table.specs.Rows.{rows, isDmpt, rowAt, flowAt, openIn, find}
 use Rattle.table.specs.Calls.{isOpen}
 use Rattle.table.proofs.Keeping.{flows-whole}
+use Rattle.join.specs.Slices.{Slices, asSlices}
 use Rattle.card.specs.Hear.{judgedOf, hear, recordAfter}
-use Rattle.card.specs.Receive.{Slices, asSlices, tooSmall, rowOf, toDmpt, flowOf, heardBy, earlyRefusals, packetRefusals, flowRefusals, dataRefusals, received}
+use Rattle.card.specs.Receive.{tooSmall, rowOf, toDmpt, flowOf, heardBy, earlyRefusals, packetRefusals, flowRefusals, dataRefusals, received}
 use Rattle.card.specs.History.{Card, Call, opens as opensCall, closes as closesCall, hands, framesOf, answer, after}
 use Rattle.card.proofs.Accepted.{received-code, accepted}
 use Rattle.card.proofs.Step.{StepOf, one-flow-step}

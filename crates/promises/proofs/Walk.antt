@@ -8,7 +8,7 @@ use lib.ListN.{length, take, drop}
 use Rattle.octets.specs.Stretch.{joined}
 use Rattle.flow.specs.Flow.{longest}
 use Rattle.packet.specs.Segments.{Segment}
-use Rattle.card.specs.Join.{Fate, dropping, settledBy, fate}
+use Rattle.join.specs.Join.{Fate, dropping, settledBy, fate}
 use Rattle.sender.specs.Rules.{Pieces}
 use Rattle.promises.proofs.FromTheFront.{fate-begins, fate-joins, fate-misses, fate-goes-on}
 

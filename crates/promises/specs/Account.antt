@@ -15,7 +15,8 @@ use Rattle.packet.specs.Segments.{Segment, entryWidth, segments}
 use Rattle.packet.specs.Dmpt.{mpegs}
 use Rattle.table.specs.declared.Table.{Table}
 use Rattle.table.specs.Rows.{rows, rowAt, flowAt, find, heldIn, empty}
-use Rattle.card.specs.Receive.{placeOf, asSlices, rowOf, toDmpt, heardBy}
+use Rattle.join.specs.Slices.{asSlices}
+use Rattle.card.specs.Receive.{placeOf, rowOf, toDmpt, heardBy}
 use Rattle.card.specs.History.{Card, Call, opens, closes, hands, framesOf, answer, after, afterAll, emptyCard}
 
 -- the body of a packet: the bodies of its segments, or its MPEG packets, those with PID 0x1FFF included

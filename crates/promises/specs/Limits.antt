@@ -10,7 +10,7 @@ use Rattle.octets.specs.Each.{Each}
 use Rattle.flow.specs.Flow.{longest, half, flows}
 use Rattle.table.specs.Rows.{rows, rowAt, empty}
 use Rattle.table.specs.Broken.{broken}
-use Rattle.card.specs.Receive.{mostFrames, mostBytes}
+use Rattle.join.specs.Slices.{mostFrames, mostBytes}
 use Rattle.card.specs.History.{Card, Call, framesOf, answer}
 use Rattle.promises.specs.Account.{Lent, tableAfterAll}
 

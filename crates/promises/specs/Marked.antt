@@ -13,7 +13,8 @@ use Rattle.octets.specs.Each.{Each}
 use Rattle.flow.specs.Flow.{flows}
 use Rattle.table.specs.declared.Mode.the-variants as mode
 use Rattle.table.specs.Rows.{rowAt, flowAt, find}
-use Rattle.card.specs.Receive.{holdingSize, mostBytes, mostFrames, placeOf}
+use Rattle.join.specs.Slices.{mostBytes, mostFrames}
+use Rattle.card.specs.Receive.{holdingSize, placeOf}
 use Rattle.card.specs.History.{Card, Call, opens, hands, framesOf, answer, after, emptyCard}
 use Rattle.sender.specs.Series.{Job, Turn, startOfFrame, seriesPackets}
 

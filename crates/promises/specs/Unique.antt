@@ -12,7 +12,8 @@ use Rattle.table.specs.declared.Mode.{Mode}
 use Rattle.table.specs.declared.Table.{Table}
 use Rattle.table.specs.Rows.{PermitsEmpty}
 use Rattle.table.specs.Calls.{PermitsOpen, PermitsClose}
-use Rattle.card.specs.Receive.{Slices, PermitsReceive}
+use Rattle.join.specs.Slices.{Slices}
+use Rattle.card.specs.Receive.{PermitsReceive}
 use Rattle.sender.specs.Send.{Asked, PermitsSend}
 use Rattle.capture.specs.File as capture
 

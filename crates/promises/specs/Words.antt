@@ -8,7 +8,8 @@ use lib.Dec.{eqb, leb}
 use lib.ListN.{length}
 use Rattle.octets.specs.Each.{Each}
 use Rattle.packet.specs.Header.{overIp, shortestPacket, sub, sessionId, flowId}
-use Rattle.card.specs.Receive.{holdingSize, mostBytes, mostFrames}
+use Rattle.join.specs.Slices.{mostBytes, mostFrames}
+use Rattle.card.specs.Receive.{holdingSize}
 use Rattle.card.specs.History.{Card, Call, opens, closes, hands, framesOf, answer, after}
 
 abbrev pub ofSession : ℕ → List ℕ → Bool

@@ -9,7 +9,8 @@ use Rattle.octets.specs.Bytes.{byteAt}
 use Rattle.octets.specs.Count.{sumTo}
 use Rattle.octets.specs.Stretch.{joined}
 use Rattle.table.specs.Broken.{broken}
-use Rattle.card.specs.Receive.{mostBytes, mostFrames, framesFound}
+use Rattle.join.specs.Slices.{mostBytes, mostFrames}
+use Rattle.card.specs.Receive.{framesFound}
 use Rattle.text.specs.Text.{Wrote}
 use Rattle.text.proofs.Writing.{wrote-then, wrote-as}
 use Rattle.capture.specs.File.{nthEntry}

@@ -17,7 +17,8 @@ use Rattle.table.specs.declared.Table.{Table}
 use Rattle.table.specs.Rows.{rows, isClosed, rowAt, flowAt}
 use Rattle.table.specs.Broken.{broken}
 use Rattle.table.proofs.Keeping.{flows-whole}
-use Rattle.card.specs.Receive.{mostBytes, holdingSize, placeOf, framesFound}
+use Rattle.join.specs.Slices.{mostBytes}
+use Rattle.card.specs.Receive.{holdingSize, placeOf, framesFound}
 use Rattle.text.specs.Text.{ascii, decimal, column, hex, space, newline, mostDigits, Wrote}
 use Rattle.text.proofs.Writing.{wrote-length, wrote-then, wrote-none, wrote-as}
 use Rattle.listing.specs.Walk.{columnRoom}

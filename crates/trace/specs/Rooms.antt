@@ -8,7 +8,8 @@ use Rattle.octets.specs.Count.{sumTo}
 use Rattle.flow.specs.Flow.{flows, longest}
 use Rattle.table.specs.declared.Row.{Row}
 use Rattle.table.specs.Rows.{rows, flowAt}
-use Rattle.card.specs.Receive.{holdingSize, mostFrames, mostBytes}
+use Rattle.join.specs.Slices.{mostFrames, mostBytes}
+use Rattle.card.specs.Receive.{holdingSize}
 use Rattle.text.specs.Text.{mostDigits}
 use Rattle.listing.specs.Walk.{columnRoom, lineRoom}
 

@@ -3,8 +3,9 @@ use Prim.Native.Nat.{ℕ, _<_}
 use mathlib.Core.Path.{_≡_, sym, _∙_}
 use native.Mathlib.Omega.{arith}
 use Rattle.flow.specs.Flow.{flows}
-use Rattle.card.specs.Receive.{asSlices, placeOf, Slices}
-use Rattle.card.specs.Placed.{Roomy}
+use Rattle.join.specs.Slices.{asSlices, Slices}
+use Rattle.join.specs.Placed.{Roomy}
+use Rattle.card.specs.Receive.{placeOf}
 use Rattle.card.proofs.Hearing.{place-roomy, flow-in-row, held-fits, dmpt-bare, hear-refused, hear-late, hear-accepted}
 use borrow.Author.Needs.{needs}
 use Rattle.card.proofs.hear.Statement.{statement}

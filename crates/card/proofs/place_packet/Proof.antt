@@ -2,7 +2,8 @@
 use mathlib.Core.Path.{sym, _∙_}
 use native.Mathlib.Omega.{arith}
 use Rattle.octets.specs.Stretch.{part}
-use Rattle.card.proofs.Carrying.{fate-dmpt, fate-psp, refusals-dmpt, refusals-psp, dmpt-header, dmpt-holds-none, placed-anywhere}
+use Rattle.join.proofs.Carrying.{dmpt-header, dmpt-holds-none, placed-anywhere}
+use Rattle.card.proofs.ByKind.{fate-dmpt, fate-psp, refusals-dmpt, refusals-psp}
 use borrow.Author.Needs.{needs}
 use Rattle.card.proofs.place_packet.Statement.{statement}
 use Rattle.card.proofs.place_packet.Tie as tie

@@ -5,7 +5,8 @@ use mathlib.Core.Bool.{false}
 use native.Mathlib.Omega.{arith}
 use lib.ListN.{length}
 use Rattle.packet.specs.Header.{overIp, idLength}
-use Rattle.card.specs.Receive.{asSlices, Slices, tooSmall}
+use Rattle.join.specs.Slices.{asSlices, Slices}
+use Rattle.card.specs.Receive.{tooSmall}
 use Rattle.card.proofs.Receiving.{permits, early-over, ready, receive-small, receive-early, receive-closed, receive-heard}
 use borrow.Author.Needs.{needs}
 use Rattle.card.proofs.receive.Statement.{statement}

@@ -1,0 +1,5 @@
+pub mod Placing
+pub mod Account
+pub mod Walking
+pub mod Carrying
+pub mod Examples

@@ -1,0 +1,168 @@
+-- The walk over the segments of a PSP packet: what has become of the bytes after k of them (`soFar`), its account, and the loop's
+-- invariant with a begin, a turn and an end. Only the last segment may leave something held (refusal 11), so until then the holding
+-- slice is as it was.
+use Prim.Native.Nat.{ℕ, zero, suc, _+_, _*_, _<_, _≤_}
+use mathlib.Core.Path.{_≡_, sym, ap, _∙_}
+use mathlib.Core.Bool.{true}
+use mathlib.Core.List.{List, []}
+use native.Mathlib.Omega.{arith}
+use lib.ListN.{length}
+use Rattle.octets.specs.Stretch.{part, put}
+use Rattle.octets.specs.Count.{sumTo, upTo}
+use Rattle.octets.proofs.Counts.{sum-none, sum-more, sum-below}
+use Rattle.octets.proofs.Stretches.{length-part, put-nil}
+use Rattle.flow.specs.Flow.{longest}
+use Rattle.packet.specs.Header.{idLength, headerLength, segmentCount, longestPacket}
+use Rattle.packet.specs.Segments.{entryAt, beginsIn, endsIn, lengthIn, lengthAt, bodyAt, segmentAt, segments}
+use Rattle.packet.specs.Psp.{wanted}
+use Rattle.packet.proofs.Passing.{PspPassed, body-inside, ends-early}
+use Rattle.join.specs.declared.Tally.{Tally}
+use Rattle.join.specs.Join.{Fate, fate, atGap, inOrder, pspFate}
+use Rattle.join.specs.Slices.{Slices, mostBytes, mostFrames}
+use Rattle.join.specs.Placed.{nothingYet, begun, Placed, Roomy, Fits, Within}
+use Rattle.join.proofs.Account.{Accounts, fate-accounts, fate-ends, gap-accounts, in-order-next, in-order-accounts}
+use Rattle.join.proofs.Placing.{placed-begun, placed-counted, holding-long, output-long, lengths-long, held-there, placed-next}
+
+-- the segment count has 7 bits
+count-few : (sub : List ℕ) → segmentCount sub ≤ mostFrames
+count-few sub = omega arith
+
+-- what has become of the bytes after k segments
+abbrev pub soFar : ℕ → ℕ → List ℕ → List ℕ → ℕ → Fate
+soFar width gap held sub k = inOrder (fate longest) (atGap gap held) (upTo (segmentAt width sub) k)
+
+module _ (width gap : ℕ) (held sub : List ℕ) (passed : PspPassed width sub) (few : length held ≤ longest) where
+  segment-accounts : (h : List ℕ) (k : ℕ) → length h ≤ longest → k < segmentCount sub →
+      Accounts (length h + lengthAt width sub k) 1 longest (fate longest h (segmentAt width sub k))
+  unfolding segmentAt
+  segment-accounts h k l there =
+      let n = length-part sub (bodyAt width sub k) (lengthAt width sub k) (body-inside width sub passed k there) in
+      let a = fate-accounts longest h (segmentAt width sub k) in
+      record { all = omega (arith, n, a .all); frames-few = a .frames-few; held-few = a .held-few }
+
+  pub so-far-accounts : (k : ℕ) → k ≤ segmentCount sub →
+      Accounts (length held + sumTo (lengthAt width sub) k) k longest (soFar width gap held sub k)
+  so-far-accounts k l =
+      in-order-accounts (fate longest) (atGap gap held) (segmentAt width sub) (lengthAt width sub) (length held) longest (segmentCount sub)
+      (gap-accounts longest gap held few) segment-accounts k l
+
+  -- between two segments nothing is held
+  pub so-far-ended : (k : ℕ) → suc k < segmentCount sub → soFar width gap held sub (suc k) .held ≡ []
+  unfolding segmentAt
+  so-far-ended k l =
+      let there : k < segmentCount sub = omega arith in
+      let e : endsIn (entryAt width sub k) ≡ true = ends-early width sub passed k there (λ z. omega arith) in
+      rw (in-order-next (fate longest) (atGap gap held) (segmentAt width sub) k)
+      (fate-ends longest (soFar width gap held sub k .held) (segmentAt width sub k) e)
+
+  -- 2,048 held and 4,092 that came are the most that one packet can tell of
+  pub all-few : idLength + length sub ≤ longestPacket → (k : ℕ) → k ≤ segmentCount sub → length held + sumTo (lengthAt width sub) k ≤ mostBytes
+  unfolding wanted bodyAt
+  all-few short k l = let s = sum-below (lengthAt width sub) k (segmentCount sub) l in omega (arith, passed .fills)
+
+-- The loop's invariant.
+pub record Walking (width gap held place : ℕ) (sub : List ℕ) (s s′ : Slices) (tally : Tally) (from k : ℕ) : Type 0 where
+  pub within : k ≤ segmentCount sub
+  pub at : from ≡ bodyAt width sub k
+  pub placed : Placed (soFar width gap (part (s .holding) place held) sub k) place nothingYet s tally s′
+
+module _ (width gap held place : ℕ) (sub : List ℕ) (s : Slices)
+    (passed : PspPassed width sub) (few : held ≤ longest) (short : idLength + length sub ≤ longestPacket) (roomy : Roomy place s) where
+  abbrev heldFirst : List ℕ
+  heldFirst = part (s .holding) place held
+
+  held-length : length heldFirst ≡ held
+  held-length = length-part (s .holding) place held (omega (arith, roomy .place-inside))
+
+  held-few : length heldFirst ≤ longest
+  held-few = omega (arith, held-length)
+
+  pub walk-begin : (count from : ℕ) → count ≡ segmentCount sub → from ≡ headerLength + width * count →
+      Walking width gap held place sub s s (begun gap held) from 0
+  unfolding inOrder upTo bodyAt
+  walk-begin count from counted e =
+      record {
+        within = omega arith;
+        at = rw (e, counted, sum-none (lengthAt width sub)) (omega arith);
+        placed = placed-begun gap place held s (omega (arith, roomy .place-inside));
+      }
+
+  module _ {s′ : Slices} {tally : Tally} {from k : ℕ} (w : Walking width gap held place sub s s′ tally from k) where
+    account : Accounts (length heldFirst + sumTo (lengthAt width sub) k) k longest (soFar width gap heldFirst sub k)
+    account = so-far-accounts width gap heldFirst sub passed held-few k (w .within)
+
+    bytes-few : length heldFirst + sumTo (lengthAt width sub) k ≤ mostBytes
+    bytes-few = all-few width gap heldFirst sub passed held-few short k (w .within)
+
+    -- the slices are as long as they were
+    pub walk-lengths : (length (s′ .holding) ≡ length (s .holding)) × (length (s′ .output) ≡ length (s .output)) × (length (s′ .lengths) ≡ length (s .lengths))
+    walk-lengths =
+        let n = count-few sub in (
+          holding-long (w .placed) account (roomy .place-inside),
+          output-long (w .placed) account (omega (arith, bytes-few, roomy .output-long)),
+          lengths-long (w .placed) account (omega (arith, w .within, n, roomy .lengths-long)),
+        )
+
+    pub walk-roomy : Roomy place s′
+    walk-roomy =
+        record {
+          place-inside = rw (walk-lengths .0) (roomy .place-inside);
+          output-long = rw (walk-lengths .1) (roomy .output-long);
+          lengths-long = rw (walk-lengths .2) (roomy .lengths-long);
+        }
+
+    pub walk-within : Within tally
+    walk-within =
+        let n = count-few sub in
+        let c = placed-counted (w .placed) account in
+        record {
+          held-few = c .held-few;
+          bytes-few = omega (arith, c .all, bytes-few);
+          frames-few = omega (arith, c .frames-few, w .within, n);
+        }
+
+    module _ (there : k < segmentCount sub) where
+      pub walk-body : from + lengthAt width sub k ≤ length sub
+      walk-body = rw (w .at) (body-inside width sub passed k there)
+
+      pub walk-fits : Fits (lengthAt width sub k) tally
+      walk-fits =
+          let n = count-few sub in
+          let c = placed-counted (w .placed) account in
+          let more = all-few width gap heldFirst sub passed held-few short (k + 1) (omega arith) in
+          record {
+            held-few = c .held-few;
+            bytes-few = omega (arith, c .all, more, sum-more (lengthAt width sub) k);
+            frames-few = omega (arith, c .frames-few, n);
+          }
+
+      -- until the last segment the holding slice is as it was
+      quiet : s′ .holding ≡ s .holding
+      unfolding inOrder upTo
+      quiet = quiet-at k there (w .placed .holding-now)
+        where
+          quiet-at : (j : ℕ) → j < segmentCount sub → s′ .holding ≡ put (s .holding) place (soFar width gap heldFirst sub j .held) → s′ .holding ≡ s .holding
+          quiet-at zero l e = e ∙ sym (placed-begun gap place held s (omega (arith, roomy .place-inside)) .holding-now)
+          quiet-at (suc j) l e = e ∙ ap (put (s .holding) place) (so-far-ended width gap heldFirst sub passed held-few j l) ∙ put-nil (s .holding) place
+
+      pub walk-turn : (entry size : ℕ) (r : Tally) (s″ : Slices) → entry ≡ entryAt width sub k → size ≡ lengthIn entry →
+          Placed (fate longest (part (s′ .holding) place (tally .held)) (record { begins = beginsIn entry; ends = endsIn entry; body = part sub from (lengthIn entry) }))
+          place tally s′ r s″ →
+          Walking width gap held place sub s s″ r (from + size) (k + 1)
+      unfolding segmentAt bodyAt
+      walk-turn entry size r s″ e z q =
+          let n = count-few sub in
+          let c = placed-counted (w .placed) account in
+          let q′ : Placed (fate longest (soFar width gap heldFirst sub k .held) (segmentAt width sub k)) place tally s′ r s″ =
+          rw (held-there (w .placed) account (roomy .place-inside), e, w .at) at q in
+          record {
+            within = omega arith;
+            at = rw (w .at, z, e, sum-more (lengthAt width sub) k) (omega arith);
+            placed =
+                placed-next (fate longest) (atGap gap heldFirst) (segmentAt width sub) k
+                (omega (arith, c .all, bytes-few, roomy .output-long)) (omega (arith, c .frames-few, n, roomy .lengths-long)) (w .placed) quiet q′;
+          }
+
+    pub walk-end : segmentCount sub ≤ k → Placed (pspFate longest gap heldFirst (segments width sub)) place nothingYet s tally s′
+    unfolding pspFate segments
+    walk-end l = let done : k ≡ segmentCount sub = omega (arith, w .within) in rw done at (w .placed)

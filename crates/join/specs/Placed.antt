@@ -1,0 +1,48 @@
+-- How a fate shows in the code's counts and slices. These are the words of the contracts of the functions of this crate; the data
+-- call's own contract says none of them, so a reader who is after the promises can pass them over.
+use Prim.Native.Nat.{ℕ, zero, suc, _+_, _<_, _≤_}
+use mathlib.Core.Path.{_≡_}
+use lib.ListN.{length}
+use Rattle.octets.specs.Stretch.{put, joined, lengths}
+use Rattle.flow.specs.Flow.{longest}
+use Rattle.join.specs.declared.Tally.{Tally}
+use Rattle.join.specs.Join.{Fate}
+use Rattle.join.specs.Slices.{Slices, mostFrames, mostBytes}
+
+-- nothing delivered, dropped or held yet
+abbrev pub nothingYet : Tally
+nothingYet = record { held = 0; frames = 0; bytes = 0; dropped = 0 }
+
+-- .. and what a gap makes of a flow that holds so many bytes
+abbrev pub begun : ℕ → ℕ → Tally
+begun zero held = record { held = held; frames = 0; bytes = 0; dropped = 0 }
+begun (suc gap) held = record { held = 0; frames = 0; bytes = 0; dropped = held }
+
+-- The counts and the slices after some bytes met their fate, from what they were before: what was delivered stands behind what had
+-- been delivered before, and what is held stands at the start of the place.
+pub record Placed (f : Fate) (place : ℕ) (before : Tally) (s : Slices) (after : Tally) (s′ : Slices) : Type 0 where
+  pub held-now : after .held ≡ length (f .held)
+  pub frames-more : after .frames ≡ before .frames + length (f .delivered)
+  pub bytes-more : after .bytes ≡ before .bytes + length (joined (f .delivered))
+  pub dropped-more : after .dropped ≡ before .dropped + length (f .dropped)
+  pub holding-now : s′ .holding ≡ put (s .holding) place (f .held)
+  pub output-now : s′ .output ≡ put (s .output) (before .bytes) (joined (f .delivered))
+  pub lengths-now : s′ .lengths ≡ put (s .lengths) (before .frames) (lengths (f .delivered))
+
+-- The slices are long enough, and the place lies in the holding slice.
+pub record Roomy (place : ℕ) (s : Slices) : Type 0 where
+  pub place-inside : place + longest ≤ length (s .holding)
+  pub output-long : mostBytes ≤ length (s .output)
+  pub lengths-long : mostFrames ≤ length (s .lengths)
+
+-- There is room for a piece of `size` bytes more, whatever becomes of it: all bytes that the call has met so far, and these, are few enough.
+pub record Fits (size : ℕ) (tally : Tally) : Type 0 where
+  pub held-few : tally .held ≤ longest
+  pub bytes-few : tally .held + tally .bytes + tally .dropped + size ≤ mostBytes
+  pub frames-few : tally .frames < mostFrames
+
+-- what a packet's counts are below, all pieces placed
+pub record Within (tally : Tally) : Type 0 where
+  pub held-few : tally .held ≤ longest
+  pub bytes-few : tally .held + tally .bytes + tally .dropped ≤ mostBytes
+  pub frames-few : tally .frames ≤ mostFrames

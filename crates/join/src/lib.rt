@@ -1,0 +1,211 @@
+// The join rule (document 01, "Opening, closing, listening"): what becomes of the segments of an accepted PSP packet. Frames go to the
+// output, their lengths to a slice of their own, and what is left without its end to the start of the flow's place. `mpegs` has the rule
+// of D-MPT.
+//
+// The place is written at most once a call, by the last segment: every segment before it has E, or the packet would have been refused
+// (11). A frame that is delivered or dropped leaves the holding slice as it was.
+pub mod mpegs;
+
+ghost use mathlib.Core.List.{_++_};
+ghost use mathlib.Core.Path.{_≡_};
+ghost use Prim.Native.Nat.{_+_, _≤_};
+ghost use lib.ListN.{length};
+ghost use Rattle.refusal.specs.Refusal.{first};
+ghost use Rattle.octets.specs.Stretch.{part};
+ghost use Rattle.flow.specs.Flow.{longest};
+ghost use Rattle.packet.specs.Header.{idLength, longestPacket};
+ghost use Rattle.packet.specs.Segments.{beginsIn, endsIn, lengthIn, segments};
+ghost use Rattle.packet.specs.Psp.{pspRefusals};
+ghost use Rattle.join.specs.Join.{settled, fate, pspFate};
+ghost use Rattle.join.specs.Slices.{asSlices, mostBytes};
+ghost use Rattle.join.specs.Placed.{nothingYet, begun, Placed, Roomy, Fits, Within};
+use flow::Flow;
+use packet::header;
+use packet::psp;
+
+// What a call has come to: how many bytes the flow holds now, and the frames and bytes delivered and the bytes dropped so far.
+pub struct Tally {
+    pub held: usize,
+    pub frames: usize,
+    pub bytes: usize,
+    pub dropped: usize,
+}
+
+// A flow that holds so many bytes, before the first segment: a gap above 0 drops them.
+fn begin(gap: u16, held: usize) -> Tally
+    ensures { λ r. ⌜ r ≡ begun gap held ⌝ }
+{
+    if gap == 0 {
+        return Tally {
+            held,
+            frames: 0,
+            bytes: 0,
+            dropped: 0,
+        };
+    }
+    Tally {
+        held: 0, // so nothing joins across a gap
+        frames: 0,
+        bytes: 0,
+        dropped: held,
+    }
+}
+
+// Drops what is held.
+fn drop_held(tally: Tally) -> Tally
+    requires { ⌜ tally .held + tally .bytes + tally .dropped ≤ mostBytes ⌝ }
+    ensures { λ r. ⌜ r ≡ record { held = 0; frames = tally .frames; bytes = tally .bytes; dropped = tally .dropped + tally .held } ⌝ }
+{
+    let dropped = tally.dropped + tally.held;
+    Tally {
+        held: 0,
+        frames: tally.frames,
+        bytes: tally.bytes,
+        dropped,
+    }
+}
+
+// Joins `count` bytes of the packet, from place `from` on, to what is held, and settles it: too long, it is dropped; with E it is
+// delivered; else it is held.
+fn settle(
+    holding: &mut [u8],
+    place: usize,
+    output: &mut [u8],
+    lengths: &mut [u16],
+    sub: &[u8],
+    from: usize,
+    count: usize,
+    ends: bool,
+    tally: Tally,
+) -> Tally
+    requires { ⌜ Roomy place (asSlices (now holding) (now output) (now lengths)) ⌝ }
+    requires { ⌜ (from + count ≤ length (now sub)) × Fits count tally ⌝ }
+    ensures { λ r. ⌜ Placed (settled longest ends (part (now (holding .entry)) place (tally .held) ++ part (now (sub .entry)) from count))
+        place tally (asSlices (now (holding .entry)) (now (output .entry)) (now (lengths .entry)))
+        r (asSlices (now (holding .exit)) (now (output .exit)) (now (lengths .exit))) ⌝ }
+{
+    let held = tally.held;
+    let frames = tally.frames;
+    let bytes = tally.bytes;
+    let dropped = tally.dropped;
+    let joined = held + count;
+    if (Flow::LONGEST as usize) < joined {
+        let lost = dropped + joined;
+        return Tally {
+            held: 0, // nor is its tail held as a frame of its own
+            frames,
+            bytes,
+            dropped: lost,
+        };
+    }
+    if ends {
+        let more = frames + 1;
+        let seam = bytes + held;
+        let end = bytes + joined;
+        octets::copy(output, bytes, holding, place, held);
+        octets::copy(output, seam, sub, from, count);
+        lengths[frames] = joined as u16;
+        return Tally {
+            held: 0,
+            frames: more,
+            bytes: end,
+            dropped,
+        };
+    }
+    let behind = place + held;
+    octets::copy(holding, behind, sub, from, count);
+    Tally {
+        held: joined,
+        frames,
+        bytes,
+        dropped,
+    }
+}
+
+// One segment: its marks, and its body in the packet. With B it drops what is held; without B it is dropped where nothing is held.
+fn place_segment(
+    holding: &mut [u8],
+    place: usize,
+    output: &mut [u8],
+    lengths: &mut [u16],
+    sub: &[u8],
+    from: usize,
+    entry: u16,
+    tally: Tally,
+) -> Tally
+    requires { ⌜ Roomy place (asSlices (now holding) (now output) (now lengths)) ⌝ }
+    requires { ⌜ (from + lengthIn entry ≤ length (now sub)) × Fits (lengthIn entry) tally ⌝ }
+    ensures { λ r. ⌜ Placed (fate longest (part (now (holding .entry)) place (tally .held))
+        (record { begins = beginsIn entry; ends = endsIn entry; body = part (now (sub .entry)) from (lengthIn entry) }))
+        place tally (asSlices (now (holding .entry)) (now (output .entry)) (now (lengths .entry)))
+        r (asSlices (now (holding .exit)) (now (output .exit)) (now (lengths .exit))) ⌝ }
+{
+    let count = psp::length_of(entry);
+    let ends = psp::ends(entry);
+    if psp::begins(entry) {
+        let alone = drop_held(tally);
+        return settle(
+            holding,
+            place,
+            output,
+            lengths,
+            sub,
+            from,
+            count,
+            ends,
+            alone,
+        );
+    }
+    if tally.held == 0 {
+        let lost = tally.dropped + count;
+        return Tally {
+            held: 0,
+            frames: tally.frames,
+            bytes: tally.bytes,
+            dropped: lost,
+        };
+    }
+    settle(
+        holding,
+        place,
+        output,
+        lengths,
+        sub,
+        from,
+        count,
+        ends,
+        tally,
+    )
+}
+
+// All segments of a packet that passed the check, in order, on a flow that holds so many bytes.
+pub fn walk(
+    holding: &mut [u8],
+    place: usize,
+    output: &mut [u8],
+    lengths: &mut [u16],
+    sub: &[u8],
+    width: usize,
+    gap: u16,
+    held: usize,
+) -> Tally
+    requires { ⌜ Roomy place (asSlices (now holding) (now output) (now lengths)) ⌝ }
+    requires { ⌜ (2 ≤ width) × (width ≤ 4) × (held ≤ longest)
+        × (idLength + length (now sub) ≤ longestPacket) × (first (pspRefusals width (now sub)) ≡ 0) ⌝ }
+    ensures { λ r. ⌜ Placed (pspFate longest gap (part (now (holding .entry)) place held) (segments width (now (sub .entry))))
+        place nothingYet (asSlices (now (holding .entry)) (now (output .entry)) (now (lengths .entry)))
+        r (asSlices (now (holding .exit)) (now (output .exit)) (now (lengths .exit))) ⌝ }
+    ensures { λ r. ⌜ Within r ⌝ }
+{
+    let count = header::segment_count(sub);
+    let mut tally = begin(gap, held);
+    let mut from = header::HEADER_LENGTH + width * count;
+    let mut k: usize = 0;
+    while k < count {
+        let entry = psp::entry(sub, width, k);
+        tally = place_segment(holding, place, output, lengths, sub, from, entry, tally);
+        from += psp::length_of(entry);
+        k += 1;
+    }
+    tally
+}
