@@ -47,6 +47,11 @@ pub numberAt-from-next : (s i : ℕ) → numberAt (next s) i ≡ numberAt s (i +
 unfolding next numberAt
 numberAt-from-next s i = omega arith
 
+-- .. and as one that starts with the number of any of its packets.
+pub numberAt-on : (s n i : ℕ) → numberAt (numberAt s n) i ≡ numberAt s (n + i)
+unfolding numberAt
+numberAt-on s n i = omega arith
+
 -- Within document 01's bound the distance on numbers is the distance on places: at most 32,767 ahead it is that distance, ..
 pub ahead-forward : (s m i : ℕ) → m ≤ i → i < m + half → ahead (numberAt s i) (numberAt s m) ≡ i - m
 unfolding ahead numberAt

@@ -12,7 +12,7 @@ use lib.Seq.{getD-append-add}
 use borrow.Author.Tests.{eqb-true, ltb-true, ltb-false}
 use Rattle.octets.proofs.Elements.{each-both}
 use Rattle.flow.specs.Numbers.{modulus, numberAt}
-use Rattle.flow.proofs.Numbers.{next-below, numberAt-first, numberAt-from-next}
+use Rattle.flow.proofs.Numbers.{next-below, numberAt-first, numberAt-from-next, numberAt-on}
 use Rattle.packet.specs.Header.{overIp, sub, number}
 use Rattle.packet.specs.Check.{kindPsp, check}
 use Rattle.sender.specs.declared.Position.{Position}
@@ -52,10 +52,6 @@ frames-both [] more = refl
 frames-both (f ∷ frames) more = rw (frames-both frames more) (sym (append-assoc (wholeFrame true f) (inTurn frames) (inTurn more)))
 
 -- .. and their numbers
-number-on : (start n j : ℕ) → numberAt (numberAt start n) j ≡ numberAt start (n + j)
-unfolding numberAt
-number-on start n j = omega arith
-
 numbered-both : (start : ℕ) (packets behind : List (List ℕ)) →
     ((i : ℕ) → i < length packets → number (sub overIp (getD packets i [])) ≡ numberAt start i) →
     ((i : ℕ) → i < length behind → number (sub overIp (getD behind i [])) ≡ numberAt (numberAt start (length packets)) i) →
@@ -73,7 +69,7 @@ numbered-both start packets behind front back i l = by (ltb i (length packets)) 
         rw split
         (ap (λ (p : List ℕ). number (sub overIp p)) (getD-append-add packets behind j [])
         ∙ back j (omega (arith, length-append packets behind))
-        ∙ number-on start (length packets) j)
+        ∙ numberAt-on start (length packets) j)
 
 both-keep : (session flow start : ℕ) (frames more : List Pieces) (unfinished : Pieces) (packets behind : List (List ℕ)) →
     KeepsRules session flow start frames [] packets → KeepsRules session flow (numberAt start (length packets)) more unfinished behind →
