@@ -11,7 +11,7 @@ use lib.ListN.{length, set, length-set}
 use lib.Seq.{getD-set-same, getD-set-other}
 use borrow.Author.Tests.{eqb-true, eqb-false, ltb-true, ltb-false}
 use Rattle.octets.specs.Bytes.{byteAt}
-use Rattle.octets.specs.Stretch.{part, rest, put, joined, lengths}
+use Rattle.octets.specs.Stretch.{part, rest, put, joined, lengths, cutBy}
 use Rattle.octets.proofs.Counts.{true-or-false}
 use Rattle.octets.proofs.Stretches.{length-put, length-lengths, byte-put, part-put, part-put-apart, put-front, cut-joined}
 use Rattle.flow.specs.Flow.{longest, flows}
@@ -34,6 +34,11 @@ pub record Shaped (t : Table) : Type 0 where
 -- the frames that the caller finds
 abbrev pub framesIn : Outcome → List (List ℕ)
 framesIn o = framesFound (o .answer .frames) (o .slices .lengths) (o .slices .output)
+
+-- where no frame is counted, none is found
+pub none-found : (lens output : List ℕ) → framesFound 0 lens output ≡ []
+unfolding part cutBy
+none-found lens output = refl
 
 -- The outcome o of a call is the step h of flow k in row r.
 pub record StepOf (r k : ℕ) (h : Heard) (t : Table) (s : Slices) (o : Outcome) : Type 0 where

@@ -1,15 +1,13 @@
 -- How a run stands: its table is never broken, and after an entry its frames lie in the slices, few and short.
 use Prim.Native.Nat.{ℕ, zero, suc, _≤_}
-use mathlib.Core.Path.{_≡_, refl, sym, ap, _∙_}
+use mathlib.Core.Path.{_≡_, refl, sym, _∙_}
 use mathlib.Core.Bool.{Bool, true, false, cond}
 use mathlib.Core.List.{List, []}
 use native.Mathlib.Omega.{arith}
 use lib.Dec.{eqb}
 use Rattle.octets.specs.Bytes.{be32At, byteAt}
-use Rattle.octets.specs.Stretch.{cutBy}
 use Rattle.octets.specs.Count.{sumTo}
 use Rattle.octets.proofs.Counts.{sum-none}
-use Rattle.octets.proofs.Stretches.{part-none}
 use Rattle.packet.specs.Header.{overIp}
 use Rattle.table.specs.declared.Mode.{Mode}
 use Rattle.table.specs.declared.Mode.the-variants as mode
@@ -19,6 +17,7 @@ use Rattle.join.specs.Slices.{mostFrames, mostBytes, asSlices}
 use Rattle.card.specs.Receive.{framesFound}
 use Rattle.card.specs.History.{Call, opens, closes, hands, framesOf, answer, after}
 use Rattle.card.proofs.Keeping.{received-keeps}
+use Rattle.card.proofs.Step.{none-found}
 use Rattle.card.proofs.Limits.{within-limits, lengths-add-up}
 use Rattle.capture.specs.File.{Entry, openPsp, openDmpt, closing, nthEntry}
 use Rattle.listing.specs.Run.{Running, callOf, outputAfter, lengthsAfter, answerTo, runOne, begin, standing, answerAt}
@@ -49,23 +48,17 @@ unfolding standing begin
 never-broken file zero = empty-unbroken
 never-broken file (suc k) = run-keeps (standing file k) (nthEntry file k) (never-broken file k)
 
--- without lengths there are no stretches
-nothing : (output more-output : List ℕ) → cutBy [] output ≡ cutBy [] more-output
-unfolding cutBy
-nothing output more-output = refl
-
 -- the frames of a call are those that its caller finds, also where the slices were not lent to it: then there are none
-none-found : (lens output more-lens more-output : List ℕ) → framesFound 0 lens output ≡ framesFound 0 more-lens more-output
-none-found lens output more-lens more-output =
-    ap (λ (l : List ℕ). cutBy l output) (part-none lens 0) ∙ nothing output more-output ∙ sym (ap (λ (l : List ℕ). cutBy l more-output) (part-none more-lens 0))
+none-either : (lens output more-lens more-output : List ℕ) → framesFound 0 lens output ≡ framesFound 0 more-lens more-output
+none-either lens output more-lens more-output = none-found lens output ∙ sym (none-found more-lens more-output)
 
 frames-same : (r : Running) (e : Entry) → framesFound (answerTo r e .frames) (runOne r e .lengths) (runOne r e .output) ≡ framesOf (answerTo r e)
 unfolding runOne answer
 frames-same r e =
     by-call r e
     (λ (x : Call). framesFound (answer (r .card) x .frames) (lengthsAfter x (r .lengths) (answer (r .card) x)) (outputAfter x (r .output) (answer (r .card) x)) ≡ framesOf (answer (r .card) x))
-    (λ m id. none-found (r .lengths) (r .output) [] [])
-    (λ id. none-found (r .lengths) (r .output) [] [])
+    (λ m id. none-either (r .lengths) (r .output) [] [])
+    (λ id. none-either (r .lengths) (r .output) [] [])
     refl
 
 pub frames-of-entry : (file : List ℕ) (k : ℕ) → framesFound (answerAt file k .frames) (standing file (suc k) .lengths) (standing file (suc k) .output) ≡ framesOf (answerAt file k)

@@ -9,9 +9,7 @@ use lib.ListN.{length}
 use borrow.Author.Tests.{le-ltb}
 use Rattle.refusal.specs.Refusal.{first}
 use Rattle.refusal.proofs.Laws.{none-applies, none-first, none-apart}
-use Rattle.octets.specs.Stretch.{cutBy}
 use Rattle.octets.specs.Each.{Each}
-use Rattle.octets.proofs.Stretches.{part-none}
 use Rattle.flow.specs.declared.Flow.{Flow}
 use Rattle.flow.specs.Flow.{flows}
 use Rattle.packet.specs.Header.{overIp, sub, beforeSession}
@@ -21,8 +19,9 @@ use Rattle.packet.specs.Check.{kindPsp, checkRefusals, check}
 use Rattle.table.specs.declared.Kind.the-variants as kind
 use Rattle.join.specs.Slices.{mostFrames, mostBytes, asSlices}
 use Rattle.card.specs.Hear.{judgedOf, recordAfter}
-use Rattle.card.specs.Receive.{holdingSize, tooSmall, framesFound}
+use Rattle.card.specs.Receive.{holdingSize, tooSmall}
 use Rattle.card.specs.History.{Card, Call, opens, closes, hands, answer, after}
+use Rattle.card.proofs.Step.{none-found}
 use Rattle.promises.specs.Words.{ofFlow, handsTo, closesIt, packetsTo, Room, StaysOpen}
 use Rattle.promises.proofs.Readings.{Reading, readOut}
 use Rattle.promises.proofs.Alone.{heardAlone, readAlone}
@@ -42,11 +41,6 @@ psp-check packet z =
 enough : (holding out lens : List ℕ) → holdingSize ≤ length holding → mostBytes ≤ length out → mostFrames ≤ length lens → tooSmall (asSlices holding out lens) ≡ false
 enough holding out lens h o l =
     rw (le-ltb (length holding) holdingSize h, le-ltb (length out) mostBytes o, le-ltb (length lens) mostFrames l) refl
-
--- no frames are found where the answer counts none
-none-found : (a : ℕ) (lens output : List ℕ) → a ≡ 0 → framesFound a lens output ≡ []
-unfolding cutBy
-none-found a lens output e = rw (e, part-none lens 0) refl
 
 module _ (session flow : ℕ) (inside : flow < flows) where
   -- what is known of a card in the middle of such a history
@@ -83,7 +77,7 @@ module _ (session flow : ℕ) (inside : flow < flows) where
           let refused : ((answer c x) .code ≡ 0 → ⊥) = λ z. twelve (sym z ∙ by) in
           let none = refusals-change-nothing .counts c x refused in (
             refused-stays c x refused,
-            w .when-late (answer c x) by (none-found ((answer c x) .frames) ((answer c x) .lengths) ((answer c x) .output) (none .0)) (none .3),
+            w .when-late (answer c x) by (rw (none .0) (none-found ((answer c x) .lengths) ((answer c x) .output))) (none .3),
           )
         where
           twelve : _≡_ {A = ℕ} 0 12 → ⊥

@@ -8,7 +8,7 @@ use lib.Dec.{eqb}
 use borrow.Author.Tests.{eq-eqb, ne-eqb, ltb-true, leb-false, not-false}
 use Rattle.refusal.specs.Refusal.{first}
 use Rattle.refusal.proofs.Laws.{none-applies}
-use Rattle.octets.specs.Stretch.{part, joined, cutBy}
+use Rattle.octets.specs.Stretch.{joined}
 use Rattle.octets.proofs.Counts.{or-false-left, least-passes}
 use Rattle.flow.specs.declared.Flow.{Flow}
 use Rattle.packet.specs.Header.{overIp, sub}
@@ -21,7 +21,7 @@ use Rattle.join.specs.Slices.{asSlices}
 use Rattle.card.specs.Receive.{Outcome, rowOf, toDmpt, heardBy, framesFound, refused, received}
 use Rattle.card.specs.History.{Card, Call, opens, closes, hands, answer, after}
 use Rattle.card.proofs.Accepted.{received-refused}
-use Rattle.card.proofs.Step.{framesIn}
+use Rattle.card.proofs.Step.{framesIn, none-found}
 use Rattle.promises.specs.Account.{takenBy, deliveredBy, droppedBy, packetBody}
 use Rattle.promises.proofs.Good.{Good}
 use Rattle.promises.proofs.Holdings.{Keeps, keptInRow, keptInAll, fresh-bare, bare-row, row-replaced}
@@ -45,8 +45,8 @@ when-refused n some x y = rw (ne-eqb n 0 some) refl
 
 -- where no frame is reported, none is found
 pub no-frames : (lens out : List ℕ) → joined (framesFound 0 lens out) ≡ []
-unfolding part cutBy joined
-no-frames lens out = refl
+unfolding joined
+no-frames lens out = ap joined (none-found lens out)
 
 module _ {m : List ℕ → ℕ} {kept : List ℕ → ℕ → Flow → ℕ} (w : Keeps m kept) (c : Card) (good : Good c) where
   -- Opening takes a free row, and a free row of a table that is not broken holds nothing.

@@ -26,16 +26,9 @@ own session (closes id ∷ more) = cond (eqb id session) (ends ∷ []) (own sess
 own session (hands packet out lens ∷ more) =
     cond (ofSession session packet) (gets packet (length out) (length lens) ∷ own session more) (own session more)
 
--- What the session is told: the numbers, and what was delivered, as it stands in the output and in the lengths slice. (Behind that both slices
--- are as they were lent.)
-pub record Told : Type 0 where
-  pub code : ℕ
-  pub frames : ℕ
-  pub bytes : ℕ
-  pub dropped : ℕ
-  pub gap : ℕ
-  pub output : List ℕ
-  pub lengths : List ℕ
+-- What the session is told is an answer with its two slices cut to what was delivered. (Behind that both are as they were lent.)
+abbrev pub Told : Type 0
+Told = Answer
 
 abbrev pub toldBy : Answer → Told
 toldBy a =
