@@ -112,6 +112,10 @@ put-put d at x y h =
     sym (drop-drop (length y) n (take at d ++ x ++ drop n d)) ∙ ap (drop (length y)) (drop-at (take at d ++ x) (drop n d) n e) ∙ drop-drop (length y) n d in
     rw (t, r, length-append x y, append-assoc (take at d) x y, add-assoc at (length x) (length y)) refl
 
+-- .. of which the first has n elements
+put-put-after : (d : List ℕ) (at n : ℕ) (x y : List ℕ) → length x ≡ n → at + n ≤ length d → put (put d at x) (at + n) y ≡ put d at (x ++ y)
+put-put-after d at n x y e h = rw (← e) (put-put d at x y (omega arith))
+
 -- .. the first of them at the front
 pub put-put-front : (d x y : List ℕ) → length x ≤ length d → put (put d 0 x) (length x) y ≡ put d 0 (x ++ y)
 put-put-front d x y h =
@@ -132,6 +136,40 @@ put-before d at x y h =
     ap (drop n) whole ∙ drop-at (take n d) (y ++ drop (n + length y) d) n e in
     rw (t, r, length-append x y, ← add-assoc at (length x) (length y), ← append-assoc (take at d) x y) (sym (append-assoc (take at d ++ x) y (drop (n + length y) d)))
 
+-- a put over one that is no longer: nothing is left of that
+put-again : (d : List ℕ) (at : ℕ) (x y : List ℕ) → at + length x ≤ length d → length x ≤ length y → put (put d at x) at y ≡ put d at y
+unfolding put
+put-again d at x y h shorter =
+    let k : at ≤ length d = omega arith in
+    let n = at + length x in
+    let more = length y - length x in
+    let split : at + length y ≡ n + more = omega arith in
+    let t : take at (take at d ++ x ++ drop n d) ≡ take at d =
+    ap (take at) (append-assoc (take at d) x (drop n d)) ∙ take-at (take at d) (x ++ drop n d) at (length-take-le at d k) in
+    let r : drop (n + more) (take at d ++ x ++ drop n d) ≡ drop (n + more) d =
+    sym (drop-drop more n (take at d ++ x ++ drop n d)) ∙ ap (drop more) (drop-at (take at d ++ x) (drop n d) n (head-length d at x k)) ∙ drop-drop more n d in
+    rw (split, t, r) refl
+
+-- A copy of s into d goes on. The first a elements stand there, in e; in f the n from place b on stand there too. These begin right
+-- behind the a, or cover some of them.
+pub put-on : {e f : List ℕ} (d s : List ℕ) (at from a b n m : ℕ) → e ≡ put d at (part s from a) → f ≡ put e (at + b) (part s (from + b) n) →
+    b + n ≡ m → b ≤ a → a ≤ m → at + m ≤ length d → from + m ≤ length s → f ≡ put d at (part s from m)
+put-on {e} {f} d s at from a b n m so-far next all begins ends in-d in-s =
+    let x = part s from b in
+    let covered = part s (from + b) (a - b) in
+    let y = part s (from + b) n in
+    let long-x : length x ≡ b = length-part s from b (omega arith) in
+    let long-covered : length covered ≡ a - b = length-part s (from + b) (a - b) (omega arith) in
+    let long-y : length y ≡ n = length-part s (from + b) n (omega arith) in
+    let long : length (put d at x) ≡ length d = length-put d at x (omega arith) in
+    let split : a ≡ b + (a - b) = omega arith in
+    let stands : part s from a ≡ x ++ covered = ap (part s from) split ∙ sym (part-part s from b (a - b)) in
+    next
+    ∙ ap (λ (l : List ℕ). put l (at + b) y) (so-far ∙ ap (put d at) stands ∙ sym (put-put-after d at b x covered long-x (omega arith)))
+    ∙ put-again (put d at x) (at + b) covered y (omega arith) (omega arith)
+    ∙ put-put-after d at b x y long-x (omega arith)
+    ∙ ap (put d at) (part-part s from b n ∙ ap (part s from) all)
+
 -- putting back what stands there
 pub put-same : (d : List ℕ) (at n : ℕ) → at + n ≤ length d → put d at (part d at n) ≡ d
 unfolding put part
@@ -146,6 +184,12 @@ part-put d at x h =
     let k : at ≤ length d = omega arith in
     rw (append-assoc (take at d) x (drop (at + length x) d), drop-at (take at d) (x ++ drop (at + length x) d) at (length-take-le at d k))
     (take-append-seam x (drop (at + length x) d))
+
+-- .. where that is a stretch of another list
+pub part-put-part : (d s : List ℕ) (at from n : ℕ) → at + n ≤ length d → from + n ≤ length s → part (put d at (part s from n)) at n ≡ part s from n
+part-put-part d s at from n in-d in-s =
+    let long : length (part s from n) ≡ n = length-part s from n in-s in
+    ap (part (put d at (part s from n)) at) (sym long) ∙ part-put d at (part s from n) (omega arith)
 
 -- a put behind what stands there already
 pub put-behind : (d : List ℕ) (at n : ℕ) (y : List ℕ) → at + n ≤ length d → put d (at + n) y ≡ put d at (part d at n ++ y)

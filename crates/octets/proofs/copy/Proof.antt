@@ -1,69 +1,74 @@
--- `octets::copy` is right since after i turns the target is the one lent with the first i bytes pasted in at `at`.
-use mathlib.Core.Path.{_≡_, refl, ap, _∙_}
-use Prim.Native.Nat.{ℕ, _+_, _-_, _≤_, _<_}
+-- `octets::copy` is right since after each turn the first `done` bytes are copied, and the last block begins where they end (`put-on`).
+use mathlib.Core.Path.{_≡_, refl, ap, _∙_, sym}
+use Prim.Native.Nat.{_-_, _≤_}
 use native.Mathlib.Omega.{arith}
-use native.Mathlib.Numerals.{add-one}
-use lib.ListN.{length, drop, length-set, length-drop}
-use lib.Seq.{paste, paste-zero, paste-suc, getD-drop}
+use lib.ListN.{length}
 use Rattle.octets.specs.Stretch.{part, put}
-use Rattle.octets.proofs.Stretches.{length-part}
+use Rattle.octets.proofs.Stretches.{part-none, put-nil, put-on}
 use borrow.Author.Needs.{needs}
 use Rattle.octets.proofs.copy.Statement.{statement}
 use Rattle.octets.proofs.copy.Tie as tie
 
 abbrev Inv-loop : tie.InvT-loop
-Inv-loop target₀ at source from count i₀ target i =
-    (i ≤ count) × (length target ≡ length target₀) × (target ≡ paste target₀ at (drop from source) i)
+Inv-loop target₀ at source from count done₀ target done =
+    (done ≤ count) × (length target ≡ length target₀) × (target ≡ put target₀ at (part source from done))
 
 abbrev μ-loop : tie.MeasureT-loop
-μ-loop target₀ at source from count i₀ target i = count - i
+μ-loop target₀ at source from count done₀ target done = count - done
 
 loop-holds : tie.Need-loop-holds Inv-loop μ-loop
-loop-holds c = (search needs, refl, paste-zero (c .args .target .now) (c .args .at) (drop (c .args .from) (c .args .source .now)))
+loop-holds c =
+    let a = c .before .before .args in
+    let none = ap (put (a .target .now) (a .at)) (part-none (a .source .now) (a .from)) ∙ put-nil (a .target .now) (a .at) in
+    (search needs, refl, sym none)
 
-add-target : tie.Need-add-target Inv-loop μ-loop
-add-target c = omega arith
+sub-loop : tie.Need-sub-loop Inv-loop μ-loop
+sub-loop c = search needs
 
-shared-slice-read-target : tie.Need-shared-slice-read-target Inv-loop μ-loop
-shared-slice-read-target c = omega arith
+add-copy-block : tie.Need-add-copy-block Inv-loop μ-loop
+add-copy-block c = search needs
 
-add-target-2 : tie.Need-add-target-2 Inv-loop μ-loop
-add-target-2 c = omega arith
+add-copy-block-2 : tie.Need-add-copy-block-2 Inv-loop μ-loop
+add-copy-block-2 c = search needs
 
-slice-write-target : tie.Need-slice-write-target Inv-loop μ-loop
-slice-write-target c = omega arith
+copy-block-requires : tie.Need-copy-block-requires Inv-loop μ-loop
+copy-block-requires c κs = search needs
 
-add-i : tie.Need-add-i Inv-loop μ-loop
-add-i c = omega arith
+add-done : tie.Need-add-done Inv-loop μ-loop
+add-done c = search needs
 
 loop-less : tie.Need-loop-less Inv-loop μ-loop
-loop-less c = omega arith
+loop-less c = search needs
 
 loop-again : tie.Need-loop-again Inv-loop μ-loop
 loop-again c =
-    let l = c .before .before in
-    let a = l .before .args in
-    let i = l .loop .i in
-    let source = a .source .now in
-    let target = a .target .now in
-    let in-source : i < length (drop (a .from) source) = simp length-drop (omega arith) in
-    let in-target : a .at + i < length target = omega arith in (
+    let so-far = c .before .before .before .before .before .loop .inv .2 in
+    let block = c .before .before .copy-block .ensures in (
       omega arith,
-      simp length-set (l .loop .inv .1),
-      rw (l .loop .inv .2, ← getD-drop (a .from) source i 0, paste-suc target (a .at) (drop (a .from) source) i 0 in-target in-source, ← add-one i) refl,
+      search needs,
+      put-on _ _ _ _ _ _ _ _ so-far block refl (omega arith) (omega arith) (omega arith) (omega arith),
     )
 
+sub-left : tie.Need-sub-left Inv-loop μ-loop
+sub-left c = search needs
+
+add-copy-block-3 : tie.Need-add-copy-block-3 Inv-loop μ-loop
+add-copy-block-3 c = search needs
+
+add-copy-block-4 : tie.Need-add-copy-block-4 Inv-loop μ-loop
+add-copy-block-4 c = search needs
+
+copy-block-requires-2 : tie.Need-copy-block-requires-2 Inv-loop μ-loop
+copy-block-requires-2 c κs = search needs
+
 same-length : tie.Need-same-length Inv-loop μ-loop
-same-length c = c .before .loop .inv .1
+same-length c = search needs
 
 returns : tie.Need-returns Inv-loop μ-loop
-unfolding put part
 returns c =
-    let l = c .before in
-    let a = l .before .args in
-    let done : l .loop .i ≡ a .count = omega arith in
-    let size : length (part (a .source .now) (a .from) (a .count)) ≡ a .count = length-part (a .source .now) (a .from) (a .count) (omega arith) in
-    rw size (l .loop .inv .2 ∙ ap (λ (k : ℕ). paste (a .target .now) (a .at) (drop (a .from) (a .source .now)) k) done)
+    let so-far = c .before .before .before .before .before .loop .inv .2 in
+    let rest = c .before .before .copy-block2 .ensures in
+    put-on _ _ _ _ _ _ _ _ so-far rest (omega arith) (omega arith) (omega arith) (omega arith) (omega arith)
 
 pub copy-spec : {M : Type 1} → statement M
 copy-spec =
@@ -72,12 +77,16 @@ copy-spec =
     Inv-loop
     μ-loop
     loop-holds
-    add-target
-    shared-slice-read-target
-    add-target-2
-    slice-write-target
-    add-i
+    sub-loop
+    add-copy-block
+    add-copy-block-2
+    copy-block-requires
+    add-done
     loop-less
     loop-again
+    sub-left
+    add-copy-block-3
+    add-copy-block-4
+    copy-block-requires-2
     same-length
     returns)
