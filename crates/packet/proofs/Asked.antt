@@ -9,7 +9,8 @@ use Rattle.octets.specs.Stretch.{part}
 use Rattle.octets.proofs.Stretches.{length-part, part-none, part-rest}
 use Rattle.packet.specs.Header.{overIp, idLength, headerLength, segmentCount, sub}
 use Rattle.packet.specs.Segments.{entryWidth, lengthAt, bodyAt, segmentAt}
-use Rattle.packet.specs.Check.{segmentCause, Extent, extentBy, segmentExtent, segmentGiven}
+use Rattle.packet.specs.declared.Extent.{Extent}
+use Rattle.packet.specs.Check.{segmentCause, extentBy, segmentExtent, segmentGiven}
 use Rattle.packet.proofs.Entries.{entry-within}
 use Rattle.packet.proofs.Passing.{EarlyPassed, PspPassed, entries-inside, body-inside, body-some, check-passed, cause-passed, sub-length}
 
@@ -51,17 +52,24 @@ module _ (lead : ℕ) (packet : List ℕ) (k : ℕ) (given : segmentCause lead p
       ap (λ (e : Extent). part packet (e .start) (e .size)) extent-given
       ∙ sym (part-rest packet (lead + idLength) (bodyAt entryWidth (sub lead packet) k) (lengthAt entryWidth (sub lead packet) k))
 
-  length-given : length (segmentGiven lead packet k) ≡ lengthAt entryWidth (sub lead packet) k
-  unfolding segmentGiven
-  length-given =
-      ap (λ (e : Extent). length (part packet (e .start) (e .size))) extent-given
-      ∙ length-part packet (lead + idLength + bodyAt entryWidth (sub lead packet) k) (lengthAt entryWidth (sub lead packet) k) (omega (arith, given-inside))
+-- Refused or not, the extent lies in the packet.
+inside-by : (lead : ℕ) (packet : List ℕ) (k c : ℕ) → segmentCause lead packet k ≡ c →
+    (extentBy c lead packet k) .start + (extentBy c lead packet k) .size ≤ length packet
+inside-by lead packet k zero given = omega (arith, given-inside lead packet k given)
+inside-by lead packet k (suc c) refused = omega arith
+
+pub extent-inside : (lead : ℕ) (packet : List ℕ) (k : ℕ) →
+    (segmentExtent lead packet k) .start + (segmentExtent lead packet k) .size ≤ length packet
+unfolding segmentExtent
+extent-inside lead packet k = inside-by lead packet k (segmentCause lead packet k) refl
 
 -- The law that ties the two calls: the stretch is empty exactly when the cause is not 0.
 pub given-some : (lead : ℕ) (packet : List ℕ) (k : ℕ) → segmentCause lead packet k ≡ 0 → segmentGiven lead packet k ≡ [] → ⊥
+unfolding segmentGiven
 given-some lead packet k given none =
+    let e = segmentExtent lead packet k in
     body-some entryWidth (sub lead packet) (psp lead packet k given) k (there lead packet k given)
-    (sym (length-given lead packet k given) ∙ ap length none)
+    (ap (λ (x : Extent). x .size) (sym (extent-given lead packet k given)) ∙ sym (length-part packet (e .start) (e .size) (extent-inside lead packet k)) ∙ ap length none)
 
 pub given-none : (lead : ℕ) (packet : List ℕ) (k : ℕ) → (segmentCause lead packet k ≡ 0 → ⊥) → segmentGiven lead packet k ≡ []
 unfolding segmentGiven
@@ -74,7 +82,7 @@ pub record Given (packet s : List ℕ) (k : ℕ) : Type 0 where
   pub among : k < segmentCount s
   pub entries : headerLength + entryWidth * segmentCount s ≤ length s
   pub entry : headerLength + entryWidth * k + 1 < length s
-  pub body : idLength + (bodyAt entryWidth s k + lengthAt entryWidth s k) ≤ length packet
+  pub body : idLength + bodyAt entryWidth s k ≤ length packet
 
 pub given-facts : (packet s : List ℕ) (k : ℕ) → segmentCause overIp packet k ≡ 0 → s ≡ sub overIp packet → Given packet s k
 given-facts packet s k given cut =
@@ -90,10 +98,10 @@ given-facts packet s k given cut =
     } in
     rw (sym cut) at facts
 
--- .. and where it finds the stretch
+-- .. and that what it finds there is the extent
 pub extent-found : (packet s : List ℕ) (k : ℕ) → segmentCause overIp packet k ≡ 0 → s ≡ sub overIp packet → (place size : ℕ) →
-    place ≡ bodyAt entryWidth s k → size ≡ lengthAt entryWidth s k → segmentExtent overIp packet k ≡ record { start = idLength + place; size = size }
+    place ≡ bodyAt entryWidth s k → size ≡ lengthAt entryWidth s k → record { start = idLength + place; size = size } ≡ segmentExtent overIp packet k
 extent-found packet s k given cut place size at long =
     let p : place ≡ bodyAt entryWidth (sub overIp packet) k = at ∙ ap (λ (l : List ℕ). bodyAt entryWidth l k) cut in
     let z : size ≡ lengthAt entryWidth (sub overIp packet) k = long ∙ ap (λ (l : List ℕ). lengthAt entryWidth l k) cut in
-    rw (p, z) (extent-given overIp packet k given)
+    rw (p, z) (sym (extent-given overIp packet k given))

@@ -5,8 +5,10 @@ use Prim.Native.Nat.{ℕ, _+_}
 use mathlib.Core.Path.{_≡_, refl, sym, _∙_}
 use mathlib.Core.List.{List}
 use denote.Ref.{RefT}
+use Rattle.packet.specs.declared.Extent.{Extent}
 use Rattle.packet.specs.Header.{overIp}
-use Rattle.packet.specs.Check.{check, segmentCause, segmentExtent, segmentGiven, PermitsCheck, PermitsSegmentCause, PermitsSegment}
+use Rattle.packet.specs.Check.{check, segmentCause, segmentExtent, segmentGiven}
+use Rattle.packet.specs.Check.{PermitsCheck, PermitsSegmentCause, PermitsSegmentExtent, PermitsSegment}
 
 pub check-permitted : (kind : ℕ) (packet : List ℕ) → PermitsCheck kind packet (check overIp kind packet)
 check-permitted kind packet = refl
@@ -19,6 +21,12 @@ cause-permitted packet k = refl
 
 pub cause-unique : (packet : List ℕ) (k a b : ℕ) → PermitsSegmentCause packet k a → PermitsSegmentCause packet k b → a ≡ b
 cause-unique packet k a b p q = p ∙ sym q
+
+pub extent-permitted : (packet : List ℕ) (k : ℕ) → PermitsSegmentExtent packet k (segmentExtent overIp packet k)
+extent-permitted packet k = refl
+
+pub extent-unique : (packet : List ℕ) (k : ℕ) (a b : Extent) → PermitsSegmentExtent packet k a → PermitsSegmentExtent packet k b → a ≡ b
+extent-unique packet k a b p q = p ∙ sym q
 
 pub segment-permitted : (packet : RefT (List ℕ)) (k : ℕ) →
     PermitsSegment packet k

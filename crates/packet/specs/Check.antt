@@ -10,6 +10,7 @@ use lib.Dec.{eqb, leb}
 use denote.Ref.{RefT}
 use Rattle.refusal.specs.Refusal.{Refusal, _when_, first}
 use Rattle.octets.specs.Stretch.{part}
+use Rattle.packet.specs.declared.Extent.{Extent}
 use Rattle.packet.specs.Header.{overIp, idLength, sub, beforeSession, segmentCount}
 use Rattle.packet.specs.Segments.{entryWidth, bodyAt, lengthAt}
 use Rattle.packet.specs.Psp.{pspRefusals}
@@ -43,12 +44,7 @@ unfoldable pub segmentCause : ℕ → List ℕ → ℕ → ℕ
 segmentCause lead packet k = first (causeRefusals lead packet k)
 
 -- Where segment k lies in the packet: its first place, counted from the packet's first byte, and its length. A refused request is given
--- an empty stretch, and that at the packet's start, so that there is one answer.
-pub record Extent : Type 0 where
-  pub start : ℕ
-  pub size : ℕ
-
--- by the number of the first refusal that applies
+-- an empty stretch, and that at the packet's start, so that there is one answer. By the number of the first refusal that applies:
 abbrev pub extentBy : ℕ → ℕ → List ℕ → ℕ → Extent
 extentBy zero lead packet k =
     record {
@@ -66,11 +62,15 @@ segmentGiven lead packet k = part packet ((segmentExtent lead packet k) .start) 
 
 -- What the calls permit, whole. A slice that is given back is a reference: `ptr` says where it points, as a block of memory and a place
 -- in that block, and `now` the bytes there. So it is not enough to give back equal bytes from elsewhere in the packet, or a copy.
+-- The extent is for callers that cannot be given a reference.
 abbrev pub PermitsCheck : ℕ → List ℕ → ℕ → Type 0
 PermitsCheck kind packet answer = answer ≡ check overIp kind packet
 
 abbrev pub PermitsSegmentCause : List ℕ → ℕ → ℕ → Type 0
 PermitsSegmentCause packet k answer = answer ≡ segmentCause overIp packet k
+
+abbrev pub PermitsSegmentExtent : List ℕ → ℕ → Extent → Type 0
+PermitsSegmentExtent packet k answer = answer ≡ segmentExtent overIp packet k
 
 pub record PermitsSegment (packet : RefT (List ℕ)) (k : ℕ) (answer : RefT (List ℕ)) : Type 0 where
   pub in-the-packet : answer .ptr .0 ≡ packet .ptr .0

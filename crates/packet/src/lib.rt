@@ -2,14 +2,14 @@
 // segment k of a packet. Nothing here knows of tables or holding places.
 //
 // Most functions of `header`, `psp` and `dmpt` read what stands behind the session ID, `sub`, and ask that it is long enough: only
-// proved code calls them. The three functions of this file ask nothing.
+// proved code calls them. The four functions of this file ask nothing.
 pub mod dmpt;
 pub mod header;
 pub mod psp;
 
 ghost use Prim.Native.Nat.{_+_, _<_};
 ghost use Rattle.packet.specs.Header.{sub};
-ghost use Rattle.packet.specs.Check.{PermitsCheck, PermitsSegmentCause, PermitsSegment};
+ghost use Rattle.packet.specs.Check.{PermitsCheck, PermitsSegmentCause, PermitsSegmentExtent, PermitsSegment};
 
 // The kinds of session as the host program numbers them.
 pub const KIND_PSP: u32 = 1;
@@ -49,15 +49,33 @@ pub fn segment_cause(packet: &[u8], k: usize) -> u32
     refusal::NONE
 }
 
+// Where segment k lies in the packet: its first place, counted from the packet's first byte, and its length. A stretch that is given
+// back cannot cross to the host program; these two numbers cross as they are.
+#[repr(C)]
+pub struct Extent {
+    pub start: usize,
+    pub size: usize,
+}
+
+// Where segment k of a packet lies; start 0 and size 0 where it is refused.
+pub fn segment_extent(packet: &[u8], k: usize) -> Extent
+    ensures { λ r. ⌜ PermitsSegmentExtent (now (packet .entry)) k r ⌝ }
+{
+    if segment_cause(packet, k) != refusal::NONE {
+        return Extent { start: 0, size: 0 };
+    }
+    let sub = header::sub_of(packet, header::OVER_IP);
+    let start = header::OVER_IP + header::ID_LENGTH + psp::body_place(sub, psp::ENTRY_WIDTH, k);
+    let size = psp::length_of(psp::entry(sub, psp::ENTRY_WIDTH, k));
+    Extent { start, size }
+}
+
 // Segment k of a packet, as a stretch of that packet itself; an empty one where it is refused.
 pub fn segment(packet: &[u8], k: usize) -> &[u8]
     ensures { λ r. ⌜ PermitsSegment (packet .entry) k r ⌝ }
 {
-    if segment_cause(packet, k) != refusal::NONE {
-        return &packet[0..0];
-    }
-    let sub = header::sub_of(packet, header::OVER_IP);
-    let start = header::OVER_IP + header::ID_LENGTH + psp::body_place(sub, psp::ENTRY_WIDTH, k);
-    let end = start + psp::length_of(psp::entry(sub, psp::ENTRY_WIDTH, k));
+    let extent = segment_extent(packet, k);
+    let start = extent.start;
+    let end = start + extent.size;
     &packet[start..end]
 }

@@ -53,41 +53,69 @@ pub fn bad_entry(count: usize, k: usize, entry: u16) -> bool
     (length_of(entry) == 0) | ((k != 0) & !begins(entry)) | ((k + 1 != count) & !ends(entry))
 }
 
-// What the first entries of a segment table say: how long their segments are together, and whether one of them is bad.
+// How long the segments of the first n entries are together.
+fn total_length(sub: &[u8], width: usize, n: usize) -> usize
+    requires { ⌜ (2 ≤ width) × (n ≤ segmentCount (now sub)) × (headerLength + width * n ≤ length (now sub)) ⌝ }
+    ensures { λ r. ⌜ (r ≡ sumTo (lengthAt width (now (sub .entry))) n) × (r ≤ eBit * n) ⌝ }
+{
+    let mut total: usize = 0;
+    let mut k: usize = 0;
+    while k < n {
+        total += length_of(entry(sub, width, k));
+        k += 1;
+    }
+    total
+}
+
+// What a segment table says: how long all segments are together, and whether one of the entries is bad.
 pub struct Surveyed {
     pub total: usize,
     pub bad: bool,
 }
 
-// Surveys the first n entries.
-pub fn survey(sub: &[u8], width: usize, n: usize) -> Surveyed
-    requires { ⌜ (2 ≤ width) × (n ≤ segmentCount (now sub)) × (headerLength + width * n ≤ length (now sub)) ⌝ }
-    ensures { λ r. ⌜ r .total ≡ sumTo (lengthAt width (now (sub .entry))) n ⌝ }
-    ensures { λ r. ⌜ r .bad ≡ any (badAt width (now (sub .entry))) n ⌝ }
-    ensures { λ r. ⌜ r .total ≤ eBit * n ⌝ }
+// Surveys the table of a packet that has segments. Of an entry between the first and the last one comparison tells whether it is bad: a good
+// one has B, E and a length, so it is above what B and E are worth together. The loop asks nothing else and adds up in 32 bits, so that
+// the compiler can take several entries at a time.
+fn survey(sub: &[u8], width: usize, count: usize) -> Surveyed
+    requires { ⌜ (2 ≤ width) × (1 ≤ count) × (count ≡ segmentCount (now sub)) × (headerLength + width * count ≤ length (now sub)) ⌝ }
+    ensures { λ r. ⌜ r .total ≡ sumTo (lengthAt width (now (sub .entry))) count ⌝ }
+    ensures { λ r. ⌜ r .bad ≡ any (badAt width (now (sub .entry))) count ⌝ }
+    ensures { λ r. ⌜ r .total ≤ eBit * count ⌝ }
 {
-    let count = header::segment_count(sub);
-    let mut total: usize = 0;
-    let mut bad = false;
-    let mut k: usize = 0;
-    while k < n {
-        let e = entry(sub, width, k);
-        total += length_of(e);
-        bad = bad | bad_entry(count, k, e);
+    let first = entry(sub, width, 0);
+    let mut total = (first % E_BIT) as u32;
+    let mut bad = bad_entry(count, 0, first);
+    let mut k: usize = 1;
+    while k + 1 < count {
+        let middle = entry(sub, width, k);
+        total += (middle % E_BIT) as u32;
+        bad = bad | (middle <= B_BIT + E_BIT);
         k += 1;
     }
-    Surveyed { total, bad }
+    if count <= k {
+        return Surveyed {
+            total: total as usize,
+            bad,
+        }; // the first is the last
+    }
+    let last = entry(sub, width, k);
+    total += (last % E_BIT) as u32;
+    bad = bad | bad_entry(count, k, last);
+    Surveyed {
+        total: total as usize,
+        bad,
+    }
 }
 
-// Where the body of segment k starts. (What the survey says of bad entries is not asked for here.)
+// Where the body of segment k starts.
 pub fn body_place(sub: &[u8], width: usize, k: usize) -> usize
     requires { ⌜ (2 ≤ width) × (width ≤ 4) × (k ≤ segmentCount (now sub)) ⌝ }
     requires { ⌜ headerLength + width * segmentCount (now sub) ≤ length (now sub) ⌝ }
     ensures { λ r. ⌜ r ≡ bodyAt width (now (sub .entry)) k ⌝ }
 {
     let count = header::segment_count(sub);
-    let before = survey(sub, width, k);
-    header::HEADER_LENGTH + width * count + before.total
+    let before = total_length(sub, width, k);
+    header::HEADER_LENGTH + width * count + before
 }
 
 // Refusals 9 to 11, of the segments; or 0.

@@ -61,6 +61,11 @@ unique-segment slice k = (
     permitted = packet-laws.cause-permitted (slice .now) k;
     only-one = packet-laws.cause-unique (slice .now) k;
   },
+  record {
+    outcome = packet.segmentExtent overIp (slice .now) k;
+    permitted = packet-laws.extent-permitted (slice .now) k;
+    only-one = packet-laws.extent-unique (slice .now) k;
+  },
 )
 
 pub unique-capture : UniqueCapture

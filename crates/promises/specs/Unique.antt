@@ -44,14 +44,15 @@ UniqueReceive = (t : Table) (packet : List ℕ) (s : Slices) → One (PermitsRec
 abbrev pub UniqueSend : Type 0
 UniqueSend = (a : Asked) → One (PermitsSend a)
 
--- `unique-check`, and `unique-segment` with its cause
+-- `unique-check`, and `unique-segment` with its cause and where it lies
 abbrev pub UniqueCheck : Type 0
 UniqueCheck = (kind : ℕ) (bytes : List ℕ) → One (packet.PermitsCheck kind bytes)
 
 abbrev pub UniqueSegment : Type 0
 UniqueSegment =
     (slice : RefT (List ℕ)) (k : ℕ) →
-    OneOutcome SameSlice (packet.PermitsSegment slice k) × One (packet.PermitsSegmentCause (slice .now) k)
+    OneOutcome SameSlice (packet.PermitsSegment slice k)
+    × One (packet.PermitsSegmentCause (slice .now) k) × One (packet.PermitsSegmentExtent (slice .now) k)
 
 -- `unique-capture`: the check of a capture file, and an entry's body
 abbrev pub UniqueCapture : Type 0

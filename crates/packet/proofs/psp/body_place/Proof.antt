@@ -11,8 +11,8 @@ use Rattle.packet.proofs.psp.body_place.Tie as tie
 segment-count-requires : tie.Need-segment-count-requires
 segment-count-requires c κs = search needs
 
-survey-requires : tie.Need-survey-requires
-survey-requires c κs =
+total-length-requires : tie.Need-total-length-requires
+total-length-requires c κs =
     let s = c .before .before in
     (s .pre .0 .0, s .pre .0 .2, fewer-entries (s .args .width) (s .args .k) _ _ (s .pre .0 .2) (s .pre .1))
 
@@ -28,16 +28,16 @@ add-result c =
 
 add-result-2 : tie.Need-add-result-2
 add-result-2 c =
-    let s = c .before .before .before .before in
-    let count = c .before .before .segment-count in
-    omega (arith, table-small (s .args .width) (count .result) (s .pre .0 .1) (count .ensures .1), c .before .survey .ensures .1 .1, s .pre .0 .2, count .ensures .0)
+    let s = c .before .before .before in
+    let count = c .before .segment-count in
+    omega (arith, table-small (s .args .width) (count .result) (s .pre .0 .1) (count .ensures .1), c .total-length .ensures .1, s .pre .0 .2, count .ensures .0)
 
 returns : tie.Need-returns
 unfolding bodyAt
 returns c =
-    rw (c .before .survey .ensures .0, c .before .before .segment-count .ensures .0) refl
+    rw (c .total-length .ensures .0, c .before .segment-count .ensures .0) refl
 
 pub body-place-spec : {M : Type 1} → statement M
 body-place-spec =
     tie.close
-    (tie.spec segment-count-requires survey-requires mul-result add-result add-result-2 returns)
+    (tie.spec segment-count-requires total-length-requires mul-result add-result add-result-2 returns)

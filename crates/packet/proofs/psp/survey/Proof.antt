@@ -1,37 +1,51 @@
--- `packet::psp::survey` is right since after k turns it has the sum and the faults of the first k entries (`Surveying`).
-use Prim.Native.Nat.{_-_}
+-- `packet::psp::survey` is right since after k turns it has the sum and the faults of the first k entries (`Surveying`); of an entry in the
+-- middle its one comparison says what the three of `bad_entry` say (`middle-bad`).
+use Prim.Native.Nat.{_-_, _≤_}
+use mathlib.Core.Path.{refl}
 use native.Mathlib.Omega.{arith}
-use Rattle.packet.proofs.Entries.{Surveying, entry-within, survey-begin, survey-turn, survey-end}
+use Rattle.packet.proofs.Entries.{Surveying, entry-within, middle-bad, survey-first, survey-turn, survey-end}
 use borrow.Author.Needs.{needs}
 use Rattle.packet.proofs.psp.survey.Statement.{statement}
 use Rattle.packet.proofs.psp.survey.Tie as tie
 
 abbrev Inv-loop : tie.InvT-loop
-Inv-loop sub width n count total₀ bad₀ k₀ total bad k = Surveying width sub n total bad k
+Inv-loop sub width count first total₀ bad₀ k₀ total bad k = (1 ≤ k) × Surveying width sub count total bad k
 
 abbrev μ-loop : tie.MeasureT-loop
-μ-loop sub width n count total₀ bad₀ k₀ total bad k = n - k
-
-segment-count-requires : tie.Need-segment-count-requires Inv-loop μ-loop
-segment-count-requires c κs = search needs
-
-loop-holds : tie.Need-loop-holds Inv-loop μ-loop
-loop-holds c = survey-begin _ _ _
+μ-loop sub width count first total₀ bad₀ k₀ total bad k = count - k
 
 entry-requires : tie.Need-entry-requires Inv-loop μ-loop
 entry-requires c κs =
-    let s = c .before .before .before .before in
-    entry-within (s .args .width) (c .before .loop .k) (s .args .n) _ (s .pre .0) (c .loop-test .taken) (s .pre .2)
+    let s = c .before in
+    entry-within (s .args .width) 0 (s .args .count) _ (s .pre .0) (s .pre .1) (s .pre .3)
 
-length-of-requires : tie.Need-length-of-requires Inv-loop μ-loop
-length-of-requires c κs = search needs
+cast-total : tie.Need-cast-total Inv-loop μ-loop
+cast-total c = search needs
+
+bad-entry-requires : tie.Need-bad-entry-requires Inv-loop μ-loop
+bad-entry-requires c κs = omega (arith, c .before .before .pre .1)
+
+loop-holds : tie.Need-loop-holds Inv-loop μ-loop
+loop-holds c =
+    let s = c .before .before .before in
+    (omega arith, survey-first (s .pre .1) (s .pre .2) (c .before .entry .ensures) refl (c .bad-entry .ensures))
+
+add-loop : tie.Need-add-loop Inv-loop μ-loop
+add-loop c = search needs
+
+entry-requires-2 : tie.Need-entry-requires-2 Inv-loop μ-loop
+entry-requires-2 c κs =
+    let s = c .before .before .before .before .before in
+    entry-within (s .args .width) (c .before .loop .k) (s .args .count) _ (s .pre .0) (omega (arith, c .loop-test .taken)) (s .pre .3)
+
+cast-total-2 : tie.Need-cast-total-2 Inv-loop μ-loop
+cast-total-2 c = search needs
 
 add-total : tie.Need-add-total Inv-loop μ-loop
 add-total c = search needs
 
-bad-entry-requires : tie.Need-bad-entry-requires Inv-loop μ-loop
-bad-entry-requires c κs =
-    omega (arith, c .before .before .before .before .before .before .pre .1, c .before .before .before .before .segment-count .ensures .0, c .before .before .loop-test .taken)
+add-bad : tie.Need-add-bad Inv-loop μ-loop
+add-bad c = search needs
 
 add-k : tie.Need-add-k Inv-loop μ-loop
 add-k c = search needs
@@ -41,19 +55,45 @@ loop-less c = search needs
 
 loop-again : tie.Need-loop-again Inv-loop μ-loop
 loop-again c =
-    survey-turn
-    (c .before .before .before .before .loop .inv)
-    (c .before .before .before .loop-test .taken)
-    (c .before .before .before .before .before .segment-count .ensures .0)
-    (c .before .before .entry .ensures)
-    (c .before .length-of .ensures .0)
-    (c .before .length-of .ensures .1)
-    (c .bad-entry .ensures)
+    let s = c .before .before .before .before .before .before in
+    let l = c .before .before .loop in
+    let more = c .before .loop-test .taken in (
+      omega arith,
+      survey-turn (l .inv .1) (omega (arith, more)) (s .pre .2) (c .entry2 .ensures) refl
+          (middle-bad (s .args .count) (l .k) (c .entry2 .result) (l .inv .0) more (omega (arith, c .entry2 .ok))),
+    )
+
+cast-t16 : tie.Need-cast-t16 Inv-loop μ-loop
+cast-t16 c = search needs
 
 returns : tie.Need-returns Inv-loop μ-loop
 returns c =
-    let s = survey-end (c .before .loop .inv) (c .loop-test .left) in
-    (s .sum, (s .faults, s .small))
+    let s = survey-end (c .before .before .loop .inv .1) (c .if1 .taken) in
+    (s .summed .sum, (s .faults, s .summed .small))
+
+entry-requires-3 : tie.Need-entry-requires-3 Inv-loop μ-loop
+entry-requires-3 c κs =
+    let s = c .before .before .before .before .before .before in
+    entry-within (s .args .width) (c .before .before .loop .k) (s .args .count) _ (s .pre .0) (omega (arith, c .if1 .left)) (s .pre .3)
+
+cast-total-3 : tie.Need-cast-total-3 Inv-loop μ-loop
+cast-total-3 c = search needs
+
+add-total-2 : tie.Need-add-total-2 Inv-loop μ-loop
+add-total-2 c = search needs
+
+bad-entry-requires-2 : tie.Need-bad-entry-requires-2 Inv-loop μ-loop
+bad-entry-requires-2 c κs = omega (arith, c .before .if1 .left)
+
+cast-t18 : tie.Need-cast-t18 Inv-loop μ-loop
+cast-t18 c = search needs
+
+returns-2 : tie.Need-returns-2 Inv-loop μ-loop
+returns-2 c =
+    let s = c .before .before .before .before .before .before .before .before in
+    let l = c .before .before .before .before .loop in
+    let t = survey-end (survey-turn (l .inv .1) (omega (arith, c .before .before .if1 .left)) (s .pre .2) (c .before .entry3 .ensures) refl (c .bad-entry2 .ensures)) (omega (arith, c .before .before .before .loop-test .left)) in
+    (t .summed .sum, (t .faults, t .summed .small))
 
 pub survey-spec : {M : Type 1} → statement M
 survey-spec =
@@ -61,13 +101,23 @@ survey-spec =
     (tie.spec
     Inv-loop
     μ-loop
-    segment-count-requires
-    loop-holds
     entry-requires
-    length-of-requires
-    add-total
+    cast-total
     bad-entry-requires
+    loop-holds
+    add-loop
+    entry-requires-2
+    cast-total-2
+    add-total
+    add-bad
     add-k
     loop-less
     loop-again
-    returns)
+    cast-t16
+    returns
+    entry-requires-3
+    cast-total-3
+    add-total-2
+    bad-entry-requires-2
+    cast-t18
+    returns-2)
