@@ -1,5 +1,6 @@
 pub mod Placing
 pub mod Account
+pub mod Running
 pub mod Walking
 pub mod Carrying
 pub mod Examples

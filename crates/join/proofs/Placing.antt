@@ -1,13 +1,14 @@
 -- How single fates show in counts and slices, and that two fates one behind the other show as one (`placed-then`). Each way out of the
 -- code's functions is one law here, with what the code has counted and stored as arguments; a function's own proof cites it.
 use Prim.Native.Nat.{ℕ, zero, suc, _+_, _<_, _≤_}
-use mathlib.Core.Path.{_≡_, refl, sym, _∙_}
-use mathlib.Core.Bool.{Bool, true, false}
+use mathlib.Core.Path.{_≡_, refl, sym, ap, _∙_}
+use mathlib.Core.Bool.{Bool, true, false, not, cond, _&&_, true≢false}
 use mathlib.Core.List.{List, [], _∷_, _++_, append-nil}
 use native.Mathlib.Numerals.{add-one}
 use native.Mathlib.Omega.{arith}
+use lib.Dec.{eqb}
 use lib.ListN.{length, length-append}
-use borrow.Author.Tests.{lt-ltb, le-ltb, eq-eqb, ne-eqb}
+use borrow.Author.Tests.{lt-ltb, le-ltb, eq-eqb, ne-eqb, eqb-true}
 use Rattle.octets.specs.Stretch.{part, put, joined, lengths}
 use Rattle.octets.specs.Count.{upTo}
 use Rattle.octets.proofs.Stretches.{length-part, length-put, length-lengths, put-nil, put-put, put-same, part-put, part-none, joined-append, lengths-append}
@@ -16,7 +17,7 @@ use Rattle.packet.specs.Segments.{beginsIn, endsIn, lengthIn, Segment}
 use Rattle.join.specs.declared.Tally.{Tally}
 use Rattle.join.specs.Join.{Fate, delivering, dropping, keeping, andThen, settledBy, settled, fateBy, fate, atGap, inOrder}
 use Rattle.join.specs.Slices.{Slices}
-use Rattle.join.specs.Placed.{nothingYet, begun, Placed}
+use Rattle.join.specs.Placed.{nothingYet, begun, Placed, Fits}
 use Rattle.join.proofs.Account.{Accounts, in-order-next}
 
 -- Single fates.
@@ -145,6 +146,15 @@ pub begun-gap : (gap held : ℕ) → (gap ≡ 0 → ⊥) → record { held = 0; 
 begun-gap zero held some = absurd (some refl)
 begun-gap (suc gap) held some = refl
 
+-- What a segment makes of what is held before it joins, by its B; there is room for it as before.
+abbrev pub madeWay : Bool → Tally → Tally
+madeWay begins a = cond begins (record { held = 0; frames = a .frames; bytes = a .bytes; dropped = a .dropped + a .held }) a
+
+pub way-fits : (begins : Bool) (size : ℕ) (a b : Tally) → b ≡ madeWay begins a → Fits size a → Fits size b
+way-fits true size a b e f =
+    rw e (record { held-few = omega arith; bytes-few = omega (arith, f .bytes-few); frames-few = f .frames-few })
+way-fits false size a b e f = rw e f
+
 -- The three ways of a segment whose entry the code has read: `count` and `ends` are what it found there.
 module _ (place : ℕ) (a : Tally) (s : Slices) (sub : List ℕ) (from entry count : ℕ) (ends : Bool) (sized : count ≡ lengthIn entry) (marked : ends ≡ endsIn entry)
     (r : Tally) (s′ : Slices) (inside : place + a .held ≤ length (s .holding)) where
@@ -182,6 +192,23 @@ module _ (place : ℕ) (a : Tally) (s : Slices) (sub : List ℕ) (from entry cou
   segment-joins begins some q =
       let n = length-part (s .holding) place (a .held) inside in
       rw (fate-joins longest heldNow read begins (λ z. some (sym n ∙ z))) (rw (sized, marked) at q)
+
+  -- .. where what is held has made way for a segment with B
+  pub segment-lost : (begins : Bool) (b : Tally) → begins ≡ beginsIn entry → b ≡ madeWay begins a → (not begins && eqb (b .held) 0) ≡ true →
+      from + lengthIn entry ≤ length sub →
+      r .held ≡ 0 → r .frames ≡ b .frames → r .bytes ≡ b .bytes → r .dropped ≡ b .dropped + count →
+      Placed (fate longest heldNow read) place a s r s
+  segment-lost true b mark e t whole h f n d = absurd (true≢false (sym t))
+  segment-lost false b mark e t whole h f n d =
+      segment-orphan (sym mark) (rw e at (eqb-true (b .held) 0 t)) whole h (rw e at f) (rw e at n) (rw e at d)
+
+  pub segment-settles : (begins : Bool) (b : Tally) → begins ≡ beginsIn entry → b ≡ madeWay begins a → (not begins && eqb (b .held) 0) ≡ false →
+      a .bytes ≤ length (s .output) → a .frames ≤ length (s .lengths) →
+      Placed (settled longest ends (part (s .holding) place (b .held) ++ part sub from count)) place b s r s′ →
+      Placed (fate longest heldNow read) place a s r s′
+  segment-settles true b mark e t room places q = segment-begins b (sym mark) e room places q
+  segment-settles false b mark e t room places q =
+      segment-joins (sym mark) (λ z. true≢false (sym (eq-eqb (b .held) 0 (ap (λ (x : Tally). x .held) e ∙ z)) ∙ t)) (rw e at q)
 
 -- What the account of a fate says of the counts that show it, from the start of a call.
 pub record Counted (bytes frames most : ℕ) (tally : Tally) : Type 0 where

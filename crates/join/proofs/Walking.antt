@@ -1,16 +1,17 @@
 -- The walk over the segments of a PSP packet: what has become of the bytes after k of them (`soFar`), its account, and the loop's
--- invariant with a begin, a turn and an end. Only the last segment may leave something held (refusal 11), so until then the holding
+-- invariant with a begin, a turn and an end, and the run of whole frames that are placed together. Only the last segment may leave something held (refusal 11), so until then the holding
 -- slice is as it was.
 use Prim.Native.Nat.{ℕ, zero, suc, _+_, _*_, _<_, _≤_}
-use mathlib.Core.Path.{_≡_, sym, ap, _∙_}
+use mathlib.Core.Path.{_≡_, refl, sym, ap, _∙_}
 use mathlib.Core.Bool.{true}
-use mathlib.Core.List.{List, []}
+use mathlib.Core.List.{List, [], _∷_}
+use native.Mathlib.Numerals.{add-one}
 use native.Mathlib.Omega.{arith}
 use lib.ListN.{length}
 use Rattle.octets.specs.Stretch.{part, put}
 use Rattle.octets.specs.Count.{sumTo, upTo}
 use Rattle.octets.proofs.Counts.{sum-none, sum-more, sum-below}
-use Rattle.octets.proofs.Stretches.{length-part, put-nil}
+use Rattle.octets.proofs.Stretches.{length-part, put-nil, put-put, part-none, part-part}
 use Rattle.flow.specs.Flow.{longest}
 use Rattle.packet.specs.Header.{idLength, headerLength, segmentCount, longestPacket}
 use Rattle.packet.specs.Segments.{entryAt, beginsIn, endsIn, lengthIn, lengthAt, bodyAt, segmentAt, segments}
@@ -18,10 +19,11 @@ use Rattle.packet.specs.Psp.{wanted}
 use Rattle.packet.proofs.Passing.{PspPassed, body-inside, ends-early}
 use Rattle.join.specs.declared.Tally.{Tally}
 use Rattle.join.specs.Join.{Fate, fate, atGap, inOrder, pspFate}
-use Rattle.join.specs.Slices.{Slices, mostBytes, mostFrames}
-use Rattle.join.specs.Placed.{nothingYet, begun, Placed, Roomy, Fits, Within}
+use Rattle.join.specs.Slices.{Slices, asSlices, mostBytes, mostFrames}
+use Rattle.join.specs.Placed.{nothingYet, begun, Placed, Roomy, Fits, Within, Whole, Ran}
 use Rattle.join.proofs.Account.{Accounts, fate-accounts, fate-ends, gap-accounts, in-order-next, in-order-accounts}
 use Rattle.join.proofs.Placing.{placed-begun, placed-counted, holding-long, output-long, lengths-long, held-there, placed-next}
+use Rattle.join.proofs.Running.{written-more, whole-placed}
 
 -- the segment count has 7 bits
 count-few : (sub : List ℕ) → segmentCount sub ≤ mostFrames
@@ -163,6 +165,79 @@ module _ (width gap held place : ℕ) (sub : List ℕ) (s : Slices)
                 (omega (arith, c .all, bytes-few, roomy .output-long)) (omega (arith, c .frames-few, n, roomy .lengths-long)) (w .placed) quiet q′;
           }
 
+    -- no more frames than segments
+    pub walk-frames : tally .frames ≤ k
+    walk-frames = placed-counted (w .placed) account .frames-few
+
+    -- the segments placed so far lie in the packet
+    pub walk-place : from ≤ length sub
+    unfolding bodyAt wanted
+    walk-place = rw (w .at) (omega (arith, passed .fills, sum-below (lengthAt width sub) k (segmentCount sub) (w .within)))
+
     pub walk-end : segmentCount sub ≤ k → Placed (pspFate longest gap heldFirst (segments width sub)) place nothingYet s tally s′
     unfolding pspFate segments
     walk-end l = let done : k ≡ segmentCount sub = omega (arith, w .within) in rw done at (w .placed)
+
+  -- Whole frames behind a segment, placed together.
+  module _ {s′ : Slices} {tally : Tally} {from k : ℕ} (w : Walking width gap held place sub s s′ tally from k) (behind : 1 ≤ k) where
+    abbrev behindAt : ℕ → ℕ
+    behindAt i = lengthAt width sub (k + i)
+
+    abbrev runSlices : ℕ → ℕ → Slices
+    runSlices n bytes = asSlices (s′ .holding) (put (s′ .output) (tally .bytes) (part sub from bytes)) (put (s′ .lengths) (tally .frames) (upTo behindAt n))
+
+    abbrev runTally : ℕ → ℕ → Tally
+    runTally n bytes = record { held = tally .held; frames = tally .frames + n; bytes = tally .bytes + bytes; dropped = tally .dropped }
+
+    abbrev After : ℕ → ℕ → Type 0
+    After n bytes = Walking width gap held place sub s (runSlices n bytes) (runTally n bytes) (from + bytes) (k + n)
+
+    none-held : (j : ℕ) → 1 ≤ j → j < segmentCount sub → soFar width gap heldFirst sub j .held ≡ []
+    none-held zero l there = absurd (omega arith)
+    none-held (suc j) l there = so-far-ended width gap heldFirst sub passed held-few j there
+
+    run-none : After 0 (sumTo behindAt 0)
+    unfolding upTo
+    run-none =
+        let a : k + 0 ≡ k = omega arith in
+        let b : from + 0 ≡ from = omega arith in
+        let c : tally .frames + 0 ≡ tally .frames = omega arith in
+        let d : tally .bytes + 0 ≡ tally .bytes = omega arith in
+        rw (sum-none behindAt, part-none sub from, put-nil (s′ .output) (tally .bytes), put-nil (s′ .lengths) (tally .frames), a, b, c, d) w
+
+    run-more : (n bytes : ℕ) → After n bytes → k + n < segmentCount sub → Whole (entryAt width sub (k + n)) → After (n + 1) (bytes + behindAt n)
+    run-more n bytes u there whole =
+        let size = behindAt n in
+        let here : k < segmentCount sub = omega arith in
+        let none : tally .held ≡ 0 = w .placed .held-now ∙ ap length (none-held k behind here) in
+        let inside : from + bytes + size ≤ length sub = walk-body u there in
+        let body = length-part sub from bytes (omega arith) in
+        let room : tally .bytes + bytes ≤ length (s′ .output) = omega (arith, walk-within u .bytes-few, walk-lengths w .1, roomy .output-long) in
+        let places : tally .frames + n < length (s′ .lengths) = omega (arith, walk-fits u there .frames-few, walk-lengths w .2, roomy .lengths-long) in
+        let out : put (s′ .output) (tally .bytes) (part sub from (bytes + size))
+        ≡ put (put (s′ .output) (tally .bytes) (part sub from bytes)) (tally .bytes + bytes) (part sub (from + bytes) size) =
+        rw (← part-part sub from bytes size)
+        (sym (ap (λ (i : ℕ). put (put (s′ .output) (tally .bytes) (part sub from bytes)) (tally .bytes + i) (part sub (from + bytes) size)) (sym body)
+        ∙ put-put (s′ .output) (tally .bytes) (part sub from bytes) (part sub (from + bytes) size) (rw body room))) in
+        let lens = sym (written-more (s′ .lengths) (put (s′ .lengths) (tally .frames) (upTo behindAt n)) (tally .frames) behindAt n places refl) in
+        let q = whole-placed place (runTally n bytes) (runSlices n bytes) sub (from + bytes) (entryAt width sub (k + n)) whole none inside
+        (runTally (n + 1) (bytes + size)) (runSlices (n + 1) (bytes + size)) refl out lens none (omega arith) (omega arith) refl in
+        let turned = walk-turn u there (entryAt width sub (k + n)) size (runTally (n + 1) (bytes + size)) (runSlices (n + 1) (bytes + size)) refl refl q in
+        let a : from + bytes + size ≡ from + (bytes + size) = omega arith in
+        let b : k + n + 1 ≡ k + (n + 1) = omega arith in
+        rw (← a, ← b) turned
+
+    run-at : (n : ℕ) → k + n ≤ segmentCount sub → ((i : ℕ) → i < n → Whole (entryAt width sub (k + i))) → After n (sumTo behindAt n)
+    run-at zero l each = run-none
+    run-at (suc n) l each =
+        rw (← add-one n, sum-more behindAt n)
+        (run-more n (sumTo behindAt n) (run-at n (omega arith) (λ i h. each i (omega arith))) (omega arith) (each n (omega arith)))
+
+    pub walk-run : {lens′ : List ℕ} {frames bytes : ℕ} → k + frames ≤ segmentCount sub → Ran width sub k (tally .frames) (s′ .lengths) lens′ frames bytes →
+        Walking width gap held place sub s (asSlices (s′ .holding) (put (s′ .output) (tally .bytes) (part sub from bytes)) lens′) (runTally frames bytes) (from + bytes) (k + frames)
+    walk-run {lens′} {frames} {bytes} l r = rw (r .written, r .total) (run-at frames l (r .each))
+
+    -- there is room for them
+    pub run-room : {lens′ : List ℕ} {frames bytes : ℕ} → k + frames ≤ segmentCount sub → Ran width sub k (tally .frames) (s′ .lengths) lens′ frames bytes →
+        (tally .bytes + bytes ≤ length (s′ .output)) × (from + bytes ≤ length sub)
+    run-room l r = (omega (arith, walk-within (walk-run l r) .bytes-few, walk-lengths w .1, roomy .output-long), walk-place (walk-run l r))

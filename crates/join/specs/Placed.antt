@@ -2,9 +2,13 @@
 -- call's own contract says none of them, so a reader who is after the promises can pass them over.
 use Prim.Native.Nat.{ℕ, zero, suc, _+_, _<_, _≤_}
 use mathlib.Core.Path.{_≡_}
+use mathlib.Core.Bool.{true}
+use mathlib.Core.List.{List}
 use lib.ListN.{length}
 use Rattle.octets.specs.Stretch.{put, joined, lengths}
+use Rattle.octets.specs.Count.{sumTo, upTo}
 use Rattle.flow.specs.Flow.{longest}
+use Rattle.packet.specs.Segments.{entryAt, beginsIn, endsIn, lengthIn, lengthAt}
 use Rattle.join.specs.declared.Tally.{Tally}
 use Rattle.join.specs.Join.{Fate}
 use Rattle.join.specs.Slices.{Slices, mostFrames, mostBytes}
@@ -46,3 +50,15 @@ pub record Within (tally : Tally) : Type 0 where
   pub held-few : tally .held ≤ longest
   pub bytes-few : tally .held + tally .bytes + tally .dropped ≤ mostBytes
   pub frames-few : tally .frames ≤ mostFrames
+
+-- an entry with B, E and a length of at most the longest frame's
+pub record Whole (entry : ℕ) : Type 0 where
+  pub begins : beginsIn entry ≡ true
+  pub ends : endsIn entry ≡ true
+  pub short : lengthIn entry ≤ longest
+
+-- so many whole frames from segment k on, so long together, and their lengths written from place `at` on
+pub record Ran (width : ℕ) (sub : List ℕ) (k at : ℕ) (lens lens′ : List ℕ) (frames bytes : ℕ) : Type 0 where
+  pub each : (i : ℕ) → i < frames → Whole (entryAt width sub (k + i))
+  pub total : bytes ≡ sumTo (λ i. lengthAt width sub (k + i)) frames
+  pub written : lens′ ≡ put lens at (upTo (λ i. lengthAt width sub (k + i)) frames)

@@ -6,19 +6,20 @@
 // (11). A frame that is delivered or dropped leaves the holding slice as it was.
 pub mod mpegs;
 
+ghost use mathlib.Core.Bool.{true, cond};
 ghost use mathlib.Core.List.{_++_};
 ghost use mathlib.Core.Path.{_≡_};
-ghost use Prim.Native.Nat.{_+_, _≤_};
+ghost use Prim.Native.Nat.{_+_, _*_, _≤_};
 ghost use lib.ListN.{length};
 ghost use Rattle.refusal.specs.Refusal.{first};
 ghost use Rattle.octets.specs.Stretch.{part};
 ghost use Rattle.flow.specs.Flow.{longest};
-ghost use Rattle.packet.specs.Header.{idLength, longestPacket};
+ghost use Rattle.packet.specs.Header.{idLength, headerLength, longestPacket};
 ghost use Rattle.packet.specs.Segments.{beginsIn, endsIn, lengthIn, segments};
 ghost use Rattle.packet.specs.Psp.{pspRefusals};
 ghost use Rattle.join.specs.Join.{settled, fate, pspFate};
-ghost use Rattle.join.specs.Slices.{asSlices, mostBytes};
-ghost use Rattle.join.specs.Placed.{nothingYet, begun, Placed, Roomy, Fits, Within};
+ghost use Rattle.join.specs.Slices.{asSlices, mostFrames, mostBytes};
+ghost use Rattle.join.specs.Placed.{nothingYet, begun, Placed, Roomy, Fits, Within, Whole, Ran};
 use flow::Flow;
 use packet::header;
 use packet::psp;
@@ -51,18 +52,21 @@ fn begin(gap: u16, held: usize) -> Tally
     }
 }
 
-// Drops what is held.
-fn drop_held(tally: Tally) -> Tally
+// What a segment makes of what is held before it joins: with B it drops it.
+fn give_way(begins: bool, tally: Tally) -> Tally
     requires { ⌜ tally .held + tally .bytes + tally .dropped ≤ mostBytes ⌝ }
-    ensures { λ r. ⌜ r ≡ record { held = 0; frames = tally .frames; bytes = tally .bytes; dropped = tally .dropped + tally .held } ⌝ }
+    ensures { λ r. ⌜ r ≡ cond begins (record { held = 0; frames = tally .frames; bytes = tally .bytes; dropped = tally .dropped + tally .held }) tally ⌝ }
 {
-    let dropped = tally.dropped + tally.held;
-    Tally {
-        held: 0,
-        frames: tally.frames,
-        bytes: tally.bytes,
-        dropped,
+    if begins {
+        let dropped = tally.dropped + tally.held;
+        return Tally {
+            held: 0,
+            frames: tally.frames,
+            bytes: tally.bytes,
+            dropped,
+        };
     }
+    tally
 }
 
 // Joins `count` bytes of the packet, from place `from` on, to what is held, and settles it: too long, it is dropped; with E it is
@@ -142,26 +146,14 @@ fn place_segment(
 {
     let count = psp::length_of(entry);
     let ends = psp::ends(entry);
-    if psp::begins(entry) {
-        let alone = drop_held(tally);
-        return settle(
-            holding,
-            place,
-            output,
-            lengths,
-            sub,
-            from,
-            count,
-            ends,
-            alone,
-        );
-    }
-    if tally.held == 0 {
-        let lost = tally.dropped + count;
+    let begins = psp::begins(entry);
+    let before = give_way(begins, tally);
+    if !begins & (before.held == 0) {
+        let lost = before.dropped + count;
         return Tally {
             held: 0,
-            frames: tally.frames,
-            bytes: tally.bytes,
+            frames: before.frames,
+            bytes: before.bytes,
             dropped: lost,
         };
     }
@@ -174,11 +166,54 @@ fn place_segment(
         from,
         count,
         ends,
-        tally,
+        before,
     )
 }
 
-// All segments of a packet that passed the check, in order, on a flow that holds so many bytes.
+// Whether an entry is that of a whole frame which is not too long: it has B and E, and a length of at most 2,048.
+fn whole(entry: u16) -> bool
+    ensures { λ r. ⌜ (r ≡ true → Whole entry) ⌝ }
+{
+    (psp::B_BIT + psp::E_BIT <= entry) & (entry <= psp::B_BIT + psp::E_BIT + Flow::LONGEST)
+}
+
+// Whole frames one behind the other: how many, and how long together.
+struct Run {
+    frames: usize,
+    bytes: usize,
+}
+
+// Writes the lengths of the whole frames from segment k on, up to the first segment of another sort, to `lengths` from place `at` on.
+fn write_lengths(
+    lengths: &mut [u16],
+    at: usize,
+    sub: &[u8],
+    width: usize,
+    k: usize,
+    count: usize,
+) -> Run
+    requires { ⌜ (2 ≤ width) × (headerLength + width * count ≤ length (now sub)) ⌝ }
+    requires { ⌜ (k ≤ count) × (count ≤ mostFrames) × (at + count ≤ length (now lengths) + k) ⌝ }
+    ensures { λ r. ⌜ Ran width (now (sub .entry)) k at (now (lengths .entry)) (now (lengths .exit)) (r .frames) (r .bytes) ⌝ }
+    ensures { λ r. ⌜ k + r .frames ≤ count ⌝ }
+{
+    let mut frames: usize = 0;
+    let mut bytes: usize = 0;
+    while k + frames < count {
+        let entry = psp::entry(sub, width, k + frames);
+        if !whole(entry) {
+            return Run { frames, bytes };
+        }
+        let size = psp::length_of(entry);
+        lengths[at + frames] = size as u16;
+        bytes += size;
+        frames += 1;
+    }
+    Run { frames, bytes }
+}
+
+// All segments of a packet that passed the check, in order, on a flow that holds so many bytes. Behind a segment nothing is held but at the
+// end, and whole frames lie in the packet as they must in the output: so those behind it are copied together.
 pub fn walk(
     holding: &mut [u8],
     place: usize,
@@ -203,9 +238,18 @@ pub fn walk(
     let mut k: usize = 0;
     while k < count {
         let entry = psp::entry(sub, width, k);
-        tally = place_segment(holding, place, output, lengths, sub, from, entry, tally);
-        from += psp::length_of(entry);
-        k += 1;
+        let joined = place_segment(holding, place, output, lengths, sub, from, entry, tally);
+        let behind = from + psp::length_of(entry);
+        let run = write_lengths(lengths, joined.frames, sub, width, k + 1, count);
+        octets::copy(output, joined.bytes, sub, behind, run.bytes);
+        tally = Tally {
+            held: joined.held,
+            frames: joined.frames + run.frames,
+            bytes: joined.bytes + run.bytes,
+            dropped: joined.dropped,
+        };
+        from = behind + run.bytes;
+        k = k + 1 + run.frames;
     }
     tally
 }

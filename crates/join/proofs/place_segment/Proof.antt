@@ -1,10 +1,10 @@
--- `join::place_segment` is right since its two tests are those of `fate`: with B, nothing held, or neither.
+-- `join::place_segment` is right since its one test is that of `fate`, once what is held has made way for B.
 use Prim.Native.Nat.{_+_, _≤_}
-use mathlib.Core.Path.{refl, sym, _∙_}
+use mathlib.Core.Path.{refl}
 use lib.ListN.{length}
 use native.Mathlib.Omega.{arith}
 use Rattle.join.specs.Slices.{asSlices, Slices}
-use Rattle.join.proofs.Placing.{segment-begins, segment-orphan, segment-joins}
+use Rattle.join.proofs.Placing.{way-fits, segment-lost, segment-settles}
 use borrow.Author.Needs.{needs}
 use Rattle.join.proofs.place_segment.Statement.{statement}
 use Rattle.join.proofs.place_segment.Tie as tie
@@ -35,16 +35,31 @@ ends-requires c κs = search needs
 begins-requires : tie.Need-begins-requires
 begins-requires c κs = search needs
 
-drop-held-requires : tie.Need-drop-held-requires
-drop-held-requires c κs = search needs
+give-way-requires : tie.Need-give-way-requires
+give-way-requires c κs = search needs
+
+add-lost : tie.Need-add-lost
+add-lost c =
+    let w = c .before .before .before in
+    let b = w .before in
+    let f = way-fits (b .begins .result) _ (start b .args .tally) (w .give-way .result) (w .give-way .ensures) (start b .pre .1 .1) in
+    omega (arith, f .bytes-few, b .before .before .length-of .ensures .0)
+
+returns : tie.Need-returns
+returns c =
+    let w = c .before .before .before in
+    let b = w .before in
+    let a = start b .args in
+    segment-lost (a .place) (a .tally) (lent b) (a .sub .now) (a .from) (a .entry) _ _ (b .before .before .length-of .ensures .0) (b .before .ends .ensures) _ (lent b) (inside b)
+    _ _ (b .begins .ensures) (w .give-way .ensures) (c .before .if1 .taken) (start b .pre .1 .0) refl refl refl refl
 
 settle-requires : tie.Need-settle-requires
 settle-requires c κs =
-    let b = c .before .before .before .before .before in
+    let w = c .before .before .before .before .before in
+    let b = w .before in
     let s = start b in
-    let f = s .pre .1 .1 in
     let n = b .before .before .length-of .ensures .0 in
-    (s .pre .0, (omega (arith, s .pre .1 .0, n), rw (c .before .before .before .drop-held .ensures) (record { held-few = omega arith; bytes-few = omega (arith, f .bytes-few, n); frames-few = f .frames-few })))
+    (s .pre .0, (omega (arith, s .pre .1 .0, n), rw n (way-fits (b .begins .result) _ (s .args .tally) (w .give-way .result) (w .give-way .ensures) (s .pre .1 .1))))
 
 same-length : tie.Need-same-length
 same-length c = search needs
@@ -55,43 +70,15 @@ same-length-2 c = search needs
 same-length-3 : tie.Need-same-length-3
 same-length-3 c = search needs
 
-returns : tie.Need-returns
-returns c =
-    let call = c .before .before .before .before .before .before in
-    let b = call .before .before .before .before .before .before in
-    let a = start b .args in
-    segment-begins (a .place) (a .tally) (lent b) (a .sub .now) (a .from) (a .entry) _ _ (b .before .before .length-of .ensures .0) (b .before .ends .ensures) _ _ (inside b)
-    _ (sym (b .begins .ensures) ∙ call .before .before .before .before .before .if1 .taken) (call .before .before .before .before .drop-held .ensures) (room b) (places b) (call .settle .ensures)
-
-add-lost : tie.Need-add-lost
-add-lost c = search needs
-
 returns-2 : tie.Need-returns-2
 returns-2 c =
-    let b = c .before .before .before .before in
-    let a = start b .args in
-    segment-orphan (a .place) (a .tally) (lent b) (a .sub .now) (a .from) (a .entry) _ _ (b .before .before .length-of .ensures .0) (b .before .ends .ensures) _ (lent b) (inside b)
-    (sym (b .begins .ensures) ∙ c .before .before .before .if1 .left) (c .before .if2 .taken) (start b .pre .1 .0) refl refl refl refl
-
-settle-requires-2 : tie.Need-settle-requires-2
-settle-requires-2 c κs = search needs
-
-same-length-4 : tie.Need-same-length-4
-same-length-4 c = search needs
-
-same-length-5 : tie.Need-same-length-5
-same-length-5 c = search needs
-
-same-length-6 : tie.Need-same-length-6
-same-length-6 c = search needs
-
-returns-3 : tie.Need-returns-3
-returns-3 c =
     let call = c .before .before .before .before .before .before in
-    let b = call .before .before .before .before .before .before .before in
+    let else = call .before .before .before .before in
+    let w = else .before .before in
+    let b = w .before in
     let a = start b .args in
-    segment-joins (a .place) (a .tally) (lent b) (a .sub .now) (a .from) (a .entry) _ _ (b .before .before .length-of .ensures .0) (b .before .ends .ensures) _ _ (inside b)
-    (sym (b .begins .ensures) ∙ call .before .before .before .before .before .before .if1 .left) (call .before .before .before .before .if2 .left) (call .settle2 .ensures)
+    segment-settles (a .place) (a .tally) (lent b) (a .sub .now) (a .from) (a .entry) _ _ (b .before .before .length-of .ensures .0) (b .before .ends .ensures) _ _ (inside b)
+    _ _ (b .begins .ensures) (w .give-way .ensures) (else .if1 .left) (room b) (places b) (call .settle .ensures)
 
 pub place-segment-spec : {M : Type 1} → statement M
 place-segment-spec =
@@ -100,16 +87,11 @@ place-segment-spec =
     length-of-requires
     ends-requires
     begins-requires
-    drop-held-requires
+    give-way-requires
+    add-lost
+    returns
     settle-requires
     same-length
     same-length-2
     same-length-3
-    returns
-    add-lost
-    returns-2
-    settle-requires-2
-    same-length-4
-    same-length-5
-    same-length-6
-    returns-3)
+    returns-2)

@@ -1,15 +1,18 @@
--- `join::walk` is right since after k turns counts and slices show what became of the bytes by the first k segments (`Walking`).
+-- `join::walk` is right since counts and slices show what became of the bytes by the first k segments (`Walking`): a turn places one by
+-- `place_segment` (`one`) and then the whole frames behind it together (`all`).
 use Prim.Native.Nat.{_+_, _-_, _*_, _<_, _≤_}
 use mathlib.Core.Path.{_≡_, refl, ap}
 use native.Mathlib.Omega.{arith}
 use lib.ListN.{length}
+use Rattle.octets.specs.Stretch.{part, put}
 use Rattle.packet.specs.Header.{headerLength, segmentCount}
 use Rattle.packet.specs.Segments.{lengthIn, lengthAt}
 use Rattle.packet.proofs.Entries.{entry-within}
 use Rattle.packet.proofs.Passing.{PspPassed, psp-passed, entries-inside, table-small}
+use Rattle.join.specs.declared.Tally.{Tally}
 use Rattle.join.specs.Slices.{asSlices, Slices}
-use Rattle.join.specs.Placed.{Fits}
-use Rattle.join.proofs.Walking.{Walking, walk-begin, walk-lengths, walk-roomy, walk-body, walk-fits, walk-turn, walk-within, walk-end}
+use Rattle.join.specs.Placed.{Fits, Within}
+use Rattle.join.proofs.Walking.{Walking, walk-begin, walk-lengths, walk-roomy, walk-body, walk-fits, walk-turn, walk-frames, walk-place, walk-run, run-room, walk-within, walk-end}
 use borrow.Author.Needs.{needs}
 use Rattle.join.proofs.walk.Statement.{statement}
 use Rattle.join.proofs.walk.Tie as tie
@@ -61,6 +64,55 @@ fits e =
     let s = start (e .before) in
     rw (size e) (walk-fits (s .args .width) (s .args .gap) (s .args .held) (s .args .place) (s .args .sub .now) (lent s) (passes s) (s .pre .1 .2) (s .pre .1 .3) (s .pre .0) (walking (e .before)) (there (e .before)))
 
+-- the slices and the counts when segment k is placed ..
+abbrev placed : tie.After-length-of Inv-loop μ-loop → Slices
+placed l = asSlices (l .before .before .before .before .before .before .before .place-segment .last .0) (l .before .before .before .before .before .before .before .place-segment .last .1 .1 .0) (l .before .before .before .before .before .before .before .place-segment .last .1 .1 .1 .0)
+
+abbrev entered : tie.After-length-of Inv-loop μ-loop → tie.After-entry Inv-loop μ-loop
+entered l = l .before .before .before .before .before .before .before .before .before .before .before
+
+one : (l : tie.After-length-of Inv-loop μ-loop) →
+    (let s = start (entered l .before) in
+    let n = entered l .before .before .loop in
+    Walking (s .args .width) (s .args .gap) (s .args .held) (s .args .place) (s .args .sub .now) (lent s) (placed l) (l .before .before .before .before .before .before .before .place-segment .result) (n .from + l .length-of .result) (n .k + 1))
+one l =
+    let e = entered l in
+    let s = start (e .before) in
+    walk-turn (s .args .width) (s .args .gap) (s .args .held) (s .args .place) (s .args .sub .now) (lent s) (passes s) (s .pre .1 .2) (s .pre .1 .3) (s .pre .0) (walking (e .before)) (there (e .before)) _ _ _ _ (e .entry .ensures) (l .length-of .ensures .0) (l .before .before .before .before .before .before .before .place-segment .ensures)
+
+-- .. and when the whole frames behind it are
+abbrev behind : tie.After-write-lengths Inv-loop μ-loop → tie.After-length-of Inv-loop μ-loop
+behind r = r .before .before
+
+abbrev run : tie.After-write-lengths Inv-loop μ-loop → Slices
+run r =
+    let l = behind r in
+    asSlices (placed l .holding)
+    (put (placed l .output) (l .before .before .before .before .before .before .before .place-segment .result .bytes) (part (start (entered l .before) .args .sub .now) (entered l .before .before .loop .from + l .length-of .result) (r .write-lengths .result .bytes)))
+    (r .write-lengths .last .0)
+
+abbrev counts : tie.After-write-lengths Inv-loop μ-loop → Tally
+counts r =
+    let t = behind r .before .before .before .before .before .before .before .place-segment .result in
+    record { held = t .held; frames = t .frames + r .write-lengths .result .frames; bytes = t .bytes + r .write-lengths .result .bytes; dropped = t .dropped }
+
+within : (r : tie.After-write-lengths Inv-loop μ-loop) → entered (behind r) .before .before .loop .k + 1 + r .write-lengths .result .frames ≤ segmentCount (start (entered (behind r) .before) .args .sub .now)
+within r = omega (arith, r .write-lengths .ensures .1, entered (behind r) .before .before .loop .inv .0)
+
+all : (r : tie.After-write-lengths Inv-loop μ-loop) →
+    (let s = start (entered (behind r) .before) in
+    let n = entered (behind r) .before .before .loop in
+    Walking (s .args .width) (s .args .gap) (s .args .held) (s .args .place) (s .args .sub .now) (lent s) (run r) (counts r)
+    (n .from + behind r .length-of .result + r .write-lengths .result .bytes) (n .k + 1 + r .write-lengths .result .frames))
+all r =
+    let s = start (entered (behind r) .before) in
+    walk-run (s .args .width) (s .args .gap) (s .args .held) (s .args .place) (s .args .sub .now) (lent s) (passes s) (s .pre .1 .2) (s .pre .1 .3) (s .pre .0) (one (behind r)) (omega arith) (within r) (r .write-lengths .ensures .0)
+
+few : (r : tie.After-write-lengths Inv-loop μ-loop) → Within (counts r)
+few r =
+    let s = start (entered (behind r) .before) in
+    walk-within (s .args .width) (s .args .gap) (s .args .held) (s .args .place) (s .args .sub .now) (lent s) (passes s) (s .pre .1 .2) (s .pre .1 .3) (s .pre .0) (all r)
+
 segment-count-requires : tie.Need-segment-count-requires Inv-loop μ-loop
 segment-count-requires c κs = omega (arith, table-inside (c .before .before .before .before))
 
@@ -95,24 +147,60 @@ place-segment-requires c κs =
 length-of-requires : tie.Need-length-of-requires Inv-loop μ-loop
 length-of-requires c κs = search needs
 
-add-from-2 : tie.Need-add-from-2 Inv-loop μ-loop
-add-from-2 c =
-    let e = c .before .before .before .before .before .before .before .before .before .before .before in
-    let s = start (e .before) in
-    omega (arith, c .length-of .ensures .0, size e, walk-body (s .args .width) (s .args .gap) (s .args .held) (s .args .place) (s .args .sub .now) (lent s) (passes s) (s .pre .1 .2) (s .pre .1 .3) (s .pre .0) (walking (e .before)) (there (e .before)), s .pre .1 .3)
+add-behind : tie.Need-add-behind Inv-loop μ-loop
+add-behind c =
+    let s = start (entered c .before) in
+    omega (arith, walk-place (s .args .width) (s .args .gap) (s .args .held) (s .args .place) (s .args .sub .now) (lent s) (passes s) (s .pre .1 .2) (s .pre .1 .3) (s .pre .0) (one c), s .pre .1 .3)
+
+add-write-lengths : tie.Need-add-write-lengths Inv-loop μ-loop
+add-write-lengths c = search needs
+
+write-lengths-requires : tie.Need-write-lengths-requires Inv-loop μ-loop
+write-lengths-requires c κs =
+    let l = c .before in
+    let s = start (entered l .before) in
+    let n = walk-frames (s .args .width) (s .args .gap) (s .args .held) (s .args .place) (s .args .sub .now) (lent s) (passes s) (s .pre .1 .2) (s .pre .1 .3) (s .pre .0) (one l) in
+    let long = walk-roomy (s .args .width) (s .args .gap) (s .args .held) (s .args .place) (s .args .sub .now) (lent s) (passes s) (s .pre .1 .2) (s .pre .1 .3) (s .pre .0) (one l) .lengths-long in
+    let count = entered l .before .before .before .before .segment-count in
+    ((s .pre .1 .0, rw (count .ensures .0) (table-inside s)), (omega (arith, entered l .before .loop-test .taken), omega (arith, count .ensures .1), omega (arith, n, long, count .ensures .1)))
+
+copy-requires : tie.Need-copy-requires Inv-loop μ-loop
+copy-requires c κs =
+    let r = c .before .before .before in
+    let s = start (entered (behind r) .before) in
+    run-room (s .args .width) (s .args .gap) (s .args .held) (s .args .place) (s .args .sub .now) (lent s) (passes s) (s .pre .1 .2) (s .pre .1 .3) (s .pre .0) (one (behind r)) (omega arith) (within r) (r .write-lengths .ensures .0)
 
 add-k : tie.Need-add-k Inv-loop μ-loop
-add-k c = search needs
+add-k c = omega (arith, few (c .before .before .before .before .before .before .before .before) .frames-few)
+
+add-t31 : tie.Need-add-t31 Inv-loop μ-loop
+add-t31 c = omega (arith, few (c .before .before .before .before .before .before .before .before .before .before) .bytes-few)
+
+add-from-2 : tie.Need-add-from-2 Inv-loop μ-loop
+add-from-2 c =
+    let r = c .before .before .before .before .before .before .before .before .before .before .before in
+    let s = start (entered (behind r) .before) in
+    omega (arith, walk-place (s .args .width) (s .args .gap) (s .args .held) (s .args .place) (s .args .sub .now) (lent s) (passes s) (s .pre .1 .2) (s .pre .1 .3) (s .pre .0) (all r), s .pre .1 .3)
+
+add-k-2 : tie.Need-add-k-2 Inv-loop μ-loop
+add-k-2 c =
+    let e = entered (behind (c .before .before .before .before .before .before .before .before .before .before .before)) in
+    omega (arith, e .before .loop-test .taken, e .before .before .before .before .segment-count .ensures .1)
+
+add-k-3 : tie.Need-add-k-3 Inv-loop μ-loop
+add-k-3 c =
+    let r = c .before .before .before .before .before .before .before .before .before .before .before .before in
+    omega (arith, r .write-lengths .ensures .1, entered (behind r) .before .before .before .before .segment-count .ensures .1)
 
 loop-less : tie.Need-loop-less Inv-loop μ-loop
-loop-less c = search needs
+loop-less c =
+    let t = entered (behind (c .before .before .before .before .before .before .before .before .before .before .before .before)) .before .loop-test .taken in
+    omega (arith, t)
 
 loop-again : tie.Need-loop-again Inv-loop μ-loop
 loop-again c =
-    let e = c .before .before .before .before .before .before .before .before .before .before .before in
-    let s = start (e .before) in
-    let w = walking (e .before) in
-    (e .before .before .loop .inv .0, walk-turn (s .args .width) (s .args .gap) (s .args .held) (s .args .place) (s .args .sub .now) (lent s) (passes s) (s .pre .1 .2) (s .pre .1 .3) (s .pre .0) w (there (e .before)) _ _ _ _ (e .entry .ensures) (c .length-of .ensures .0) (c .before .before .before .before .before .before .before .place-segment .ensures))
+    let r = c .before .before .before .before .before .before .before .before .before .before .before .before in
+    (entered (behind r) .before .before .loop .inv .0, rw (c .before .before .before .before .before .before .before .before .copy .ensures) (all r))
 
 same-length : tie.Need-same-length Inv-loop μ-loop
 same-length c =
@@ -150,8 +238,15 @@ walk-spec =
     entry-requires
     place-segment-requires
     length-of-requires
-    add-from-2
+    add-behind
+    add-write-lengths
+    write-lengths-requires
+    copy-requires
     add-k
+    add-t31
+    add-from-2
+    add-k-2
+    add-k-3
     loop-less
     loop-again
     same-length

@@ -1,0 +1,113 @@
+-- Whole frames one behind the other: the invariant of the loop that writes their lengths, with a begin and a turn, and how one of them
+-- shows in counts and slices.
+use Prim.Native.Nat.{ℕ, zero, suc, _+_, _*_, _/_, _%_, _<_, _≤_}
+use mathlib.Core.Path.{_≡_, refl, sym, ap, _∙_}
+use mathlib.Core.Logic.{⊎-elim}
+use mathlib.Core.Bool.{Bool, true, false, _&&_}
+use mathlib.Core.List.{List, [], _∷_, _++_}
+use native.Mathlib.Omega.{arith}
+use native.Mathlib.Nat.{eq-or-lt-of-le}
+use lib.Dec.{leb}
+use lib.ListN.{length, set}
+use borrow.Author.Tests.{eq-eqb, leb-true}
+use Rattle.refusal.proofs.Laws.{and-left, and-right}
+use Rattle.octets.specs.Stretch.{part, put}
+use Rattle.octets.specs.Count.{sumTo, upTo}
+use Rattle.octets.proofs.Counts.{sum-none, sum-more, up-to-more, length-up-to}
+use Rattle.octets.proofs.Stretches.{length-part, length-put, put-nil, put-put, part-none, set-put}
+use Rattle.flow.specs.Flow.{longest}
+use Rattle.packet.specs.Segments.{bBit, eBit, entryAt, beginsIn, endsIn, lengthIn, lengthAt}
+use Rattle.join.specs.declared.Tally.{Tally}
+use Rattle.join.specs.Join.{delivering, fate}
+use Rattle.join.specs.Slices.{Slices}
+use Rattle.join.specs.Placed.{Placed, Whole, Ran}
+use Rattle.join.proofs.Placing.{placed-delivering, settled-whole, fate-begins}
+
+-- the code's test
+pub whole-entry : (entry : ℕ) → (leb (bBit + eBit) entry && leb entry (bBit + eBit + longest)) ≡ true → Whole entry
+whole-entry entry t =
+    let least = leb (bBit + eBit) entry in
+    let most = leb entry (bBit + eBit + longest) in
+    let above : bBit + eBit ≤ entry = leb-true _ _ (and-left least most t) in
+    let below : entry ≤ bBit + eBit + longest = leb-true _ _ (and-right least most t) in
+    record {
+      begins = eq-eqb (entry / bBit % 2) 1 (omega arith);
+      ends = eq-eqb (entry / eBit % 2) 1 (omega arith);
+      short = omega arith;
+    }
+
+-- one length more behind those that are written
+pub written-more : (lens lens′ : List ℕ) (at : ℕ) (f : ℕ → ℕ) (n : ℕ) → at + n < length lens → lens′ ≡ put lens at (upTo f n) →
+    put lens′ (at + n) (f n ∷ []) ≡ put lens at (upTo f (n + 1))
+written-more lens lens′ at f n room e =
+    let m = length-up-to f n in
+    rw (e, up-to-more f n)
+    (ap (λ (i : ℕ). put (put lens at (upTo f n)) (at + i) (f n ∷ [])) (sym m)
+    ∙ put-put lens at (upTo f n) (f n ∷ []) (omega arith))
+
+-- The loop's invariant.
+pub record Running (width : ℕ) (sub : List ℕ) (k count at : ℕ) (lens lens′ : List ℕ) (frames bytes : ℕ) : Type 0 where
+  pub within : k + frames ≤ count
+  pub ran : Ran width sub k at lens lens′ frames bytes
+  pub small : bytes ≤ longest * frames
+
+pub run-begin : (width : ℕ) (sub : List ℕ) (k count at : ℕ) (lens : List ℕ) → k ≤ count → Running width sub k count at lens lens 0 0
+unfolding upTo
+run-begin width sub k count at lens l =
+    record {
+      within = omega arith;
+      ran =
+          record {
+            each = λ i h. absurd (omega arith);
+            total = sym (sum-none (λ i. lengthAt width sub (k + i)));
+            written = sym (put-nil lens at);
+          };
+      small = omega arith;
+    }
+
+module _ {width : ℕ} {sub : List ℕ} {k count at : ℕ} {lens lens′ : List ℕ} {frames bytes : ℕ}
+    (r : Running width sub k count at lens lens′ frames bytes) (room : at + count ≤ length lens + k) where
+  pub run-length : length lens′ ≡ length lens
+  run-length =
+      let f : ℕ → ℕ = λ i. lengthAt width sub (k + i) in
+      rw (r .ran .written) (length-put lens at (upTo f frames) (omega (arith, length-up-to f frames, r .within)))
+
+  pub run-turn : {entry size : ℕ} → k + frames < count → entry ≡ entryAt width sub (k + frames) → Whole entry → size ≡ lengthIn entry →
+      Running width sub k count at lens (set lens′ (at + frames) size) (frames + 1) (bytes + size)
+  run-turn {entry} {size} more e w z =
+      let f : ℕ → ℕ = λ i. lengthAt width sub (k + i) in
+      let this : Whole (entryAt width sub (k + frames)) = rw e at w in
+      let size-is : size ≡ f frames = z ∙ ap lengthIn e in
+      let few : size ≤ longest = rw z (w .short) in
+      record {
+        within = omega arith;
+        ran =
+            record {
+              each =
+                  λ i h.
+                  ⊎-elim
+                  (λ (q : i ≡ frames). rw q this)
+                  (λ (l : i < frames). r .ran .each i l)
+                  (eq-or-lt-of-le (let b : i ≤ frames = omega arith in b));
+              total = rw (sum-more f frames, r .ran .total, size-is) refl;
+              written =
+                  set-put lens′ (at + frames) size (omega (arith, run-length, r .within))
+                  ∙ ap (λ (n : ℕ). put lens′ (at + frames) (n ∷ [])) size-is
+                  ∙ written-more lens lens′ at f frames (omega (arith, r .within)) (r .ran .written);
+            };
+        small = omega (arith, r .small);
+      }
+
+-- One whole frame, where nothing is held.
+pub whole-placed : (place : ℕ) (a : Tally) (s : Slices) (sub : List ℕ) (from entry : ℕ) → Whole entry → a .held ≡ 0 → from + lengthIn entry ≤ length sub →
+    (r : Tally) (s′ : Slices) → s′ .holding ≡ s .holding → s′ .output ≡ put (s .output) (a .bytes) (part sub from (lengthIn entry)) →
+    s′ .lengths ≡ put (s .lengths) (a .frames) (lengthIn entry ∷ []) →
+    r .held ≡ 0 → r .frames ≡ a .frames + 1 → r .bytes ≡ a .bytes + lengthIn entry → r .dropped ≡ a .dropped →
+    Placed (fate longest (part (s .holding) place (a .held)) (record { begins = beginsIn entry; ends = endsIn entry; body = part sub from (lengthIn entry) }))
+    place a s r s′
+whole-placed place a s sub from entry w none inside r s′ same out lens h f b d =
+    let body = part sub from (lengthIn entry) in
+    let n : length body ≡ lengthIn entry = length-part sub from (lengthIn entry) inside in
+    let empty : part (s .holding) place (a .held) ≡ [] = rw none (part-none (s .holding) place) in
+    rw (empty, fate-begins longest [] (record { begins = beginsIn entry; ends = endsIn entry; body = body }) (w .begins), settled-whole longest (endsIn entry) body (rw n (w .short)) (w .ends))
+    (placed-delivering place a s body r s′ same out (rw n lens) h f (rw n b) d)
