@@ -89,7 +89,7 @@ fn refused_answer(code: u32, table: Table) -> Received
 }
 
 // Refusal 1, from the lengths of the slices.
-fn too_small(holding: usize, output: usize, lengths: usize) -> bool
+pub fn too_small(holding: usize, output: usize, lengths: usize) -> bool
     ensures { λ r. ⌜ r ≡ (ltb holding holdingSize || ltb output mostBytes || ltb lengths mostFrames) ⌝ }
 {
     (holding < HOLDING_SIZE) | (output < MOST_BYTES) | (lengths < MOST_FRAMES)
@@ -107,7 +107,7 @@ fn refuse_before_session(table: Table, packet: &[u8], lead: usize) -> u32
 }
 
 // Refusals 6 to 11, by the kind of the session; or 0.
-fn refuse_packet(dmpt: bool, sub: &[u8]) -> u32
+pub fn refuse_packet(dmpt: bool, sub: &[u8]) -> u32
     requires { ⌜ headerLength ≤ length (now sub) ⌝ }
     ensures { λ r. ⌜ r ≡ first (packetRefusals dmpt (now (sub .entry))) ⌝ }
 {
@@ -118,7 +118,7 @@ fn refuse_packet(dmpt: bool, sub: &[u8]) -> u32
 }
 
 // Judges the packet's number, where it has one.
-fn judge_packet(flow: Flow, sub: &[u8]) -> Judged
+pub fn judge_packet(flow: Flow, sub: &[u8]) -> Judged
     requires { ⌜ headerLength ≤ length (now sub) ⌝ }
     ensures { λ r. ⌜ r ≡ judgedOf flow (now (sub .entry)) ⌝ }
 {
@@ -141,7 +141,7 @@ pub fn place_of(row: usize, k: usize) -> usize
 }
 
 // Carries out what becomes of the bytes of an accepted packet.
-fn place_packet(
+pub fn place_packet(
     dmpt: bool,
     holding: &mut [u8],
     place: usize,

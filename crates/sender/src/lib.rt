@@ -40,6 +40,7 @@ const LEAST_ROOM: usize = psp::ENTRY_WIDTH + 1;
 const ENTRIES_AT: usize = header::ID_LENGTH + header::HEADER_LENGTH;
 
 // The next byte to send is byte `offset` of frame `frame`, both counted from 0. Behind the last frame it is (count, 0).
+#[repr(C)] // it crosses to the host program as it is
 pub struct Position {
     pub frame: usize,
     pub offset: usize,
@@ -47,6 +48,7 @@ pub struct Position {
 
 // What a call answers: 0 or the refusal's number, the packet's length, the next position and the next sequence number. Refused: length
 // 0, and the position and the number that were given.
+#[repr(C)] // it crosses to the host program as it is
 pub struct Sent {
     pub code: u32,
     pub length: usize,
