@@ -1,10 +1,30 @@
-/* The calls of the card's library that its host program, in C or C++, may make.
+/* The card's library, for its host program in C or C++: the packet check, the table of sessions, receiving
+ * packets and sending them, as document 01 defines it.
  *
- * The library is target/staticlib/libhost.a, made by `rt staticlib host`. It is for x86-64, and needs no other library.
+ * The library is target/staticlib/libhost.a, made by `rt staticlib host`. It is for x86-64, and needs no
+ * other library but the C library's memcpy, memmove and memset.
  *
- * Nothing compares this file with the library: each prototype here is a copy, by hand, of a
- * function in crates/host/src/lib.rt that is marked #[no_mangle] pub extern "C".
- * host/run builds the library, links it with a program that includes this file, and runs it. */
+ * Of every call it is proved:
+ *
+ * - It answers, whatever it is given: any numbers, any bytes, any lengths. Either it does its work and
+ *   answers SKLYAPINA_NONE, or it refuses with the one number of enum sklyapina_refusal that document 01
+ *   gives, and then nothing has changed: the table in the answer is the one that was passed, number by
+ *   number, and no element of any array was written.
+ * - It keeps nothing. What it knows is what it is passed. No pointer is kept when it returns, nothing is
+ *   allocated, nothing is printed, and there are no variables of its own: any number of threads may call
+ *   at once, each with arrays of its own.
+ * - It touches nothing but the arrays it is lent, and reads and writes only inside them.
+ *
+ * What the caller must see to, since no proof reaches into C:
+ *
+ * - An array is a pointer and a length, which counts elements and not bytes. Its elements can be read, or
+ *   written where the pointer is not to const, and they stay as they are while the call runs.
+ * - A pointer is never null, not even where the length is 0. For an array without elements pass the
+ *   address of any object of the element's type.
+ * - An array that a call may write overlaps no other array of that call.
+ *
+ * Nothing compares this file with the library's source, crates/host/src: each declaration here is a copy by
+ * hand. tests/calls and host/run link the two and compare what comes out. */
 #ifndef SKLYAPINA_H
 #define SKLYAPINA_H
 
@@ -15,62 +35,230 @@
 extern "C" {
 #endif
 
-/* What kind of session a packet is meant for. */
+/* The card in numbers. */
+enum {
+    SKLYAPINA_ROWS = 6,              /* sessions of a table */
+    SKLYAPINA_FLOWS = 4,             /* packet flows of a session */
+    SKLYAPINA_LONGEST_FRAME = 2048,  /* bytes of a frame at most, and so of a holding place */
+    SKLYAPINA_HOLDING_SIZE = 49152,  /* bytes of all holding places: 6 x 4 x 2,048 */
+    SKLYAPINA_MOST_BYTES = 6144,     /* the room that a data call asks for in the output */
+    SKLYAPINA_MOST_FRAMES = 127      /* .. and in the lengths */
+};
+
+/* What a session is, and what the packet check takes a packet for. */
 enum sklyapina_kind {
-    SKLYAPINA_KIND_PSP = 1,
-    SKLYAPINA_KIND_DMPT = 2
+    SKLYAPINA_KIND_CLOSED = 0, /* in tables only: no session */
+    SKLYAPINA_KIND_PSP = 1,    /* frames, whole or in segments */
+    SKLYAPINA_KIND_DMPT = 2    /* MPEG packets of 188 bytes */
 };
 
-/* Why a packet is refused, or that it is not. Where several causes hold, the answer is the
- * smallest of them; an unknown kind comes before them all. */
+/* Why a call is refused. Where several causes hold at once, each call says which comes first. */
 enum sklyapina_refusal {
-    /* nothing is refused: the packet is well formed */
+    /* nothing is refused */
     SKLYAPINA_NONE = 0,
-    /* fewer than 8 bytes: the session ID and the header behind it have 8 */
-    SKLYAPINA_PACKET_TOO_SHORT = 2,
-    /* more than 4,100 bytes */
-    SKLYAPINA_PACKET_TOO_LONG = 3,
-    /* the session ID is 0, which no data packet has */
-    SKLYAPINA_CONTROL_MESSAGE = 4,
-    /* the V bit is set, or either of the two H bits */
-    SKLYAPINA_HEADER_NOT_PLAIN = 6,
-    /* PSP: a flow ID of 4 to 7; D-MPT: any flow ID but 0 */
-    SKLYAPINA_FLOW_OUTSIDE = 7,
-    /* PSP alone: the S bit is clear, so that the packet bears no sequence number */
-    SKLYAPINA_NO_NUMBER = 8,
-    /* PSP: the header announces no segment; D-MPT: the packet ends with its header */
-    SKLYAPINA_NOTHING_CARRIED = 9,
-    /* PSP: header, segment table and the lengths in that table do not add up to the packet's
-     * length, or the packet ends inside the table; D-MPT: what follows the header is no
-     * multiple of 188 bytes */
+
+    /* The data call alone: one of the arrays it is lent is too short. */
+    SKLYAPINA_SLICE_TOO_SMALL = 1,
+
+    /* A packet, whatever its session. */
+    SKLYAPINA_PACKET_TOO_SHORT = 2, /* fewer than 8 bytes: the session ID and the header behind it have 8 */
+    SKLYAPINA_PACKET_TOO_LONG = 3,  /* more than 4,100 bytes */
+    SKLYAPINA_CONTROL_MESSAGE = 4,  /* the session ID is 0, which no data packet has */
+    SKLYAPINA_SESSION_NOT_OPEN = 5, /* no row of the table has this session open */
+
+    /* What follows the session ID. */
+    SKLYAPINA_HEADER_NOT_PLAIN = 6, /* the V bit is set, or either of the two H bits */
+    SKLYAPINA_FLOW_OUTSIDE = 7,     /* PSP: a flow ID of 4 to 7; D-MPT: any flow ID but 0 */
+    SKLYAPINA_NO_NUMBER = 8,        /* PSP: the S bit is clear, so the packet has no sequence number */
+    SKLYAPINA_NOTHING_CARRIED = 9,  /* PSP: no segment is announced; D-MPT: the packet ends with its header */
+    /* PSP: header, segment table and the lengths in it do not add up to the packet's length, or the packet ends
+     * inside the segment table; D-MPT: what follows the header is no multiple of 188 bytes */
     SKLYAPINA_LENGTHS_DISAGREE = 10,
-    /* PSP: a segment of no bytes, one after the first that does not begin a frame (B clear), or
-     * one before the last that does not end a frame (E clear); D-MPT: an MPEG packet whose first
-     * byte is not 0x47 */
+    /* PSP: a segment of no bytes, one after the first that does not begin a frame (B clear), or one before
+     * the last that does not end one (E clear); D-MPT: an MPEG packet that does not start with 0x47 */
     SKLYAPINA_CONTENT_SPOILT = 11,
-    /* the kind is neither SKLYAPINA_KIND_PSP nor SKLYAPINA_KIND_DMPT */
-    SKLYAPINA_KIND_UNKNOWN = 24
+    SKLYAPINA_LATE = 12, /* the sequence number lies 32,768 or more ahead of the expected one, modulo 65,536 */
+
+    /* The table is broken: see struct sklyapina_table. */
+    SKLYAPINA_TABLE_BROKEN = 13,
+
+    SKLYAPINA_SEGMENT_OUTSIDE = 14, /* the packet has no segment of this number */
+
+    /* An open or a close. */
+    SKLYAPINA_OPEN_WITHOUT_ID = 21, /* a session cannot have ID 0 */
+    SKLYAPINA_ALREADY_OPEN = 22,
+    SKLYAPINA_ALL_ROWS_OPEN = 23,
+    SKLYAPINA_KIND_UNKNOWN = 24,  /* an open or a packet check with a kind that is neither PSP nor D-MPT */
+    SKLYAPINA_CLOSE_OF_NONE = 25, /* this session is not open */
+
+    /* A send. */
+    SKLYAPINA_ADDRESS_OUTSIDE = 31,  /* session ID 0, or a flow above 3 */
+    SKLYAPINA_LIMIT_OUTSIDE = 32,    /* a limit below 16 or above 4,096 */
+    /* more than 127 frames, a frame of no bytes or of more than 2,048, or lengths that do not add up to the bytes */
+    SKLYAPINA_FRAMES_UNSOUND = 33,
+    SKLYAPINA_POSITION_OUTSIDE = 34, /* a position that is in no frame, nor behind the last */
+    SKLYAPINA_NOTHING_LEFT = 35,     /* the position is behind the last frame */
+    SKLYAPINA_OUTPUT_TOO_SMALL = 36  /* fewer bytes than the limit and the session ID's 4 */
 };
 
-/* The packet check: is this packet well formed for a session of this kind? It knows no table of
- * sessions, so it says nothing of whether the session is open or the packet late.
+/* The table of sessions: six rows, each with four flows. All zeros is the table without a session, so
+ * `struct sklyapina_table table = { 0 };` is how a card starts (in C++ `{}`).
  *
- * kind    a number of enum sklyapina_kind; any other number is answered, by 24
- * packet  the packet, from the first byte of its session ID: without the IP header before it. Never
- *         a null pointer, not even where length is 0: the library takes a slice, and a slice is
- *         never null. For an empty packet, pass the address of any byte
- * length  how many bytes may be read from packet on; 0 and lengths above 4,100 are answered too
+ * The caller keeps the table, and hands it to each call that asks for it; the answer has the table
+ * afterwards, which takes its place. Nobody needs to write in it. Whoever does is found out by rule 13 wherever
+ * no call of this library could have left what stands there: an open row with ID 0; an ID open in two rows; a closed row
+ * that is not all zeros; a flow that holds more than 2,048 bytes; a flow that heard nothing and yet expects a
+ * number other than 0 or holds bytes; a D-MPT row that holds bytes, or of which another flow than 0 heard
+ * something; a kind above 2 or a mark above 1. Such a table is refused as a whole, and never trusted. */
+struct sklyapina_table {
+    uint32_t id[SKLYAPINA_ROWS];   /* the session's ID; 0 in a closed row */
+    uint32_t kind[SKLYAPINA_ROWS]; /* enum sklyapina_kind */
+    uint16_t heard[SKLYAPINA_ROWS][SKLYAPINA_FLOWS];    /* 1 if the flow accepted a number since it was opened, or 0 */
+    uint16_t expected[SKLYAPINA_ROWS][SKLYAPINA_FLOWS]; /* the sequence number that should come next */
+    uint16_t held[SKLYAPINA_ROWS][SKLYAPINA_FLOWS];     /* bytes of an unfinished frame in the flow's place */
+};
+
+/* Is this packet well formed for a session of this kind? It knows no table, so it says nothing of
+ * whether the session is open or the packet late.
  *
- * Answers a number of enum sklyapina_refusal: 24 for another kind, else the first of 2, 3, 4 and
- * 6 to 11 that applies, else 0. The answer depends on nothing but kind and the bytes.
+ * kind    SKLYAPINA_KIND_PSP or SKLYAPINA_KIND_DMPT
+ * packet  the packet, from the first byte of its session ID: without the IP header before it
  *
- * It keeps no pointer once it has returned, writes nothing and allocates nothing, and it has no
- * state: several threads may call it at once. It looks at no more than 127 segment entries or 21
- * MPEG packets. The bytes must not change while it runs. */
-uint32_t sklyapina_check(uint32_t kind, const uint8_t *packet, size_t length);
+ * Answers 24 for any other kind, else the first of 2, 3, 4 and 6 to 11 that applies, else 0. It writes
+ * nothing. */
+uint32_t sklyapina_check(uint32_t kind, const uint8_t *packet, size_t packet_length);
+
+/* Why segment k of a PSP packet, counted from 0, cannot be had: the number of the PSP check, else 14 where the
+ * packet has no segment k, else 0. It writes nothing. */
+uint32_t sklyapina_segment_cause(const uint8_t *packet, size_t packet_length, size_t k);
+
+/* Where segment k of a PSP packet stands in it: its bytes are packet[place] to packet[place + length - 1].
+ * Where sklyapina_segment_cause answers another number than 0, place and length are 0. It writes nothing. */
+struct sklyapina_stretch {
+    size_t place;
+    size_t length;
+};
+
+struct sklyapina_stretch sklyapina_segment(const uint8_t *packet, size_t packet_length, size_t k);
+
+/* Opens a session in the lowest closed row, with all its flows fresh: the first packet of each is accepted
+ * whatever its number.
+ *
+ * Answers the first of 24, 13, 21, 22 and 23 that applies, or 0, and the table afterwards. It is not given
+ * the holding places, so they stay as they are. */
+struct sklyapina_opening {
+    uint32_t code;
+    struct sklyapina_table table;
+};
+
+struct sklyapina_opening sklyapina_open(struct sklyapina_table table, uint32_t id, uint32_t kind);
+
+/* Closes a session: its row is all zeros then, and what its flows held is dropped, which `dropped` counts.
+ *
+ * Answers 13, or 25 where the session is not open, or 0, and the table afterwards. It is not given the
+ * holding places: the bytes in them stay, and no later call looks at them. */
+struct sklyapina_closing {
+    uint32_t code;
+    uint32_t dropped;
+    struct sklyapina_table table;
+};
+
+struct sklyapina_closing sklyapina_close(struct sklyapina_table table, uint32_t id);
+
+/* Takes a packet: delivers the frames that it completes, and holds what is left without its end until the
+ * flow's next packet.
+ *
+ * holding  the holding places, 49,152 bytes or more. The place of flow k in row r starts at
+ *          (4 x r + k) x 2,048. They belong to the table: one table, one array of places, from the first call
+ *          to the last. They need not be cleared
+ * packet   the packet, from the first byte of its session ID
+ * output   6,144 bytes or more. The frames are written to its front, back to back
+ * lengths  127 elements or more. The lengths of the frames are written to its front
+ *
+ * Answers the first of 1, 13, 2 to 5, 6 to 11 and 12 that applies, or 0. Then
+ *
+ * frames   how many frames were delivered: so many elements of lengths were written
+ * bytes    how long they are together: so many bytes of output were written
+ * dropped  how many bytes, of this packet or held from earlier ones, will never be delivered
+ * gap      how many packets are missing before this one, by its sequence number
+ * table    the table afterwards: one flow has changed
+ *
+ * and in holding only the place of that flow was written, no more of it than the flow holds now. Refused:
+ * all counts are 0, and table and arrays are as they were. */
+struct sklyapina_received {
+    uint32_t code;
+    uint32_t frames;
+    uint32_t bytes;
+    uint32_t dropped;
+    uint32_t gap;
+    struct sklyapina_table table;
+};
+
+struct sklyapina_received sklyapina_receive(struct sklyapina_table table,
+                                            uint8_t *holding, size_t holding_length,
+                                            const uint8_t *packet, size_t packet_length,
+                                            uint8_t *output, size_t output_length,
+                                            uint16_t *lengths, size_t lengths_length);
+
+/* Where a sender stands in its frames: the next byte to send is byte `offset` of frame `frame`, both counted
+ * from 0. { 0, 0 } is the beginning, and { number of frames, 0 } the end. */
+struct sklyapina_position {
+    size_t frame;
+    size_t offset;
+};
+
+/* Writes the next PSP packet of these frames for one flow of a session.
+ *
+ * session  the session ID, not 0
+ * flow     0 to 3
+ * number   the packet's sequence number
+ * limit    how many bytes may follow the session ID: 16 to 4,096
+ * frames   the frames back to back, and lengths the length of each: at most 127 frames, of 1 to 2,048 bytes each
+ * output   limit + 4 bytes or more; the packet is written to its front
+ *
+ * Answers the first of 31 to 36 that applies, or 0. Then `length` is the packet's length, and `position` and
+ * `number` are those of the next call; the frames are all sent when that call answers 35. Refused: length is 0,
+ * position and number are those that were passed, and output is as it was. */
+struct sklyapina_sent {
+    uint32_t code;
+    size_t length;
+    struct sklyapina_position position;
+    uint16_t number;
+};
+
+struct sklyapina_sent sklyapina_send(uint32_t session, size_t flow, uint16_t number, size_t limit,
+                                     const uint8_t *frames, size_t frames_length,
+                                     const uint16_t *lengths, size_t lengths_length,
+                                     struct sklyapina_position position,
+                                     uint8_t *output, size_t output_length);
 
 #ifdef __cplusplus
 }
+#define SKLYAPINA_ASSERT static_assert
+#else
+#define SKLYAPINA_ASSERT _Static_assert
 #endif
+
+/* The library was compiled for these sizes and places. */
+SKLYAPINA_ASSERT(sizeof(size_t) == 8, "the library is for 64-bit machines");
+SKLYAPINA_ASSERT(sizeof(struct sklyapina_table) == 192, "table");
+SKLYAPINA_ASSERT(offsetof(struct sklyapina_table, kind) == 24, "table");
+SKLYAPINA_ASSERT(offsetof(struct sklyapina_table, heard) == 48, "table");
+SKLYAPINA_ASSERT(offsetof(struct sklyapina_table, expected) == 96, "table");
+SKLYAPINA_ASSERT(offsetof(struct sklyapina_table, held) == 144, "table");
+SKLYAPINA_ASSERT(sizeof(struct sklyapina_opening) == 196, "opening");
+SKLYAPINA_ASSERT(offsetof(struct sklyapina_opening, table) == 4, "opening");
+SKLYAPINA_ASSERT(sizeof(struct sklyapina_closing) == 200, "closing");
+SKLYAPINA_ASSERT(offsetof(struct sklyapina_closing, table) == 8, "closing");
+SKLYAPINA_ASSERT(sizeof(struct sklyapina_received) == 212, "received");
+SKLYAPINA_ASSERT(offsetof(struct sklyapina_received, gap) == 16, "received");
+SKLYAPINA_ASSERT(offsetof(struct sklyapina_received, table) == 20, "received");
+SKLYAPINA_ASSERT(sizeof(struct sklyapina_position) == 16, "position");
+SKLYAPINA_ASSERT(sizeof(struct sklyapina_stretch) == 16, "stretch");
+SKLYAPINA_ASSERT(sizeof(struct sklyapina_sent) == 40, "sent");
+SKLYAPINA_ASSERT(offsetof(struct sklyapina_sent, length) == 8, "sent");
+SKLYAPINA_ASSERT(offsetof(struct sklyapina_sent, position) == 16, "sent");
+SKLYAPINA_ASSERT(offsetof(struct sklyapina_sent, number) == 32, "sent");
+#undef SKLYAPINA_ASSERT
 
 #endif
