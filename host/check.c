@@ -2,10 +2,7 @@
  * kind that there is not, and as PSP with the last byte cut off. Prints the four answers, and ends
  * with status 0 only where they are the right ones. host/run builds and runs it. */
 #include "sklyapina.h"
-
-/* The declaration of stdio.h, written out as C11 7.1.4 allows: on Arm this program is compiled for
- * another machine, x86-64, whose C library's headers are not there. */
-int printf(const char *restrict format, ...);
+#include "standard.h"
 
 /* Byte 4 is 0x41: S set, flow 1. Two segments, of 6 and 2 bytes: 8 + 2 x 2 + 6 + 2 is 20 bytes. */
 static const uint8_t packet_a[20] = {
