@@ -3,7 +3,7 @@
 //! Document 01, 'The card in numbers' and 'Opening, closing, listening'. The paper keeps the table as six rows of four
 //! flows and the held bytes in a slice of places. Here a session is found by its ID in a map, knows its row, and each
 //! flow owns the bytes that it holds, so places cannot overlap; the row is only there to be printed. Refusals 1 and 13
-//! do not exist here: the slices are always long enough and the table cannot be broken.
+//! do not exist here: the slices are always long enough and the table cannot be broken. `raw` and `calls` have them.
 
 use std::collections::BTreeMap;
 
@@ -58,6 +58,11 @@ impl Card {
     /// A card with an empty table.
     pub fn new(faults: Faults) -> Card {
         Card { sessions: BTreeMap::new(), closed: BTreeMap::new(), faults }
+    }
+
+    /// A card with these sessions open, by ID, each in a row of its own.
+    pub fn with_sessions(sessions: BTreeMap<u32, Session>, faults: Faults) -> Card {
+        Card { sessions, ..Card::new(faults) }
     }
 
     /// The open sessions with their IDs, in the order of their rows.

@@ -1,9 +1,10 @@
 //! Deliberate faults: ways to make this program wrong in one place.
 //!
 //! A comparison is worth as much as the faults it finds. Each fault here is asked for by name (`--fault NAME`) and
-//! consulted at the one place in the code that it spoils; `tests/faults` demands that the comparison finds every one.
-//! Several of them are document 01's 'Wrong turns', others are limits off by one, refusals in a wrong order, and rules
-//! left out.
+//! consulted at the one place in the code that it spoils. `tests/faults` demands that the comparison on captures and
+//! frames files finds every one that these can show, `tests/calls` that the comparison from C finds those that calls can
+//! show. Several of them are document 01's 'Wrong turns', others are limits off by one, refusals in a wrong order, and
+//! rules left out.
 
 /// One deliberate fault.
 #[derive(Clone, Copy, Debug, PartialEq, Eq)]
@@ -54,10 +55,34 @@ pub enum Fault {
     EveryCutBegins,
     SentNumberNotWrapped,
     LongestSentFrameRefused,
+    // Tables in plain numbers.
+    ForeignKindTrusted,
+    ForeignMarkTrusted,
+    TwinsTrusted,
+    ClosedRowUnjudged,
+    FullPlaceBroken,
+    FreshNumberTrusted,
+    DmptFlowsTrusted,
+    // Calls with slices of the caller's.
+    KindAfterBroken,
+    BrokenBeforeSlices,
+    ShortHoldingTaken,
+    LateClearsHeld,
+    LateCounted,
+    ExpectedUnmoved,
+    HeldOnePlaceTooFar,
+    OutputAfterLastCleared,
+    LengthAfterLastCleared,
+    SegmentAtCountGiven,
+    SegmentPlacedInBodies,
+    LeftoverFrameBytesSent,
+    OffsetAtEndIsEnd,
+    ShortOutputSent,
+    RefusedSendMovesNumber,
 }
 
-/// Every fault with its name and a sentence on what it does.
-pub const ALL: [(Fault, &str, &str); 41] = [
+/// The faults that captures and frames files can show, each with its name and a sentence on what it does.
+pub const FILES: [(Fault, &str, &str); 41] = [
     (Fault::LongestPacketRefused, "longest-packet-refused", "A packet of 4,100 bytes is refused as too long."),
     (
         Fault::SessionZeroLookedUp,
@@ -121,6 +146,51 @@ pub const ALL: [(Fault, &str, &str); 41] = [
     (Fault::LongestSentFrameRefused, "longest-sent-refused", "The sender refuses a frame of 2,048 bytes."),
 ];
 
+/// The faults that only calls can show, with tables, slices and positions of the caller's.
+pub const CALLS: [(Fault, &str, &str); 22] = [
+    (Fault::ForeignKindTrusted, "foreign-kind-trusted", "A row of a kind above 2 is taken for an open PSP row."),
+    (Fault::ForeignMarkTrusted, "foreign-mark-trusted", "A flow's mark above 1 is taken for 1."),
+    (Fault::TwinsTrusted, "twins-trusted", "An open ID may stand in two rows."),
+    (Fault::ClosedRowUnjudged, "closed-row-unjudged", "A closed row may have something in it."),
+    (Fault::FullPlaceBroken, "full-place-broken", "A flow that holds 2,048 bytes makes a table broken."),
+    (Fault::FreshNumberTrusted, "fresh-number-trusted", "A fresh flow may have an expected number."),
+    (Fault::DmptFlowsTrusted, "dmpt-flows-trusted", "Flows 1 to 3 of a D-MPT row need not be fresh."),
+    (Fault::KindAfterBroken, "kind-after-broken", "An open gives refusal 13 before refusal 24."),
+    (Fault::BrokenBeforeSlices, "broken-before-slices", "The data call gives refusal 13 before refusal 1."),
+    (Fault::ShortHoldingTaken, "short-holding-taken", "A holding slice of 49,151 bytes is taken."),
+    (Fault::LateClearsHeld, "late-clears-held", "A late packet makes its session hold nothing."),
+    (Fault::LateCounted, "late-counted", "The bytes of a late packet are reported as dropped."),
+    (Fault::ExpectedUnmoved, "expected-unmoved", "The table that comes back expects the numbers that it came with."),
+    (Fault::HeldOnePlaceTooFar, "held-one-place-too-far", "Held bytes are written into the place after their own."),
+    (Fault::OutputAfterLastCleared, "output-after-last-cleared", "The byte after the last frame is set to 0."),
+    (Fault::LengthAfterLastCleared, "length-after-last-cleared", "The length after the last frame's is set to 0."),
+    (Fault::SegmentAtCountGiven, "segment-at-count-given", "Segment k is given, empty, where k is the count."),
+    (
+        Fault::SegmentPlacedInBodies,
+        "segment-placed-in-bodies",
+        "A segment's place is counted from the first body byte.",
+    ),
+    (Fault::LeftoverFrameBytesSent, "leftover-frame-bytes-sent", "Frames are sent though bytes are left over."),
+    (Fault::OffsetAtEndIsEnd, "offset-at-end-is-end", "A position after all frames may have any offset."),
+    (Fault::ShortOutputSent, "short-output-sent", "An output that the packet fits into is enough, whatever L is."),
+    (Fault::RefusedSendMovesNumber, "refused-send-moves-number", "A refused send answers the next number."),
+];
+
+/// The faults that no call shows: those of capture files, and one that needs a memory beside the table.
+const NO_CALL_SHOWS: [Fault; 6] = [
+    Fault::ShortBeforeTooMany,
+    Fault::FillBeforeKind,
+    Fault::SecondByteUnjudged,
+    Fault::LeftoverAccepted,
+    Fault::LongestFileRefused,
+    Fault::ReopenKeepsFlows,
+];
+
+/// The faults that calls can show.
+pub fn shown_by_calls() -> impl Iterator<Item = (Fault, &'static str, &'static str)> {
+    FILES.into_iter().chain(CALLS).filter(|(fault, _, _)| !NO_CALL_SHOWS.contains(fault))
+}
+
 /// The fault in force, if any. Every part of the program that a fault can spoil is given this and asks it.
 #[derive(Clone, Copy, Debug)]
 pub struct Faults(Option<Fault>);
@@ -134,6 +204,6 @@ impl Faults {
 
     /// The fault of the name given.
     pub fn named(name: &str) -> Option<Faults> {
-        ALL.iter().find(|(_, known, _)| *known == name).map(|(fault, _, _)| Faults(Some(*fault)))
+        FILES.iter().chain(&CALLS).find(|(_, known, _)| *known == name).map(|(fault, _, _)| Faults(Some(*fault)))
     }
 }

@@ -2,8 +2,13 @@
 //!
 //! This file has the commands. What they do stands in the modules: `packet` and `card` receive, `sender` sends,
 //! `capture` reads and writes files, `listing` prints; `directed`, `generate`, `sends` and `plan` make what is compared,
-//! `compare` compares it, `packets` asks for the packet check alone, and `faults` makes this program wrong on purpose.
+//! `compare` compares it. `calls` answers as the C library does, on tables of `raw`; `call_cases` and `call_dice`, with
+//! `packets`, `tables` and `aimed`, make calls, and `records` writes them. `faults` makes this program wrong on purpose.
 
+mod aimed;
+mod call_cases;
+mod call_dice;
+mod calls;
 mod capture;
 mod card;
 mod compare;
@@ -16,8 +21,11 @@ mod listing;
 mod packet;
 mod packets;
 mod plan;
+mod raw;
+mod records;
 mod sender;
 mod sends;
+mod tables;
 
 use std::fs;
 use std::io::{self, Read, Write};
@@ -25,11 +33,11 @@ use std::path::Path;
 use std::process::ExitCode;
 
 use compare::{Outcome, Setup};
-use faults::Faults;
+use faults::{Fault, Faults};
 use listing::Detail;
 use packet::Refusal;
-use packets::Record;
 use plan::{Job, Plan};
+use records::{Recorded, Recorder, Stop};
 use sender::Order;
 
 const USAGE: &str = "\
@@ -37,11 +45,11 @@ second list < CAPTURE
 second trace < CAPTURE
 second check KIND < PACKET
 second send SESSION FLOW NUMBER L < FRAMES > CAPTURE
-second packets SEED COUNT > RECORDS
-second verdicts [--fault NAME] < RECORDS
+second calls [--fault NAME] SEED COUNT > RECORDS
 second generate SEED COUNT FOLDER
 second compare [--fault NAME] --list COMMAND --trace COMMAND --send COMMAND SEED COUNT
-second faults";
+second faults files
+second faults calls";
 
 /// Status for a comparison that found a difference, or missed a refusal number. A refusal alone is an answer: status 0.
 const DIFFERENT: u8 = 1;
@@ -71,11 +79,11 @@ fn run(words: &[String]) -> io::Result<u8> {
             number: number(first)?,
             limit: number(limit)?,
         }),
-        ["packets", seed, count] => packets(number(seed)?, number(count)?),
-        ["verdicts", rest @ ..] => verdicts(rest),
+        ["calls", rest @ ..] => calls(rest),
         ["generate", seed, count, folder] => generate(number(seed)?, number(count)?, Path::new(folder)),
         ["compare", rest @ ..] => compare(rest),
-        ["faults"] => list_faults(),
+        ["faults", "files"] => list_faults(faults::FILES.into_iter()),
+        ["faults", "calls"] => list_faults(faults::shown_by_calls()),
         _ => Err(unusable(USAGE)),
     }
 }
@@ -119,25 +127,35 @@ fn send(order: Order) -> io::Result<u8> {
     }
 }
 
-/// Writes records for `verdicts` and for the proved check.
-fn packets(seed: u64, count: usize) -> io::Result<u8> {
-    let mut output = io::BufWriter::new(io::stdout().lock());
-    for record in packets::records(seed, count) {
-        output.write_all(&record.write())?;
-    }
-    output.flush()?;
-    Ok(0)
-}
-
-fn verdicts(words: &[&str]) -> io::Result<u8> {
+/// Writes records of calls for `tests/calls.c`: the directed ones, then others by dice.
+fn calls(words: &[&str]) -> io::Result<u8> {
     let mut words = words.to_vec();
     let faults = faults_named(take_option(&mut words, "--fault"))?;
-    if !words.is_empty() {
+    let [seed, count] = words.as_slice() else {
         return Err(unusable(USAGE));
+    };
+    let mut output = io::BufWriter::with_capacity(1 << 16, io::stdout().lock());
+    match record_calls(&mut output, number(seed)?, number(count)?, faults) {
+        // Who reads the records has seen a difference, and needs no more.
+        Err(error) if error.kind() == io::ErrorKind::BrokenPipe => Ok(0),
+        recorded => recorded.map(|()| 0),
     }
-    let records = Record::read_all(&standard_input()?).ok_or_else(|| unusable("the records end inside one"))?;
-    io::stdout().lock().write_all(packets::verdicts(&records, faults).as_bytes())?;
-    Ok(0)
+}
+
+fn record_calls(output: &mut dyn Write, seed: u64, count: usize, faults: Faults) -> io::Result<()> {
+    let record = |recorder: &mut Recorder| -> Recorded<()> {
+        call_cases::all(recorder)?;
+        call_dice::endless(recorder, seed)
+    };
+    let mut recorder = match Recorder::new(output, count, faults) {
+        Ok(recorder) => recorder,
+        Err(Stop::Failed(error)) => return Err(error),
+        Err(Stop::Enough) => return Ok(()),
+    };
+    match record(&mut recorder) {
+        Err(Stop::Failed(error)) => Err(error),
+        Err(Stop::Enough) | Ok(()) => recorder.end(),
+    }
 }
 
 /// Writes the captures and frames files that a comparison of this seed and count uses.
@@ -207,8 +225,8 @@ fn take_option<'a>(words: &mut Vec<&'a str>, option: &str) -> Option<&'a str> {
     Some(words.remove(place))
 }
 
-fn list_faults() -> io::Result<u8> {
-    for (_, name, sentence) in faults::ALL {
+fn list_faults(faults: impl Iterator<Item = (Fault, &'static str, &'static str)>) -> io::Result<u8> {
+    for (_, name, sentence) in faults {
         println!("{name}: {sentence}");
     }
     Ok(0)

@@ -231,6 +231,24 @@ pub fn check(kind_number: u64, packet: &[u8], faults: Faults) -> u8 {
     }
 }
 
+/// Segment k of a packet, by its place in the packet and its length: refused as the PSP check refuses the packet, or
+/// with 14 where there is no segment k.
+pub fn segment(packet: &[u8], k: u64, faults: Faults) -> Result<(usize, usize), Refusal> {
+    let header = read_header(packet, faults)?;
+    let Body::Segments(segments) = read_body(Kind::Psp, &header, packet, faults)? else {
+        unreachable!("a PSP packet has segments");
+    };
+    let count = segments.len();
+    let k = usize::try_from(k).unwrap_or(usize::MAX);
+    let Some(segment) = segments.get(k) else {
+        let given = faults.has(Fault::SegmentAtCountGiven) && k == count;
+        return if given { Ok((packet.len(), 0)) } else { Err(Refusal(14)) };
+    };
+    let table_end = if faults.has(Fault::SegmentPlacedInBodies) { 0 } else { HEADER_BYTES + 2 * count };
+    let before: usize = segments[..k].iter().map(|segment| segment.bytes.len()).sum();
+    Ok((table_end + before, segment.bytes.len()))
+}
+
 #[cfg(test)]
 pub mod samples {
     //! Packets A and B of document 01, 'Capture file and listing'.
@@ -271,6 +289,14 @@ mod tests {
         assert_eq!(check(2, &A, Faults::NONE), 7);
         assert_eq!(check(0, &A, Faults::NONE), 24);
         assert_eq!(check(3, &[], Faults::NONE), 24);
+    }
+
+    #[test]
+    fn segments_are_given_by_place_and_length() {
+        let asked = |packet: &[u8], k: u64| segment(packet, k, Faults::NONE);
+        assert_eq!((asked(&A, 0), asked(&A, 1)), (Ok((12, 6)), Ok((18, 2))));
+        assert_eq!((asked(&A, 2), asked(&A, u64::MAX)), (Err(Refusal(14)), Err(Refusal(14))));
+        assert_eq!((asked(&A[..19], 0), asked(&A[..7], 9)), (Err(Refusal(10)), Err(Refusal(2))));
     }
 
     #[test]

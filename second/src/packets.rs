@@ -1,26 +1,21 @@
 //! Packets for the packet check without a table, each together with the kind that it is asked as.
 //!
-//! Document 01, 'Refusal numbers': the card's host program gives a kind and bytes, and is answered by a number. Records
-//! carry both to the proved check and to this program's (`tests/check`): the kind (4 bytes), the packet's length (4
-//! bytes), the packet. Directed packets come first and do not depend on the seed; they are those of the directed
-//! captures and, here, each place of the longest tables and packets. Then dice make sound packets of both kinds, and
-//! damage most of them.
+//! Document 01, 'Refusal numbers': the card's host program gives a kind and bytes, and is answered by a number.
+//! `tests/calls` puts these questions to the proved check and to this program's. Directed packets do not depend on a
+//! seed; they are those of the directed captures and, here, each place of the longest tables and packets. Then dice make
+//! sound packets of both kinds, and damage most of them.
 
 use crate::craft::{dmpt, header, psp, psp_with, BEGIN, END, S, WHOLE};
 use crate::dice::Dice;
 use crate::directed;
-use crate::faults::Faults;
 use crate::generate::{damage_packet, flip_bits};
-use crate::packet::{self, big_endian, Kind, HEADER_BYTES, LONGEST_PACKET, MPEG_BYTES, MPEG_SYNC};
+use crate::packet::{Kind, HEADER_BYTES, LONGEST_PACKET, MPEG_BYTES, MPEG_SYNC};
+use crate::raw::{DMPT, PSP};
 
 const MOST_SEGMENTS: usize = 127;
 const MOST_MPEG_PACKETS: usize = 21;
 const SESSION: u32 = 0x0000_0101;
-/// The bytes of a kind, and those of a length.
-const NUMBER_BYTES: usize = 4;
 
-const PSP: u32 = 1;
-const DMPT: u32 = 2;
 /// Kinds that there are not; 257, 65,538 and 2^31 + 1 would be 1 or 2 to who reads only some of the bits.
 const OTHER_KINDS: [u32; 8] = [0, 3, 255, 257, 65_538, 1 << 31, (1 << 31) + 1, u32::MAX];
 /// One packet in so many is asked as one of them.
@@ -28,50 +23,26 @@ const PACKETS_PER_OTHER_KIND: usize = 6;
 
 /// A question to the packet check.
 #[derive(Clone, Debug, PartialEq, Eq)]
-pub struct Record {
+pub struct Question {
     pub kind: u32,
     pub packet: Vec<u8>,
 }
 
-impl Record {
-    pub fn write(&self) -> Vec<u8> {
-        let mut bytes = self.kind.to_be_bytes().to_vec();
-        bytes.extend((self.packet.len() as u32).to_be_bytes());
-        bytes.extend(&self.packet);
-        bytes
-    }
-
-    /// Cuts bytes into records; None where they end inside one.
-    pub fn read_all(mut bytes: &[u8]) -> Option<Vec<Record>> {
-        let mut records = Vec::new();
-        while !bytes.is_empty() {
-            let (kind, rest) = bytes.split_at_checked(NUMBER_BYTES)?;
-            let (length, rest) = rest.split_at_checked(NUMBER_BYTES)?;
-            let (packet, rest) = rest.split_at_checked(big_endian(length) as usize)?;
-            records.push(Record { kind: big_endian(kind), packet: packet.to_vec() });
-            bytes = rest;
-        }
-        Some(records)
-    }
-}
-
-/// The answers of this program's packet check, a line for each record.
-pub fn verdicts(records: &[Record], faults: Faults) -> String {
-    let verdict = |record: &Record| packet::check(u64::from(record.kind), &record.packet, faults);
-    records.iter().map(|record| format!("{}\n", verdict(record))).collect()
-}
-
-/// The first `count` records of a seed.
-pub fn records(seed: u64, count: usize) -> impl Iterator<Item = Record> {
+/// All directed questions; the first ones show every answer.
+pub fn directed() -> impl Iterator<Item = Question> {
     let every_kind = [&[PSP, DMPT], OTHER_KINDS.as_slice()].concat();
     let first = one_of_each().into_iter().flat_map(move |packet| asked_as(&every_kind, packet));
-    let packets = directed_packets().into_iter().chain((0..).map(move |index| random_packet(seed, index)));
-    let others = packets.enumerate().flat_map(|(place, packet)| asked_as(&kinds_in_place(place), packet));
-    first.chain(others).take(count)
+    let packets = directed_packets().into_iter().enumerate();
+    first.chain(packets.flat_map(|(place, packet)| asked_as(&kinds_in_place(place), packet)))
 }
 
-fn asked_as(kinds: &[u32], packet: Vec<u8>) -> Vec<Record> {
-    kinds.iter().map(|kind| Record { kind: *kind, packet: packet.clone() }).collect()
+/// The questions of that index.
+pub fn random(seed: u64, index: u64) -> Vec<Question> {
+    asked_as(&kinds_in_place(index as usize), random_packet(seed, index))
+}
+
+fn asked_as(kinds: &[u32], packet: Vec<u8>) -> Vec<Question> {
+    kinds.iter().map(|kind| Question { kind: *kind, packet: packet.clone() }).collect()
 }
 
 /// PSP and D-MPT for every packet, another kind for some.
@@ -314,24 +285,19 @@ fn damage_layout(dice: &mut Dice, kind: Kind, packet: &mut [u8]) {
 #[cfg(test)]
 mod tests {
     use super::*;
+    use crate::faults::Faults;
+    use crate::packet;
     use std::collections::BTreeSet;
 
-    #[test]
-    fn records_are_read_as_they_were_written() {
-        let all: Vec<Record> = records(1, 300).collect();
-        let bytes: Vec<u8> = all.iter().flat_map(Record::write).collect();
-        assert_eq!(Record::read_all(&bytes), Some(all));
-        assert_eq!(Record::read_all(&bytes[..bytes.len() - 1]), None);
-        assert_eq!(Record::read_all(&[0; 7]), None);
-        assert_eq!(Record::read_all(&[]), Some(Vec::new()));
+    fn answer(kind: u32, packet: &[u8]) -> u8 {
+        packet::check(u64::from(kind), packet, Faults::NONE)
     }
 
     #[test]
-    fn the_first_packets_show_every_answer() {
-        let expected = ["0", "2", "3", "4", "6", "7", "8", "9", "10", "11", "24"];
+    fn the_first_questions_show_every_answer() {
         let first = one_of_each().len() * (2 + OTHER_KINDS.len());
-        let text = verdicts(&records(1, first).collect::<Vec<_>>(), Faults::NONE);
-        assert_eq!(text.lines().collect::<BTreeSet<_>>(), expected.into());
+        let answers = directed().take(first).map(|question| answer(question.kind, &question.packet));
+        assert_eq!(answers.collect::<BTreeSet<_>>(), [0, 2, 3, 4, 6, 7, 8, 9, 10, 11, 24].into());
     }
 
     #[test]
@@ -339,15 +305,13 @@ mod tests {
         let mut dice = Dice::new(5);
         for kind in [Kind::Psp, Kind::Dmpt].into_iter().cycle().take(2_000) {
             let packet = sound_packet(&mut dice, kind);
-            assert_eq!(packet::check(u64::from(kind.number()), &packet, Faults::NONE), 0);
+            assert_eq!(answer(u32::from(kind.number()), &packet), 0);
         }
     }
 
     #[test]
     fn the_longest_tables_have_the_answers_that_they_are_there_for() {
-        let answers = |packets: Vec<Vec<u8>>| -> Vec<u8> {
-            packets.iter().map(|packet| packet::check(u64::from(PSP), packet, Faults::NONE)).collect()
-        };
+        let answers = |packets: Vec<Vec<u8>>| -> Vec<u8> { packets.iter().map(|packet| answer(PSP, packet)).collect() };
         assert!(answers(every_table_cut()).iter().all(|answer| *answer == 10));
         assert!(answers(every_length_off_by_one()).chunks(2).all(|pair| pair == [10, 0]));
         assert!(answers(every_segment_emptied()).iter().all(|answer| *answer == 11));

@@ -2,7 +2,7 @@
 //!
 //! Document 01, 'The sender'. The generator of captures uses it to make traffic, and `second send` to make a whole
 //! capture out of a file of frames, as `pspsend` does. Refusal 36, an output too short, does not exist here: a packet is
-//! a vector of the length that it needs.
+//! a vector of the length that it needs. `calls` has it.
 
 use crate::capture::{Capture, Entry};
 use crate::card::LONGEST_FRAME;
@@ -50,7 +50,7 @@ struct Cut<'a> {
 pub fn send(order: Order, frames: &[Vec<u8>], position: Position, faults: Faults) -> Result<Sent, Refusal> {
     check_order(order)?;
     check_frames(frames, faults)?;
-    check_position(frames, position)?;
+    check_position(frames, position, faults)?;
     let (cuts, next) = cut(order.limit, frames, position, faults);
     let number = if faults.has(Fault::SentNumberNotWrapped) {
         order.number.saturating_add(1)
@@ -61,7 +61,7 @@ pub fn send(order: Order, frames: &[Vec<u8>], position: Position, faults: Faults
 }
 
 /// Refusals 31 and 32.
-fn check_order(order: Order) -> Result<(), Refusal> {
+pub fn check_order(order: Order) -> Result<(), Refusal> {
     if order.session == 0 || order.flow > HIGHEST_FLOW {
         return Err(Refusal(31));
     }
@@ -82,10 +82,11 @@ fn check_frames(frames: &[Vec<u8>], faults: Faults) -> Result<(), Refusal> {
 }
 
 /// Refusals 34 and 35.
-fn check_position(frames: &[Vec<u8>], position: Position) -> Result<(), Refusal> {
+fn check_position(frames: &[Vec<u8>], position: Position, faults: Faults) -> Result<(), Refusal> {
+    let end_has_offset = position.offset != 0 && !faults.has(Fault::OffsetAtEndIsEnd);
     match frames.get(position.frame) {
         Some(frame) if position.offset < frame.len() => Ok(()),
-        None if position.frame == frames.len() && position.offset == 0 => Err(Refusal(35)),
+        None if position.frame == frames.len() && !end_has_offset => Err(Refusal(35)),
         _ => Err(Refusal(34)),
     }
 }

@@ -1,0 +1,355 @@
+//! The calls of the card's library as its host program makes them, answered by this program.
+//!
+//! Document 01, 'Opening, closing, listening', 'Refusal numbers' and 'The sender'. A caller brings tables in plain
+//! numbers, slices of any length and positions; so refusals 1, 13, 14, 24, 34 and 36 exist here. What a call writes is
+//! told as changes: everything else has to stay as it was. The answers themselves come from `card`, `packet`, `sender`
+//! and `raw`.
+
+use crate::card::{Card, FLOWS, LONGEST_FRAME, ROWS};
+use crate::faults::{Fault, Faults};
+use crate::packet::{self, big_endian, Kind, Refusal};
+use crate::raw::{place, RawTable};
+use crate::sender::{self, Order, Position, MOST_FRAMES};
+
+pub const HOLDING_BYTES: usize = ROWS * FLOWS * LONGEST_FRAME;
+pub const MOST_BYTES: usize = 6_144;
+
+/// An array that a caller lends to a call.
+#[derive(Clone, Copy, Debug, PartialEq, Eq)]
+pub enum Array {
+    Holding,
+    Packet,
+    Output,
+    Lengths,
+    Frames,
+    FrameLengths,
+}
+
+/// How long the slices of a data call are, in elements.
+#[derive(Clone, Copy, Debug)]
+pub struct Lent {
+    pub holding: usize,
+    pub output: usize,
+    pub lengths: usize,
+}
+
+impl Lent {
+    /// Just long enough.
+    pub const ENOUGH: Lent = Lent { holding: HOLDING_BYTES, output: MOST_BYTES, lengths: MOST_FRAMES };
+}
+
+/// Elements that a call changes, from that place of an array on, each with its bytes big-endian.
+#[derive(Clone, Debug, PartialEq, Eq)]
+pub struct Change {
+    pub array: Array,
+    pub place: usize,
+    pub bytes: Vec<u8>,
+}
+
+/// What a call gives back: its numbers, in the order of the library's struct and the code first where there is one; the
+/// table, where it gives one back; and what it has changed.
+#[derive(Clone, Debug, PartialEq, Eq)]
+pub struct Answer {
+    pub numbers: Vec<u64>,
+    pub table: Option<RawTable>,
+    pub changes: Vec<Change>,
+}
+
+impl Answer {
+    fn of(numbers: &[u64]) -> Answer {
+        Answer { numbers: numbers.to_vec(), table: None, changes: Vec::new() }
+    }
+
+    fn with_table(numbers: &[u64], table: RawTable) -> Answer {
+        Answer { table: Some(table), ..Answer::of(numbers) }
+    }
+
+    pub fn code(&self) -> u64 {
+        self.numbers[0]
+    }
+}
+
+pub fn check(kind: u32, packet: &[u8], faults: Faults) -> Answer {
+    Answer::of(&[u64::from(packet::check(u64::from(kind), packet, faults))])
+}
+
+pub fn segment_cause(packet: &[u8], k: u64, faults: Faults) -> Answer {
+    Answer::of(&[packet::segment(packet, k, faults).map_or_else(code, |_| 0)])
+}
+
+/// The place and the length of segment k, both 0 where it is refused.
+pub fn segment(packet: &[u8], k: u64, faults: Faults) -> Answer {
+    let (place, length) = packet::segment(packet, k, faults).unwrap_or((0, 0));
+    Answer::of(&[place as u64, length as u64])
+}
+
+fn code(Refusal(number): Refusal) -> u64 {
+    u64::from(number)
+}
+
+/// Opening and closing look at no held byte, only at how many there are.
+static NO_BYTES: [u8; HOLDING_BYTES] = [0; HOLDING_BYTES];
+
+pub fn open(table: &RawTable, id: u32, kind: u32, faults: Faults) -> Answer {
+    let opened = judge_opening(table, kind, faults).and_then(|kind| {
+        let mut card = table.card(&NO_BYTES, faults);
+        card.open(id, kind)?;
+        Ok(RawTable::of(&card))
+    });
+    match opened {
+        Ok(table) => Answer::with_table(&[0], table),
+        Err(refusal) => Answer::with_table(&[code(refusal)], *table),
+    }
+}
+
+/// Refusals 24 and 13, in this order.
+fn judge_opening(table: &RawTable, kind: u32, faults: Faults) -> Result<Kind, Refusal> {
+    if faults.has(Fault::KindAfterBroken) {
+        judge_table(table, faults)?;
+    }
+    let kind = Kind::from_number(u64::from(kind)).ok_or(Refusal(24))?;
+    judge_table(table, faults)?;
+    Ok(kind)
+}
+
+fn judge_table(table: &RawTable, faults: Faults) -> Result<(), Refusal> {
+    if table.is_broken(faults) {
+        return Err(Refusal(13));
+    }
+    Ok(())
+}
+
+pub fn close(table: &RawTable, id: u32, faults: Faults) -> Answer {
+    let closed = judge_table(table, faults).and_then(|()| {
+        let mut card = table.card(&NO_BYTES, faults);
+        let dropped = card.close(id)?.dropped;
+        Ok((dropped, RawTable::of(&card)))
+    });
+    match closed {
+        Ok((dropped, table)) => Answer::with_table(&[0, dropped as u64], table),
+        Err(refusal) => Answer::with_table(&[code(refusal), 0], *table),
+    }
+}
+
+/// The data call, on a holding slice of which `lent` says how much the caller lends.
+pub fn receive(table: &RawTable, holding: &[u8], lent: Lent, bytes: &[u8], faults: Faults) -> Answer {
+    if let Err(refusal) = judge_loan(table, lent, faults) {
+        return Answer::with_table(&[code(refusal), 0, 0, 0, 0], *table);
+    }
+    let mut card = table.card(holding, faults);
+    let heard = card.data(bytes);
+    let mut answer = Answer::with_table(&[0; 5], RawTable::of(&card));
+    answer.changes = held_changes(&card, holding, faults);
+    match heard {
+        Ok(heard) => {
+            let (frames, delivered) = (heard.frames.len() as u64, heard.bytes() as u64);
+            answer.numbers = vec![0, frames, delivered, heard.dropped as u64, u64::from(heard.gap)];
+            answer.changes.extend(delivered_changes(&heard.frames, faults));
+        }
+        Err(refusal) => answer.numbers[0] = code(refusal),
+    }
+    spoil(&mut answer, table, bytes, faults);
+    answer
+}
+
+/// Refusals 1 and 13, in this order.
+fn judge_loan(table: &RawTable, lent: Lent, faults: Faults) -> Result<(), Refusal> {
+    if faults.has(Fault::BrokenBeforeSlices) {
+        judge_table(table, faults)?;
+    }
+    let least = if faults.has(Fault::ShortHoldingTaken) { HOLDING_BYTES - 1 } else { HOLDING_BYTES };
+    if lent.holding < least || lent.output < MOST_BYTES || lent.lengths < MOST_FRAMES {
+        return Err(Refusal(1));
+    }
+    judge_table(table, faults)
+}
+
+/// What has to be written so that the first bytes of each place are those that its flow holds.
+fn held_changes(card: &Card, holding: &[u8], faults: Faults) -> Vec<Change> {
+    let mut changes = Vec::new();
+    for (_, session) in card.rows() {
+        for (number, flow) in session.flows.iter().enumerate() {
+            let start = place(session.row, number, faults);
+            if holding[start..start + flow.held.len()] != flow.held {
+                let too_far = if faults.has(Fault::HeldOnePlaceTooFar) { LONGEST_FRAME } else { 0 };
+                changes.push(Change { array: Array::Holding, place: start + too_far, bytes: flow.held.clone() });
+            }
+        }
+    }
+    changes
+}
+
+/// The frames back to back, and their lengths.
+fn delivered_changes(frames: &[Vec<u8>], faults: Faults) -> Vec<Change> {
+    let mut bytes = frames.concat();
+    let mut lengths: Vec<u8> = frames.iter().flat_map(|frame| (frame.len() as u16).to_be_bytes()).collect();
+    if faults.has(Fault::OutputAfterLastCleared) {
+        bytes.push(0);
+    }
+    if faults.has(Fault::LengthAfterLastCleared) && frames.len() < MOST_FRAMES {
+        lengths.extend([0, 0]);
+    }
+    let output = Change { array: Array::Output, place: 0, bytes };
+    let lengths = Change { array: Array::Lengths, place: 0, bytes: lengths };
+    [output, lengths].into_iter().filter(|change| !change.bytes.is_empty()).collect()
+}
+
+/// The faults of a data call that no part of it would come to by itself.
+fn spoil(answer: &mut Answer, given: &RawTable, bytes: &[u8], faults: Faults) {
+    let Some(table) = &mut answer.table else {
+        return;
+    };
+    let late = answer.numbers[0] == 12;
+    for (row, given) in table.rows.iter_mut().zip(&given.rows) {
+        for (flow, given) in row.flows.iter_mut().zip(&given.flows) {
+            if faults.has(Fault::ExpectedUnmoved) {
+                flow.expected = given.expected;
+            }
+            if faults.has(Fault::LateClearsHeld) && late && row.id == big_endian(&bytes[..4]) {
+                flow.held = 0;
+            }
+        }
+    }
+    if faults.has(Fault::LateCounted) && late {
+        answer.numbers[3] = bytes.len() as u64;
+    }
+}
+
+/// What a send is given: the frames' bytes back to back, their lengths, where to go on, and how long the output is.
+#[derive(Clone, Debug)]
+pub struct Sending {
+    pub session: u32,
+    pub flow: u64,
+    pub number: u16,
+    pub limit: u64,
+    pub frame_bytes: usize,
+    pub lengths: Vec<u16>,
+    pub frame: u64,
+    pub offset: u64,
+    pub output: usize,
+}
+
+/// A send of the first `frame_bytes` of `frames`.
+pub fn send(sending: &Sending, frames: &[u8], faults: Faults) -> Answer {
+    match try_send(sending, &frames[..sending.frame_bytes], faults) {
+        Ok(sent) => {
+            let Position { frame, offset } = sent.position;
+            let numbers = [0, u64::from(sent.number), sent.packet.len() as u64, frame as u64, offset as u64];
+            let change = Change { array: Array::Output, place: 0, bytes: sent.packet };
+            Answer { changes: vec![change], ..Answer::of(&numbers) }
+        }
+        Err(refusal) => {
+            let moved = u16::from(faults.has(Fault::RefusedSendMovesNumber));
+            let number = u64::from(sending.number.wrapping_add(moved));
+            Answer::of(&[code(refusal), number, 0, sending.frame, sending.offset])
+        }
+    }
+}
+
+fn try_send(sending: &Sending, bytes: &[u8], faults: Faults) -> Result<sender::Sent, Refusal> {
+    // A flow or limit that does not fit is as much refused as the largest number that does.
+    let order = Order {
+        session: sending.session,
+        flow: u8::try_from(sending.flow).unwrap_or(u8::MAX),
+        number: sending.number,
+        limit: usize::try_from(sending.limit).unwrap_or(usize::MAX),
+    };
+    sender::check_order(order)?;
+    let frames = cut_frames(bytes, &sending.lengths, faults).ok_or(Refusal(33))?;
+    let position = Position { frame: sending.frame as usize, offset: sending.offset as usize };
+    let sent = sender::send(order, &frames, position, faults)?;
+    let needed = if faults.has(Fault::ShortOutputSent) { sent.packet.len() } else { order.limit + 4 };
+    if sending.output < needed {
+        return Err(Refusal(36));
+    }
+    Ok(sent)
+}
+
+/// The frames, if their lengths add up to the bytes.
+fn cut_frames(bytes: &[u8], lengths: &[u16], faults: Faults) -> Option<Vec<Vec<u8>>> {
+    let mut rest = bytes;
+    let mut frames = Vec::new();
+    for length in lengths {
+        let (frame, after) = rest.split_at_checked(usize::from(*length))?;
+        frames.push(frame.to_vec());
+        rest = after;
+    }
+    (rest.is_empty() || faults.has(Fault::LeftoverFrameBytesSent)).then_some(frames)
+}
+
+#[cfg(test)]
+mod tests {
+    use super::*;
+    use crate::packet::samples::{A, B};
+    use crate::raw::{DMPT, PSP};
+
+    fn holding() -> Vec<u8> {
+        (0..HOLDING_BYTES).map(|place| (place % 249) as u8).collect()
+    }
+
+    /// M1 and M2, in row 1: what is held is written to the place of row 1, flow 1, and nowhere else.
+    #[test]
+    fn packets_a_and_b_change_their_place_output_and_lengths() {
+        let mut table = open(&RawTable::default(), 7, DMPT, Faults::NONE).table.unwrap();
+        table = open(&table, 0x101, PSP, Faults::NONE).table.unwrap();
+        let mut holding = holding();
+        let first = receive(&table, &holding, Lent::ENOUGH, &A, Faults::NONE);
+        assert_eq!(first.numbers, [0, 1, 6, 0, 0]);
+        let change = |array, place, bytes: &[u8]| Change { array, place, bytes: bytes.to_vec() };
+        let expected = [
+            change(Array::Holding, 5 * 2_048, &A[18..]),
+            change(Array::Output, 0, &A[12..18]),
+            change(Array::Lengths, 0, &[0, 6]),
+        ];
+        assert_eq!(first.changes, expected);
+        holding[5 * 2_048..][..2].copy_from_slice(&A[18..]);
+        let second = receive(&first.table.unwrap(), &holding, Lent::ENOUGH, &B, Faults::NONE);
+        assert_eq!(second.numbers, [0, 1, 9, 0, 0]);
+        assert_eq!(second.changes.len(), 2);
+        assert_eq!(close(&first.table.unwrap(), 0x101, Faults::NONE).numbers, [0, 2]);
+    }
+
+    #[test]
+    fn short_slices_come_before_a_broken_table_and_that_before_the_packet() {
+        let mut broken = RawTable::default();
+        broken.rows[5].id = 1;
+        let asked = |table: &RawTable, lent: Lent| receive(table, &holding(), lent, &[], Faults::NONE);
+        for lent in [
+            Lent { holding: HOLDING_BYTES - 1, ..Lent::ENOUGH },
+            Lent { output: MOST_BYTES - 1, ..Lent::ENOUGH },
+            Lent { lengths: MOST_FRAMES - 1, ..Lent::ENOUGH },
+        ] {
+            assert_eq!(asked(&broken, lent), Answer::with_table(&[1, 0, 0, 0, 0], broken));
+        }
+        assert_eq!(asked(&broken, Lent::ENOUGH), Answer::with_table(&[13, 0, 0, 0, 0], broken));
+        assert_eq!(asked(&RawTable::default(), Lent::ENOUGH).numbers, [2, 0, 0, 0, 0]);
+        assert_eq!(open(&broken, 0, 3, Faults::NONE).numbers, [24]);
+        assert_eq!(open(&broken, 0, PSP, Faults::NONE).numbers, [13]);
+        assert_eq!(close(&broken, 0, Faults::NONE).numbers, [13, 0]);
+    }
+
+    /// M12, and the refusals that only a caller's slices and positions can earn.
+    #[test]
+    fn a_send_needs_room_for_l_and_4_bytes() {
+        let frames = [&A[12..], &B[10..]].concat();
+        let order = Sending {
+            session: 0x101,
+            flow: 1,
+            number: 0xFFFF,
+            limit: 16,
+            frame_bytes: 15,
+            lengths: vec![6, 9],
+            frame: 0,
+            offset: 0,
+            output: 20,
+        };
+        let sent = send(&order, &frames, Faults::NONE);
+        assert_eq!((sent.numbers, &sent.changes[0].bytes), (vec![0, 0, 20, 1, 2], &A.to_vec()));
+        let refused = |sending: Sending| send(&sending, &frames, Faults::NONE).numbers;
+        assert_eq!(refused(Sending { output: 19, ..order.clone() }), [36, 0xFFFF, 0, 0, 0]);
+        assert_eq!(refused(Sending { frame_bytes: 14, ..order.clone() })[0], 33);
+        assert_eq!(refused(Sending { frame: u64::MAX, offset: 3, ..order.clone() }), [34, 0xFFFF, 0, u64::MAX, 3]);
+        assert_eq!(refused(Sending { frame: 2, output: 0, ..order.clone() })[0], 35);
+        assert_eq!(refused(Sending { flow: 1 << 32, limit: 0, ..order })[0], 31);
+    }
+}

@@ -1,0 +1,372 @@
+//! Records: calls of the library together with this program's answers, for `tests/calls.c`, which makes the calls and
+//! compares.
+//!
+//! The stream begins with the names of the cases. Then come records, each a byte that tells what it is and
+//!
+//! - 1, fill: an array (1 byte), a seed (8 bytes) and a number of elements (4 bytes). So many elements, from the first
+//!   on, are thrown by dice of that seed.
+//! - 2, write: an array, a place and a number of elements (4 bytes each), and the elements.
+//! - 3, a call: its case (2 bytes); which call (1 byte); where the call has a table, 0 and the table or 1 for the table
+//!   that was given back last; the numbers that it is given, 8 bytes each; the numbers that it has to answer; where the
+//!   call has a table, 0 for the table as given or 1 and the one that has to come back; how many changes (1 byte), each
+//!   as in a write.
+//! - 0, the end: how many calls there were (4 bytes).
+//!
+//! Numbers are big-endian. Arrays keep what they have from call to call; between calls only fills and writes change them.
+//! Before each call that may write output or lengths, their beginnings are filled anew: what the call before wrote there
+//! would hide a call that writes the same though it is refused, or does not write though it should.
+
+use std::io::{self, Write};
+
+use crate::calls::{self, Answer, Array, Change, Lent, Sending, HOLDING_BYTES};
+use crate::dice::Dice;
+use crate::faults::Faults;
+use crate::raw::RawTable;
+
+/// What the calls are there for. Each case has to come up.
+pub const CASES: [&str; 64] = [
+    "first calls",
+    "packets checked",
+    "packets checked as kinds that there are not",
+    "segments of packets",
+    "segments of packets that are refused",
+    "each of 127 segments",
+    "segments beyond the count",
+    "open with each set of rows open",
+    "open as a kind that there is not",
+    "close each row",
+    "close what is not open",
+    "broken: open row with ID 0",
+    "broken: one ID in two rows",
+    "broken: closed row with an ID",
+    "broken: closed row with a flow heard",
+    "broken: closed row with a number expected",
+    "broken: closed row with bytes held",
+    "broken: over 2,048 bytes held",
+    "broken: fresh flow with a number expected",
+    "broken: fresh flow with bytes held",
+    "broken: D-MPT row with bytes held",
+    "broken: D-MPT row with flow 1 to 3 heard",
+    "broken: kind that there is not",
+    "broken: mark that there is not",
+    "just not broken",
+    "slices of each length",
+    "slices of each length, together with other refusals",
+    "refusals 1 and 13",
+    "refusals 13 and 2",
+    "refusals 13 and 3",
+    "refusals 2 and 4",
+    "refusals 3 and 4",
+    "refusals 4 and 5",
+    "refusals 5 and 6",
+    "refusals 6 and 7",
+    "refusals 7 and 8",
+    "refusals 7 and 9",
+    "refusals 8 and 9",
+    "refusals 9 and 10",
+    "refusals 9 and 12",
+    "refusals 10 and 11",
+    "refusals 11 and 12",
+    "other sets of refusals",
+    "packets received",
+    "joined to 2,047, 2,048 and 2,049",
+    "numbers around the expected one",
+    "127 segments received",
+    "most bytes that a call delivers",
+    "null packets received",
+    "captures",
+    "runs of calls",
+    "random sound tables",
+    "random tables",
+    "random opens and closes",
+    "random packets checked",
+    "segments of random packets",
+    "sends: session and flow",
+    "sends: limits",
+    "sends: frames",
+    "sends: positions",
+    "sends: outputs",
+    "sends: sets of refusals",
+    "sends: to the end",
+    "random sends",
+];
+
+/// The library's calls.
+#[derive(Clone, Copy)]
+enum Call {
+    Check = 0,
+    Open = 1,
+    Close = 2,
+    Receive = 3,
+    Send = 4,
+    SegmentCause = 5,
+    Segment = 6,
+}
+
+impl Array {
+    const ALL: [Array; 6] =
+        [Array::Holding, Array::Packet, Array::Output, Array::Lengths, Array::Frames, Array::FrameLengths];
+
+    fn number(self) -> u8 {
+        self as u8
+    }
+
+    /// The bytes of an element.
+    fn width(self) -> usize {
+        match self {
+            Array::Lengths | Array::FrameLengths => 2,
+            Array::Holding | Array::Packet | Array::Output | Array::Frames => 1,
+        }
+    }
+
+    /// The elements that there are to lend. `tests/calls.c` has the same numbers.
+    pub fn capacity(self) -> usize {
+        match self {
+            Array::Holding => HOLDING_BYTES + 4_096,
+            Array::Packet => 70_000,
+            Array::Output => 8_192,
+            Array::Lengths => 1_024,
+            Array::Frames => 330_000,
+            Array::FrameLengths => 66_000,
+        }
+    }
+}
+
+/// Why no more records are written.
+#[derive(Debug)]
+pub enum Stop {
+    /// As many calls as were asked for have been written.
+    Enough,
+    Failed(io::Error),
+}
+
+impl From<io::Error> for Stop {
+    fn from(error: io::Error) -> Stop {
+        Stop::Failed(error)
+    }
+}
+
+pub type Recorded<T> = Result<T, Stop>;
+
+/// Writes records, and keeps what the arrays and the table have after each.
+pub struct Recorder<'a> {
+    output: &'a mut dyn Write,
+    faults: Faults,
+    wanted: usize,
+    made: usize,
+    /// What each array has, big-endian. Output and lengths are only ever written, so what they have does not matter.
+    arrays: [Vec<u8>; 6],
+    /// The table that was given back last; at first it is empty.
+    table: RawTable,
+    /// For the seeds of what is filled anew before a call.
+    dice: Dice,
+    #[cfg(test)]
+    pub seen: Vec<(&'static str, u64)>,
+}
+
+impl<'a> Recorder<'a> {
+    pub fn new(output: &'a mut dyn Write, wanted: usize, faults: Faults) -> Recorded<Recorder<'a>> {
+        output.write_all(&(CASES.len() as u16).to_be_bytes())?;
+        for name in CASES {
+            output.write_all(&[name.len() as u8])?;
+            output.write_all(name.as_bytes())?;
+        }
+        let mut recorder = Recorder {
+            output,
+            faults,
+            wanted,
+            made: 0,
+            arrays: Array::ALL.map(|array| vec![0; array.capacity() * array.width()]),
+            table: RawTable::default(),
+            dice: Dice::new(0x5EED),
+            #[cfg(test)]
+            seen: Vec::new(),
+        };
+        for array in Array::ALL {
+            recorder.fill(array, 0x5EED + u64::from(array.number()))?;
+        }
+        Ok(recorder)
+    }
+
+    /// Writes the end.
+    pub fn end(&mut self) -> io::Result<()> {
+        self.output.write_all(&[0])?;
+        self.output.write_all(&(self.made as u32).to_be_bytes())?;
+        self.output.flush()
+    }
+
+    /// The table that was given back last.
+    pub fn table(&self) -> RawTable {
+        self.table
+    }
+
+    /// Fills a whole array.
+    pub fn fill(&mut self, array: Array, seed: u64) -> Recorded<()> {
+        self.fill_beginning(array, seed, array.capacity())
+    }
+
+    fn fill_beginning(&mut self, array: Array, seed: u64, elements: usize) -> Recorded<()> {
+        self.output.write_all(&[1, array.number()])?;
+        self.output.write_all(&seed.to_be_bytes())?;
+        self.output.write_all(&(elements as u32).to_be_bytes())?;
+        let mut dice = Dice::new(seed);
+        for bytes in self.arrays[array as usize][..elements * array.width()].chunks_mut(8) {
+            bytes.copy_from_slice(&dice.next().to_be_bytes()[..bytes.len()]);
+        }
+        Ok(())
+    }
+
+    /// Fills the beginning of an array anew, some elements further than the answer changes it.
+    fn refresh(&mut self, array: Array, answer: &Answer) -> Recorded<()> {
+        let changed = answer.changes.iter().find(|change| change.array == array);
+        let elements = 40 + changed.map_or(0, |change| change.bytes.len() / array.width());
+        let seed = self.dice.next();
+        self.fill_beginning(array, seed, elements.min(array.capacity()))
+    }
+
+    /// Puts elements at the start of an array, unless they are there.
+    fn put(&mut self, array: Array, bytes: &[u8]) -> Recorded<()> {
+        if self.arrays[array as usize][..bytes.len()] != *bytes {
+            self.output.write_all(&[2])?;
+            self.change(&Change { array, place: 0, bytes: bytes.to_vec() })?;
+        }
+        Ok(())
+    }
+
+    fn change(&mut self, change: &Change) -> Recorded<()> {
+        let width = change.array.width();
+        self.output.write_all(&[change.array.number()])?;
+        self.output.write_all(&(change.place as u32).to_be_bytes())?;
+        self.output.write_all(&((change.bytes.len() / width) as u32).to_be_bytes())?;
+        self.output.write_all(&change.bytes)?;
+        let start = change.place * width;
+        self.arrays[change.array as usize][start..start + change.bytes.len()].copy_from_slice(&change.bytes);
+        Ok(())
+    }
+
+    /// Writes a call, and takes over the table and the changes of its answer.
+    fn ask(
+        &mut self,
+        case: &'static str,
+        call: Call,
+        table: Option<&RawTable>,
+        inputs: &[u64],
+        answer: Answer,
+    ) -> Recorded<Answer> {
+        if self.made == self.wanted {
+            return Err(Stop::Enough);
+        }
+        self.made += 1;
+        let number = CASES.iter().position(|known| *known == case).expect("a case of the list");
+        self.output.write_all(&[3, (number >> 8) as u8, number as u8, call as u8])?;
+        if let Some(table) = table {
+            self.write_table(*table == self.table, 1, table)?;
+        }
+        self.write_numbers(inputs)?;
+        self.write_numbers(&answer.numbers)?;
+        if let (Some(given), Some(back)) = (table, &answer.table) {
+            self.write_table(given == back, 0, back)?;
+            self.table = *back;
+        }
+        self.output.write_all(&[answer.changes.len() as u8])?;
+        for change in &answer.changes {
+            self.change(change)?;
+        }
+        #[cfg(test)]
+        self.seen.push((case, answer.code()));
+        Ok(answer)
+    }
+
+    fn write_numbers(&mut self, numbers: &[u64]) -> Recorded<()> {
+        for number in numbers {
+            self.output.write_all(&number.to_be_bytes())?;
+        }
+        Ok(())
+    }
+
+    /// A table that is known is told by a mark, another by the opposite mark and its numbers.
+    fn write_table(&mut self, known: bool, mark: u8, table: &RawTable) -> Recorded<()> {
+        if known {
+            self.output.write_all(&[mark])?;
+            return Ok(());
+        }
+        self.output.write_all(&[1 - mark])?;
+        for row in &table.rows {
+            self.output.write_all(&row.id.to_be_bytes())?;
+            self.output.write_all(&row.kind.to_be_bytes())?;
+            for flow in &row.flows {
+                for number in [flow.heard, flow.expected, flow.held] {
+                    self.output.write_all(&number.to_be_bytes())?;
+                }
+            }
+        }
+        Ok(())
+    }
+
+    pub fn check(&mut self, case: &'static str, kind: u32, packet: &[u8]) -> Recorded<Answer> {
+        self.put(Array::Packet, packet)?;
+        let answer = calls::check(kind, packet, self.faults);
+        self.ask(case, Call::Check, None, &[u64::from(kind), packet.len() as u64], answer)
+    }
+
+    pub fn open(&mut self, case: &'static str, table: &RawTable, id: u32, kind: u32) -> Recorded<Answer> {
+        let answer = calls::open(table, id, kind, self.faults);
+        self.ask(case, Call::Open, Some(table), &[u64::from(id), u64::from(kind)], answer)
+    }
+
+    pub fn close(&mut self, case: &'static str, table: &RawTable, id: u32) -> Recorded<Answer> {
+        let answer = calls::close(table, id, self.faults);
+        self.ask(case, Call::Close, Some(table), &[u64::from(id)], answer)
+    }
+
+    /// A data call with slices that are just long enough.
+    pub fn receive(&mut self, case: &'static str, table: &RawTable, packet: &[u8]) -> Recorded<Answer> {
+        self.receive_with(case, table, Lent::ENOUGH, packet)
+    }
+
+    pub fn receive_with(
+        &mut self,
+        case: &'static str,
+        table: &RawTable,
+        lent: Lent,
+        packet: &[u8],
+    ) -> Recorded<Answer> {
+        self.put(Array::Packet, packet)?;
+        let answer = calls::receive(table, &self.arrays[Array::Holding as usize], lent, packet, self.faults);
+        self.refresh(Array::Output, &answer)?;
+        self.refresh(Array::Lengths, &answer)?;
+        let inputs = [lent.holding, packet.len(), lent.output, lent.lengths].map(|number| number as u64);
+        self.ask(case, Call::Receive, Some(table), &inputs, answer)
+    }
+
+    /// A send; the frames' bytes are those that the array of frames begins with.
+    pub fn send(&mut self, case: &'static str, sending: &Sending) -> Recorded<Answer> {
+        let lengths: Vec<u8> = sending.lengths.iter().flat_map(|length| length.to_be_bytes()).collect();
+        self.put(Array::FrameLengths, &lengths)?;
+        let answer = calls::send(sending, &self.arrays[Array::Frames as usize], self.faults);
+        self.refresh(Array::Output, &answer)?;
+        let inputs = [
+            u64::from(sending.session),
+            sending.flow,
+            u64::from(sending.number),
+            sending.limit,
+            sending.frame_bytes as u64,
+            sending.lengths.len() as u64,
+            sending.frame,
+            sending.offset,
+            sending.output as u64,
+        ];
+        self.ask(case, Call::Send, None, &inputs, answer)
+    }
+
+    /// Both calls about segment k.
+    pub fn segment(&mut self, case: &'static str, packet: &[u8], k: u64) -> Recorded<()> {
+        self.put(Array::Packet, packet)?;
+        let inputs = [packet.len() as u64, k];
+        let answer = calls::segment_cause(packet, k, self.faults);
+        self.ask(case, Call::SegmentCause, None, &inputs, answer)?;
+        let answer = calls::segment(packet, k, self.faults);
+        self.ask(case, Call::Segment, None, &inputs, answer)?;
+        Ok(())
+    }
+}
