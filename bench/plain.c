@@ -1,0 +1,401 @@
+/* The data call of document 01 in plain C, without proof: memcpy, early exits, the table changed in place.
+ * It is written for speed and to be read, as one would write it for the card if nothing had to be proved;
+ * bench/run counts what it executes. */
+#include "plain.h"
+
+#include <stdbool.h>
+#include <string.h>
+
+/* The refusal numbers of the data call. */
+enum {
+    ACCEPTED = 0,
+    SLICES_TOO_SHORT = 1,
+    PACKET_TOO_SHORT = 2,
+    PACKET_TOO_LONG = 3,
+    CONTROL_MESSAGE = 4,
+    SESSION_NOT_OPEN = 5,
+    HEADER_NOT_PLAIN = 6,
+    FLOW_OUTSIDE = 7,
+    NO_NUMBER = 8,
+    NOTHING_CARRIED = 9,
+    LENGTHS_DISAGREE = 10,
+    CONTENT_SPOILT = 11,
+    LATE = 12,
+    TABLE_BROKEN = 13
+};
+
+enum { HEADER_SIZE = 8, LONGEST_PACKET = 4100, LATE_FROM = 32768 };
+
+/* Byte 4 of a packet: V and H must be clear, X is ignored. */
+enum { V_AND_H = 0xB0, S = 0x40, FLOW = 0x07 };
+
+/* Byte 5, and an entry of the segment table. */
+enum { COUNT = 0x7F, BEGINS = 0x8000, ENDS = 0x4000, LENGTH = 0x3FFF };
+
+enum { MPEG_SIZE = 188, MPEG_SYNC = 0x47, NULL_PID = 0x1FFF };
+
+/* Where what is delivered goes. */
+struct delivery {
+    uint8_t *output;
+    uint16_t *lengths;
+};
+
+/* Both compilers make a load and a swap of these. */
+static uint16_t big_endian_16(const uint8_t *bytes)
+{
+    uint16_t number;
+
+    memcpy(&number, bytes, sizeof number);
+    return __builtin_bswap16(number);
+}
+
+static uint32_t big_endian_32(const uint8_t *bytes)
+{
+    uint32_t number;
+
+    memcpy(&number, bytes, sizeof number);
+    return __builtin_bswap32(number);
+}
+
+static struct plain_counts refused(uint32_t code)
+{
+    return (struct plain_counts){ .code = code };
+}
+
+/* --- the table --- */
+
+/* Rule 13, in three parts. The first asks of every flow what holds whatever its row is; no early exit, so that the compiler can take
+ * eight flows at a time. */
+static bool some_flow_is_broken(const struct sklyapina_table *table)
+{
+    const uint16_t *heard = table->heard[0];
+    const uint16_t *expected = table->expected[0];
+    const uint16_t *held = table->held[0];
+    bool broken = false;
+
+    for (size_t flow = 0; flow < SKLYAPINA_ROWS * SKLYAPINA_FLOWS; flow++)
+        broken |= (heard[flow] > 1) | (held[flow] > SKLYAPINA_LONGEST_FRAME)
+            | ((heard[flow] == 0) & ((expected[flow] | held[flow]) != 0));
+    return broken;
+}
+
+/* The second asks what the row's kind asks for besides. A flow that heard nothing is known to hold nothing. */
+static bool row_is_broken(const struct sklyapina_table *table, size_t row)
+{
+    const uint16_t *heard = table->heard[row];
+
+    if (table->kind[row] == SKLYAPINA_KIND_PSP)
+        return table->id[row] == 0;
+    if (table->kind[row] == SKLYAPINA_KIND_DMPT)
+        return table->id[row] == 0 || table->held[row][0] != 0 || (heard[1] | heard[2] | heard[3]) != 0;
+    return (table->kind[row] | table->id[row]) != 0 || (heard[0] | heard[1] | heard[2] | heard[3]) != 0;
+}
+
+/* The third: a closed row's ID is 0 and an open one's is not, so only open rows are compared by ID. */
+static bool some_id_is_open_twice(const struct sklyapina_table *table)
+{
+    for (size_t row = 1; row < SKLYAPINA_ROWS; row++)
+        for (size_t earlier = 0; earlier < row; earlier++)
+            if (table->id[row] == table->id[earlier] && table->id[row] != 0)
+                return true;
+    return false;
+}
+
+static bool table_is_broken(const struct sklyapina_table *table)
+{
+    if (some_flow_is_broken(table))
+        return true;
+    for (size_t row = 0; row < SKLYAPINA_ROWS; row++)
+        if (row_is_broken(table, row))
+            return true;
+    return some_id_is_open_twice(table);
+}
+
+/* The row of a session, or SKLYAPINA_ROWS. The ID is not 0 and the table not broken: a closed row does not match. */
+static size_t row_of(const struct sklyapina_table *table, uint32_t id)
+{
+    size_t row = 0;
+
+    while (row < SKLYAPINA_ROWS && table->id[row] != id)
+        row++;
+    return row;
+}
+
+/* Where the numbers of one flow stand. */
+struct flow {
+    uint16_t *heard;
+    uint16_t *expected;
+    uint16_t *held;
+};
+
+static struct flow flow_of(struct sklyapina_table *table, size_t row, size_t flow)
+{
+    return (struct flow){ &table->heard[row][flow], &table->expected[row][flow], &table->held[row][flow] };
+}
+
+/* The gap before a number; from LATE_FROM on, the packet is late. */
+static uint32_t gap_before(struct flow flow, unsigned number)
+{
+    return *flow.heard ? (uint16_t)(number - *flow.expected) : 0;
+}
+
+static void expect_next(struct flow flow, unsigned number)
+{
+    *flow.heard = 1;
+    *flow.expected = (uint16_t)(number + 1);
+}
+
+/* --- PSP --- */
+
+/* Refusals 6 to 11 of a packet for a PSP session. At each joint of two segments the one before must end a
+ * frame and the one behind must begin one: every entry but the first has B, every entry but the last has E.
+ * */
+static uint32_t check_psp(const uint8_t *packet, size_t length)
+{
+    const uint8_t *entries = packet + HEADER_SIZE;
+    size_t count = packet[5] & COUNT;
+    uint32_t total = (uint32_t)(HEADER_SIZE + 2 * count);
+    uint16_t empty = 0;
+    uint16_t joints = ENDS;
+
+    if (packet[4] & V_AND_H)
+        return HEADER_NOT_PLAIN;
+    if ((packet[4] & FLOW) >= SKLYAPINA_FLOWS)
+        return FLOW_OUTSIDE;
+    if (!(packet[4] & S))
+        return NO_NUMBER;
+    if (count == 0)
+        return NOTHING_CARRIED;
+    if (total > length)
+        return LENGTHS_DISAGREE;
+    for (size_t segment = 0; segment < count; segment++) {
+        uint16_t part = big_endian_16(entries + 2 * segment) & LENGTH;
+
+        total += part;
+        empty |= part == 0;
+    }
+    if (total != length)
+        return LENGTHS_DISAGREE;
+    for (size_t segment = 1; segment < count; segment++)
+        joints &= big_endian_16(entries + 2 * segment) >> 1 & big_endian_16(entries + 2 * segment - 2);
+    return empty || joints != ENDS ? CONTENT_SPOILT : ACCEPTED;
+}
+
+/* A packet that was accepted, while its segments are joined. */
+struct joining {
+    const uint8_t *entry; /* of the next segment */
+    const uint8_t *past;  /* the last entry: where the bodies begin */
+    const uint8_t *body;  /* of the next segment */
+    uint8_t *place;
+    size_t held;
+};
+
+static void deliver(struct plain_counts *counts, struct delivery to, const uint8_t *bytes, size_t length)
+{
+    memcpy(to.output + counts->bytes, bytes, length);
+    counts->bytes += (uint32_t)length;
+}
+
+/* A first segment without B: the rest of the frame that is held, or a part of it. */
+static void join_rest(struct joining *joining, struct plain_counts *counts, struct delivery to)
+{
+    unsigned entry = big_endian_16(joining->entry);
+    size_t length = entry & LENGTH;
+    size_t joined = joining->held + length;
+
+    if (joining->held == 0 || joined > SKLYAPINA_LONGEST_FRAME) {
+        counts->dropped += (uint32_t)joined;
+        joining->held = 0;
+    } else if (entry & ENDS) {
+        deliver(counts, to, joining->place, joining->held);
+        deliver(counts, to, joining->body, length);
+        to.lengths[counts->frames++] = (uint16_t)joined;
+        joining->held = 0;
+    } else {
+        memcpy(joining->place + joining->held, joining->body, length);
+        joining->held = joined;
+    }
+    joining->entry += 2;
+    joining->body += length;
+}
+
+/* Whole frames: they lie back to back in the packet as they must in the output, and are copied together. */
+static void join_whole(struct joining *joining, struct plain_counts *counts, struct delivery to)
+{
+    const uint8_t *entry = joining->entry;
+    const uint8_t *first = joining->body;
+    const uint8_t *body = first;
+    uint16_t *next_length = to.lengths + counts->frames;
+
+    for (; entry < joining->past && big_endian_16(entry) & ENDS; entry += 2) {
+        uint16_t length = big_endian_16(entry) & LENGTH;
+
+        if (length <= SKLYAPINA_LONGEST_FRAME) {
+            *next_length++ = length;
+        } else {
+            deliver(counts, to, first, (size_t)(body - first));
+            first = body + length;
+            counts->dropped += length;
+        }
+        body += length;
+    }
+    deliver(counts, to, first, (size_t)(body - first));
+    counts->frames = (uint32_t)(next_length - to.lengths);
+    joining->entry = entry;
+    joining->body = body;
+}
+
+/* A last segment without E: the start of a frame. */
+static void join_start(struct joining *joining, struct plain_counts *counts)
+{
+    size_t length = big_endian_16(joining->entry) & LENGTH;
+
+    if (length <= SKLYAPINA_LONGEST_FRAME) {
+        memcpy(joining->place, joining->body, length);
+        joining->held = length;
+    } else {
+        counts->dropped += (uint32_t)length;
+    }
+}
+
+/* The join rule, for a packet that was accepted. Only its first segment may lack B and only its last may
+ * lack E. */
+static struct plain_counts join(struct flow flow, uint8_t *place, const uint8_t *packet,
+                                uint32_t gap, struct delivery to)
+{
+    struct plain_counts counts = { .gap = gap };
+    const uint8_t *entries = packet + HEADER_SIZE;
+    const uint8_t *bodies = entries + 2 * (packet[5] & COUNT);
+    struct joining joining = { entries, bodies, bodies, place, *flow.held };
+    bool begins = big_endian_16(entries) & BEGINS;
+
+    if (gap > 0 || begins) {
+        counts.dropped = (uint32_t)joining.held;
+        joining.held = 0;
+    }
+    if (!begins)
+        join_rest(&joining, &counts, to);
+    join_whole(&joining, &counts, to);
+    if (joining.entry < joining.past)
+        join_start(&joining, &counts);
+    *flow.held = (uint16_t)joining.held;
+    return counts;
+}
+
+static struct plain_counts receive_psp(struct sklyapina_table *table, size_t row, uint8_t *places, const uint8_t *packet,
+                                       size_t length, struct delivery to)
+{
+    uint32_t code = check_psp(packet, length);
+    size_t number_of_flow = packet[4] & FLOW;
+    unsigned number = big_endian_16(packet + 6);
+    struct flow flow;
+    uint32_t gap;
+
+    if (code != ACCEPTED)
+        return refused(code);
+    flow = flow_of(table, row, number_of_flow);
+    gap = gap_before(flow, number);
+    if (gap >= LATE_FROM)
+        return refused(LATE);
+    expect_next(flow, number);
+    return join(flow, places + number_of_flow * SKLYAPINA_LONGEST_FRAME, packet, gap, to);
+}
+
+/* --- D-MPT --- */
+
+/* Refusals 6 to 11 of a packet for a D-MPT session. */
+static uint32_t check_dmpt(const uint8_t *packet, size_t length)
+{
+    if (packet[4] & V_AND_H)
+        return HEADER_NOT_PLAIN;
+    if (packet[4] & FLOW)
+        return FLOW_OUTSIDE;
+    if (length == HEADER_SIZE)
+        return NOTHING_CARRIED;
+    if ((length - HEADER_SIZE) % MPEG_SIZE != 0)
+        return LENGTHS_DISAGREE;
+    for (size_t place = HEADER_SIZE; place < length; place += MPEG_SIZE)
+        if (packet[place] != MPEG_SYNC)
+            return CONTENT_SPOILT;
+    return ACCEPTED;
+}
+
+static struct plain_counts receive_dmpt(struct flow flow, const uint8_t *packet, size_t length,
+                                        struct delivery to)
+{
+    uint32_t code = check_dmpt(packet, length);
+    struct plain_counts counts = { .code = ACCEPTED };
+
+    if (code != ACCEPTED)
+        return refused(code);
+    if (packet[4] & S) {
+        unsigned number = big_endian_16(packet + 6);
+
+        counts.gap = gap_before(flow, number);
+        if (counts.gap >= LATE_FROM)
+            return refused(LATE);
+        expect_next(flow, number);
+    }
+    for (const uint8_t *mpeg = packet + HEADER_SIZE; mpeg < packet + length; mpeg += MPEG_SIZE) {
+        if ((big_endian_16(mpeg + 1) & NULL_PID) == NULL_PID) {
+            counts.dropped += MPEG_SIZE;
+        } else {
+            memcpy(to.output + counts.bytes, mpeg, MPEG_SIZE);
+            to.lengths[counts.frames++] = MPEG_SIZE;
+            counts.bytes += MPEG_SIZE;
+        }
+    }
+    return counts;
+}
+
+/* --- the data call --- */
+
+struct plain_counts plain_receive_in_place(struct sklyapina_table *table,
+                                           uint8_t *holding, size_t holding_length,
+                                           const uint8_t *packet, size_t packet_length,
+                                           uint8_t *output, size_t output_length,
+                                           uint16_t *lengths, size_t lengths_length)
+{
+    struct delivery to = { output, lengths };
+    uint32_t session;
+    size_t row;
+
+    if (holding_length < SKLYAPINA_HOLDING_SIZE || output_length < SKLYAPINA_MOST_BYTES
+        || lengths_length < SKLYAPINA_MOST_FRAMES)
+        return refused(SLICES_TOO_SHORT);
+    if (table_is_broken(table))
+        return refused(TABLE_BROKEN);
+    if (packet_length < HEADER_SIZE)
+        return refused(PACKET_TOO_SHORT);
+    if (packet_length > LONGEST_PACKET)
+        return refused(PACKET_TOO_LONG);
+    session = big_endian_32(packet);
+    if (session == 0)
+        return refused(CONTROL_MESSAGE);
+    row = row_of(table, session);
+    if (row == SKLYAPINA_ROWS)
+        return refused(SESSION_NOT_OPEN);
+    if (table->kind[row] == SKLYAPINA_KIND_DMPT)
+        return receive_dmpt(flow_of(table, row, 0), packet, packet_length, to);
+    return receive_psp(table, row, holding + row * SKLYAPINA_FLOWS * SKLYAPINA_LONGEST_FRAME, packet,
+                       packet_length, to);
+}
+
+struct sklyapina_received plain_receive(struct sklyapina_table table,
+                                        uint8_t *holding, size_t holding_length,
+                                        const uint8_t *packet, size_t packet_length,
+                                        uint8_t *output, size_t output_length,
+                                        uint16_t *lengths, size_t lengths_length)
+{
+    struct plain_counts counts = plain_receive_in_place(&table, holding, holding_length, packet, packet_length,
+                                                        output, output_length, lengths, lengths_length);
+
+    return (struct sklyapina_received){
+        .code = counts.code,
+        .frames = counts.frames,
+        .bytes = counts.bytes,
+        .dropped = counts.dropped,
+        .gap = counts.gap,
+        .table = table
+    };
+}
