@@ -1,5 +1,5 @@
--- A refusal (document 01, "Refusal numbers"): it returns its number and all counts 0, and changes nothing; a refused send gives back the position
--- and the number that it was given. For every table, packet and slices.
+-- A refusal (document 01, "Refusal numbers"): whatever its number, all counts are 0 and nothing has changed; a refused send gives back the
+-- position and the number that it was given. For every table, packet and slices. (That the number is the right one is for the definitions.)
 use Prim.Native.Nat.{ℕ}
 use mathlib.Core.Path.{_≡_}
 use mathlib.Core.List.{List}
