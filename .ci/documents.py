@@ -1,14 +1,14 @@
 """Whether the documents name what is there.
 
-In README.md, docs/ and the pages of examples/ and second/, every path in backquotes that begins with a folder of this repository exists, and every
+In README.md, docs/ and the pages of examples/, second/ and bench/, every path in backquotes that begins with a folder of this repository exists, and every
 `file`: `name`, `name` names declarations of that file. Every must-fail edit and every wrong definition stands in docs/PROMISES.md, and every one named
-there exists. Prints what is wrong and ends with status 1; ends with 0 where nothing is."""
+there exists. README.md shows host/example.c as it is. Prints what is wrong and ends with status 1; ends with 0 where nothing is."""
 import glob
 import os
 import re
 import sys
 
-FOLDERS = ("crates/", "docs/", "bin/", "host/", "include/", "second/", "tests/", "examples/", ".ci/")
+FOLDERS = ("crates/", "docs/", "bin/", "host/", "include/", "second/", "tests/", "examples/", "bench/", ".ci/")
 NAMED = re.compile(r"`([^`\s]+\.(?:antt|rt|h))`: ((?:`[^`]+`(?:, | and )?)+)")
 
 
@@ -55,7 +55,13 @@ def wrong_edits():
         yield f"docs/PROMISES.md: there is no edit {edit}"
 
 
-documents = ["README.md", *sorted(glob.glob("docs/**/*.md", recursive=True)), "examples/README.md", "second/README.md"]
-wrong = [line for document in documents for line in wrong_in(document)] + list(wrong_edits())
+def wrong_example():
+    example = open("host/example.c", encoding="utf-8").read()
+    if f"```c\n{example}```" not in open("README.md", encoding="utf-8").read():
+        yield "README.md: the example in C is not host/example.c"
+
+
+documents = ["README.md", *sorted(glob.glob("docs/**/*.md", recursive=True)), "examples/README.md", "second/README.md", "bench/README.md"]
+wrong = [line for document in documents for line in wrong_in(document)] + list(wrong_edits()) + list(wrong_example())
 print("\n".join(wrong) or f"{len(documents)} documents name what is there")
 sys.exit(1 if wrong else 0)
