@@ -1,12 +1,12 @@
 -- The ways out of the data call on plain numbers. Each is the way out of crate `card` for the table that the numbers stand for, and its
 -- answer in numbers.
-use Prim.Native.Nat.{ℕ, zero, suc, _+_, _*_, _<_, _≤_}
+use Prim.Native.Nat.{ℕ, zero, suc, _<_, _≤_}
 use mathlib.Core.Path.{_≡_, refl, sym, ap, _∙_}
 use mathlib.Core.Bool.{Bool, true, false, not, _&&_}
 use mathlib.Core.List.{List}
 use mathlib.Core.Logic.{_⊎_, ⊎-elim}
 use native.Mathlib.Omega.{arith}
-use borrow.Author.Tests.{eqb-true, eq-eqb, ne-eqb}
+use borrow.Author.Tests.{eqb-true, ne-eqb}
 use lib.Dec.{eqb}
 use lib.ListN.{getD}
 use Rattle.octets.specs.Count.{least}
@@ -17,24 +17,22 @@ use Rattle.flow.specs.declared.Flow.{Flow}
 use Rattle.flow.specs.declared.Judged.{Judged}
 use Rattle.flow.specs.Flow.{flows}
 use Rattle.packet.specs.Header.{flowId, overIp, sub, sessionId}
-use Rattle.packet.specs.Check.{kindPsp, kindDmpt}
-use Rattle.table.specs.Rows.{rows, isClosed, isDmpt, rowAt, flowAt, openIn, find}
-use Rattle.table.specs.Broken.{rowBroken, broken}
+use Rattle.packet.specs.Check.{kindDmpt}
+use Rattle.table.specs.Rows.{rows, isDmpt, rowAt, flowAt, openIn, find}
+use Rattle.table.specs.Broken.{broken}
 use Rattle.join.specs.declared.Tally.{Tally}
 use Rattle.join.specs.Slices.{Slices, asSlices}
 use Rattle.join.specs.Placed.{nothingYet, Placed}
-use Rattle.card.specs.declared.Received.{Received}
 use Rattle.card.specs.Hear.{judgedOf, fateOf}
-use Rattle.card.specs.Receive.{Outcome, placeOf, toDmpt, tooSmall, packetRefusals, flowRefusals, earlyRefusals, refusedAnswer, receivedBy, received}
+use Rattle.card.specs.Receive.{placeOf, toDmpt, tooSmall, packetRefusals, flowRefusals, earlyRefusals, refusedAnswer, receivedBy}
 use Rattle.card.specs.Ready.{answered}
 use Rattle.card.proofs.Hearing.{hear-refused, hear-late, hear-accepted}
 use Rattle.card.proofs.Receiving.{receive-small, receive-early, receive-closed, receive-heard}
 use Rattle.numbers.specs.declared.HostTable.{HostTable}
 use Rattle.host.specs.declared.receive.HostReceived.{HostReceived}
-use Rattle.numbers.specs.Tables.{flowNumber, idAt, kindAt, foreign, flowIn, kindIn, ownRow, tableIn, tableOut}
-use Rattle.numbers.specs.Fitness.{withHostFlow}
+use Rattle.numbers.specs.Tables.{flowNumber, idAt, kindAt, flowIn, kindIn, tableIn}
 use Rattle.host.specs.Answers.{refusedToHost, answeredToHost}
-use Rattle.host.specs.Calls.{HostOutcome, receivedOut, outcomeOut, hostReceived}
+use Rattle.host.specs.Calls.{HostOutcome, outcomeOut, hostReceived}
 use Rattle.numbers.proofs.Whole.{own-rows, kind-known, closed-by-id}
 use Rattle.numbers.proofs.Columns.{Shaped, own-row, own-flow-at, out-with-flow}
 

@@ -5,7 +5,6 @@
 pub mod receive;
 pub mod sessions;
 
-ghost use mathlib.Core.Path.{_≡_};
 ghost use Rattle.packet.specs.Check.{PermitsCheck, PermitsSegmentCause, PermitsSegmentExtent};
 ghost use Rattle.sender.specs.Send.{PermitsSend};
 ghost use Rattle.join.specs.Slices.{asSlices};

@@ -1,10 +1,10 @@
 -- Whole frames one behind the other: the invariant of the loop that writes their lengths, with a begin and a turn, and how one of them
 -- shows in counts and slices.
-use Prim.Native.Nat.{ℕ, zero, suc, _+_, _*_, _/_, _%_, _<_, _≤_}
+use Prim.Native.Nat.{ℕ, _+_, _*_, _/_, _%_, _<_, _≤_}
 use mathlib.Core.Path.{_≡_, refl, sym, ap, _∙_}
 use mathlib.Core.Logic.{⊎-elim}
-use mathlib.Core.Bool.{Bool, true, false, _&&_}
-use mathlib.Core.List.{List, [], _∷_, _++_}
+use mathlib.Core.Bool.{true, _&&_}
+use mathlib.Core.List.{List, [], _∷_}
 use native.Mathlib.Omega.{arith}
 use native.Mathlib.Nat.{eq-or-lt-of-le}
 use lib.Dec.{leb}
@@ -12,13 +12,13 @@ use lib.ListN.{length, set}
 use borrow.Author.Tests.{eq-eqb, leb-true}
 use Rattle.refusal.proofs.Laws.{and-left, and-right}
 use Rattle.octets.specs.Stretch.{part, put}
-use Rattle.octets.specs.Count.{sumTo, upTo}
+use Rattle.octets.specs.Count.{upTo}
 use Rattle.octets.proofs.Counts.{sum-none, sum-more, up-to-more, length-up-to}
 use Rattle.octets.proofs.Stretches.{length-part, length-put, put-nil, put-put, part-none, set-put}
 use Rattle.flow.specs.Flow.{longest}
 use Rattle.packet.specs.Segments.{bBit, eBit, entryAt, beginsIn, endsIn, lengthIn, lengthAt}
 use Rattle.join.specs.declared.Tally.{Tally}
-use Rattle.join.specs.Join.{delivering, fate}
+use Rattle.join.specs.Join.{fate}
 use Rattle.join.specs.Slices.{Slices}
 use Rattle.join.specs.Placed.{Placed, Whole, Ran}
 use Rattle.join.proofs.Placing.{placed-delivering, settled-whole, fate-begins}

@@ -1,17 +1,17 @@
 -- Rule 13 of plain numbers: what the code asks of them is what the rule asks of the table that they stand for. Either way the numbers are
 -- known to keep in bounds, flow by flow and row by row, and what one of the two overlooks the other does too.
-use Prim.Native.Nat.{ℕ, zero, suc, _+_, _*_, _/_, _%_, _<_, _≤_}
+use Prim.Native.Nat.{ℕ, zero, suc, _*_, _/_, _%_, _<_, _≤_}
 use mathlib.Core.Path.{_≡_, refl, sym, ap, _∙_}
 use mathlib.Core.Bool.{Bool, true, false, not, cond, _&&_, _||_, true≢false, and-false}
 use mathlib.Core.Logic.{_⊎_, inl, inr, ⊎-elim}
 use native.Mathlib.Omega.{arith}
-use borrow.Author.Tests.{eqb-true, eqb-false, eq-eqb, ne-eqb, ltb-true, ltb-false, lt-ltb, le-ltb, not-false}
+use borrow.Author.Tests.{eqb-true, eqb-false, eq-eqb, ne-eqb, ltb-false, le-ltb, not-false}
 use lib.Dec.{eqb, ltb}
 use Rattle.octets.specs.Count.{any}
 use Rattle.octets.proofs.Counts.{true-or-false, or-false-left, or-false-right, none-at, none-all, any-same}
 use Rattle.flow.specs.Flow.{fresh, longest, flows}
 use Rattle.packet.specs.Check.{kindPsp, kindDmpt}
-use Rattle.table.specs.Rows.{rows, isClosed, isDmpt, rowAt, flowAt}
+use Rattle.table.specs.Rows.{rows, isClosed, isDmpt, rowAt}
 use Rattle.table.specs.Broken.{notZero, flowBroken, idBroken, flowBrokenIn, rowBroken, sameOpen, openTwice, broken}
 use Rattle.table.proofs.Keeping.{FlowWhole, flow-whole}
 use Rattle.numbers.specs.declared.HostTable.{HostTable}

@@ -5,14 +5,13 @@ use mathlib.Core.Bool.{Bool, cond, _&&_, _||_}
 use mathlib.Core.List.{List}
 use lib.Dec.{eqb, ltb}
 use lib.ListN.{getD, set}
-use Rattle.octets.specs.Count.{any, sumTo}
+use Rattle.octets.specs.Count.{sumTo}
 use Rattle.flow.specs.declared.Flow.{Flow}
 use Rattle.flow.specs.Flow.{longest, flows}
 use Rattle.packet.specs.Check.{kindPsp, kindDmpt}
-use Rattle.table.specs.Rows.{rows}
 use Rattle.table.specs.Broken.{notZero}
 use Rattle.numbers.specs.declared.HostTable.{HostTable}
-use Rattle.numbers.specs.Tables.{allFlows, flowNumber, idAt, kindAt, heardAt, expectedAt, heldAt, heardMark, markOf}
+use Rattle.numbers.specs.Tables.{flowNumber, idAt, kindAt, heardAt, expectedAt, heldAt, heardMark, markOf}
 
 -- what no flow may be, whatever its row: a mark that is none, more bytes held than a frame has, or anything but zeros where it heard nothing
 abbrev pub flowUnfit : ℕ → ℕ → ℕ → Bool

@@ -1,10 +1,11 @@
-// The table of sessions as a C program has it: plain numbers, which may be anything (specs/Tables.antt says what they stand for). Nothing
-// here changes a table over: rule 13 is asked of the numbers themselves, and opening, closing and receiving change the few that they must.
+// The table of sessions as a C program has it: plain numbers, which may be anything (specs/Tables.antt says what they stand for). Rule 13 is
+// asked of the numbers themselves, and opening, closing and receiving change the few that they must; `table_in` gives the table that they
+// stand for as a whole.
 //
 // The numbers of one sort lie side by side, not those of one flow. So the compiler asks rule 13 of eight flows at a time.
 ghost use mathlib.Core.Path.{_≡_};
 ghost use mathlib.Core.Bool.{false};
-ghost use Prim.Native.Nat.{_<_, _≤_};
+ghost use Prim.Native.Nat.{_<_};
 ghost use lib.ListN.{getD};
 ghost use lib.Dec.{eqb};
 ghost use Rattle.octets.specs.Count.{any, least};

@@ -9,7 +9,7 @@ use native.Mathlib.Nat.{mul-suc, mul-le-mul-left}
 use lib.Dec.{eqb, leb}
 use borrow.Author.Tests.{eq-eqb, ne-eqb, eqb-true, eqb-false, leb-true, leb-false, not-false}
 use Rattle.octets.specs.Count.{any, sumTo}
-use Rattle.octets.proofs.Counts.{true-or-false, or-false-left, or-false-right, any-none, any-more, sum-none, sum-more}
+use Rattle.octets.proofs.Counts.{or-false-left, or-false-right, any-none, any-more, sum-none, sum-more}
 use Rattle.packet.specs.Header.{headerLength, segmentCount}
 use Rattle.packet.specs.Segments.{bBit, eBit, entryAt, beginsIn, endsIn, lengthIn, lengthAt}
 use Rattle.packet.specs.Psp.{badEntry, badAt}

@@ -1,6 +1,6 @@
 -- `numbers::id_before` stops at the first ID that is the same.
 use Prim.Native.Nat.{_-_}
-use mathlib.Core.Path.{sym, _∙_}
+use mathlib.Core.Path.{sym}
 use Rattle.octets.proofs.Counts.{any-at, Sought, seek-begin, seek-turn}
 use Rattle.numbers.proofs.Scans.{all-clear}
 use Rattle.numbers.specs.Fitness.{idTwice}

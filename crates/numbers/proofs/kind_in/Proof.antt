@@ -1,6 +1,5 @@
 -- `numbers::kind_in` asks for the two kinds of session in turn; any other number is closed.
 use borrow.Author.Tests.{eq-eqb, ne-eqb}
-use borrow.Author.Needs.{needs}
 use Rattle.numbers.proofs.kind_in.Statement.{statement}
 use Rattle.numbers.proofs.kind_in.Tie as tie
 

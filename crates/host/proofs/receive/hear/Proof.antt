@@ -1,5 +1,5 @@
 -- `receive::hear` is right since it asks what `card::hear` asks, of the table that the numbers stand for, and changes one flow's numbers.
-use Prim.Native.Nat.{ℕ, _+_, _*_, _<_}
+use Prim.Native.Nat.{ℕ, _<_}
 use mathlib.Core.Path.{_≡_, refl, sym, ap, _∙_}
 use native.Mathlib.Omega.{arith}
 use lib.Dec.{eqb}

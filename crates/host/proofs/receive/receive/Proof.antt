@@ -1,5 +1,5 @@
 -- `receive::receive` is right since it asks the refusals of `dataRefusals` in their order, and then hands the packet to its flow.
-use Prim.Native.Nat.{ℕ, _+_, _≤_}
+use Prim.Native.Nat.{_+_, _≤_}
 use mathlib.Core.Path.{_≡_, sym, _∙_}
 use mathlib.Core.Bool.{false}
 use native.Mathlib.Omega.{arith}
