@@ -10,10 +10,11 @@
  *   answers SKLYAPINA_NONE, or it refuses with the one number of enum sklyapina_refusal that document 01
  *   gives, and then nothing has changed: the table in the answer is the one that was passed, number by
  *   number, and no element of any array was written.
- * - It keeps nothing. What it knows is what it is passed. No pointer is kept when it returns, nothing is
- *   allocated, nothing is printed, and there are no variables of its own: any number of threads may call
- *   at once, each with arrays of its own.
- * - It touches nothing but the arrays it is lent, and reads and writes only inside them.
+ * - It reads and writes only inside the arrays that it is lent.
+ *
+ * And it keeps nothing, since its language has no means to: no pointer outlives its call, nothing is
+ * allocated, and there are no variables but those of the call. What it knows is what it is passed. So threads
+ * may call at once, each with arrays of its own.
  *
  * What the caller must see to, since no proof reaches into C:
  *
