@@ -24,8 +24,8 @@ pub struct HostClosing {
     pub table: HostTable,
 }
 
-// Rule 13, asked of the table that the numbers stand for. (The data call asks it of the numbers themselves, which takes a tenth of the time; were
-// `numbers::is_broken` called here too, the compiler would keep it apart, and each packet would pay for copies of the table.)
+// Rule 13, asked of the table that the numbers stand for. (The data call asks it of the numbers themselves. Were `numbers::is_broken` called
+// here too, the compiler would keep it apart, and each packet would pay for copies of the table.)
 fn is_broken(table: HostTable) -> bool
     ensures { λ r. ⌜ r ≡ broken (tableIn table) ⌝ }
 {

@@ -42,10 +42,11 @@ expectedAt t n = getD (t .expected) n 0
 abbrev pub heldAt : HostTable → ℕ → ℕ
 heldAt t n = getD (t .held) n 0
 
--- A kind or a mark that no table of ours has.
+-- the mark of a flow that has heard a packet
 abbrev pub heardMark : ℕ
 heardMark = 1
 
+-- Row i has a kind or a mark that no table of ours has.
 unfoldable pub foreign : HostTable → ℕ → Bool
 foreign t i = ltb kindDmpt (kindAt t i) || any (λ k. ltb heardMark (heardAt t (flowNumber i k))) flows
 
