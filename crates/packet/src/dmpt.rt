@@ -17,7 +17,7 @@ pub const MPEG_LENGTH: usize = 188;
 pub const NULL_PID: u16 = 0x1FFF;
 
 // Every MPEG packet starts with it.
-const SYNC: u8 = 0x47;
+pub const SYNC: u8 = 0x47;
 
 // How many MPEG packets there are.
 pub fn mpeg_count(sub: &[u8]) -> usize

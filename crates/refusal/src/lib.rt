@@ -74,3 +74,10 @@ pub const TOO_MANY_ENTRIES: u32 = 43;
 pub const ENTRY_WRONG: u32 = 44;
 
 pub const BODIES_DO_NOT_FILL: u32 = 45;
+
+// MPEG packets: what is written, what is read, and into what.
+pub const MPEG_OUTPUT_TOO_SMALL: u32 = 51;
+
+pub const FRAME_NOT_WRITTEN: u32 = 52;
+
+pub const NO_RUN_GIVES_IT: u32 = 53;
