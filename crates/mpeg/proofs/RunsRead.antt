@@ -1,0 +1,443 @@
+-- What a run of the writer gives, the reader takes, and gives back the frames that have been sent whole (W3): `runs-are-read`. And with calls enough
+-- all frames come back: `all-come-back`. After each packet the reader stands where the run stands: `Keeps`.
+use mathlib.Core.Path.{_≡_, refl, sym, ap, _∙_}
+use Prim.Native.Nat.{ℕ, zero, suc, _+_, _-_, _*_, _/_, _%_, _≤_, _<_, min}
+use native.Mathlib.Omega.{arith}
+use native.Mathlib.Nat.{not-suc-le-zero}
+use mathlib.Core.Bool.{true, false, not}
+use mathlib.Core.Logic.{inl, inr, ⊎-elim}
+use mathlib.Core.List.{List, [], _∷_, _++_, append-assoc, append-nil}
+use lib.Dec.{leb, ltb, eqb}
+use lib.ListN.{length, take, drop, replicate, length-append, length-take, length-drop, length-replicate, take-append-drop}
+use lib.Seq.{getD-take, take-all, take-append-seam, drop-append-add}
+use borrow.Author.Tests.{le-leb, leb-true, leb-false, ltb-true, ltb-false, eqb-true, eqb-false, eq-eqb}
+use Rattle.octets.specs.Bytes.{byteAt}
+use Rattle.octets.specs.Each.{Each}
+use Rattle.octets.specs.Count.{upTo}
+use Rattle.octets.specs.Stretch.{part, rest, joined}
+use Rattle.octets.proofs.Counts.{true-or-false}
+use Rattle.octets.proofs.Elements.{each-both, each-front, each-back}
+use Rattle.octets.proofs.Stretches.{length-rest}
+use Rattle.packet.specs.Dmpt.{mpegLength}
+use Rattle.mpeg.specs.Packet.{payloadLength, pointedLength, framesPid, counts, nextCount, header, fillByte, nullPacket, allFill, none}
+use Rattle.mpeg.specs.Frame.{Good}
+use Rattle.mpeg.specs.Write.{packetOf, carried, countAfter}
+use Rattle.mpeg.specs.Read.{Reading, atStart, anyCount, readPacket, readFrom, packetsIn, reading}
+use Rattle.mpeg.specs.Run.{Backlog, noBacklog, Burst, added, waitingIn, leftIn, packetNext, afterNext, runPackets, runEnd, GoodBursts, allFrames}
+use Rattle.mpeg.specs.Run.{sentWhole, RunsAreRead, drained, AllComeBack}
+use Rattle.mpeg.proofs.Backlogs.{Mid, between, within, mid-front, one, one-some, At, at-next, at-added, at-none, at-on, at-whole, at-ends}
+use Rattle.mpeg.proofs.Backlogs.{at-sent, count-next, count-some, packet-on, packet-ends, carried-some}
+use Rattle.mpeg.proofs.Found.{good-says, says-some, each-some, front-begins, front-not-good, front-byte, starts-not-fill, Says, room, split}
+use Rattle.mpeg.proofs.PacketsRead.{standing, Expects, read-null, read-on, read-whole, read-ends}
+
+-- The reader stands where the run stands: the frames done are those found, and what has been sent of one that has begun has come.
+pub record Keeps (q : Backlog) (s : Reading) : Type 0 where
+  pub expected : ℕ
+  pub done : List (List ℕ)
+  pub b : List ℕ
+  pub t : List ℕ
+  pub waiting : List (List ℕ)
+  pub at : At q done b t waiting
+  pub goods : Each Good (one b t ++ waiting)
+  pub expects : Expects expected (q .count)
+  pub is : s ≡ standing expected b done
+
+keeps-added : {q : Backlog} {s : Reading} (burst : Burst) → Keeps q s → Each Good burst → Keeps (added q burst) s
+keeps-added burst k g =
+    let all : Each Good (one (k .b) (k .t) ++ k .waiting ++ burst) = each-both Good (one (k .b) (k .t) ++ k .waiting) burst (k .goods) g in
+    record {
+      expected = k .expected;
+      done = k .done;
+      b = k .b;
+      t = k .t;
+      waiting = k .waiting ++ burst;
+      at = at-added (k .at) burst;
+      goods = rw (append-assoc (one (k .b) (k .t)) (k .waiting) burst) at all;
+      expects = k .expects;
+      is = k .is;
+    }
+
+-- One packet. Nothing waits: the null packet.
+pub nil-of : (l : List ℕ) → length l ≡ 0 → l ≡ []
+nil-of [] h = refl
+nil-of (x ∷ l) h = absurd (never h)
+  where
+    never : suc (length l) ≡ 0 → ⊥
+    never e = omega arith
+
+none-begun : {b t : List ℕ} → Mid b t → (w : List ℕ) → length (t ++ w) ≡ 0 → b ≡ []
+none-begun between w h = refl
+none-begun (within x b y t) w h = absurd (never h)
+  where
+    never : suc (length (t ++ w)) ≡ 0 → ⊥
+    never e = omega arith
+
+some-begun : (b : List ℕ) → 0 < length b → none b ≡ false
+unfolding none
+some-begun [] h = absurd (not-suc-le-zero h)
+some-begun (x ∷ b) h = refl
+
+-- what waits does not start with what a packet is filled up with
+room-starts : (m : ℕ) (waiting : List (List ℕ)) → Each Good waiting → 0 < m → 0 < length (joined waiting) → allFill (room m waiting) ≡ false
+unfolding part joined
+room-starts m [] g k some = absurd (not-suc-le-zero some)
+room-starts m (f ∷ waiting) (g, gs) k some =
+    let says = good-says f (g .0) in
+    let six : 6 ≤ length f = says-some f says in
+    let w = f ++ joined waiting in
+    let front = take m w in
+    let long : 0 < length front = omega (arith, length-take m w, length-append f (joined waiting)) in
+    let fill = replicate (m - length front) fillByte in
+    let first : byteAt (front ++ fill) 0 ≡ byteAt f 0 =
+    front-byte front fill 0 long ∙ getD-take m w 0 0 k ∙ front-byte f (joined waiting) 0 (omega arith) in
+    starts-not-fill (front ++ fill) (omega (arith, length-append front fill)) (ap (λ (x : ℕ). not (eqb x fillByte)) first ∙ says .starts-well)
+
+more-of : (n m : ℕ) → m ≤ n → (n ≡ m → ⊥) → m < n
+more-of n m h differ =
+    ⊎-elim
+    (λ (e : ltb m n ≡ true). ltb-true m n e)
+    (λ (e : ltb m n ≡ false). let k : n ≤ m = ltb-false m n e in absurd (differ (let g : n ≡ m = omega arith in g)))
+    (true-or-false (ltb m n))
+
+some-of : (n : ℕ) → (n ≡ 0 → ⊥) → 0 < n
+some-of zero differ = absurd (differ refl)
+some-of (suc n) differ = omega arith
+
+module _ (q : Backlog) (expected : ℕ) (done : List (List ℕ)) (b t : List ℕ) (waiting : List (List ℕ)) (at : At q done b t waiting)
+    (goods : Each Good (one b t ++ waiting)) (expects : Expects expected (q .count)) where
+  abbrev w : List ℕ
+  w = t ++ joined waiting
+
+  abbrev next : Reading
+  next = readPacket (standing expected b done) (packetNext q)
+
+  next-is : {s : Reading} (p : List ℕ) → packetOf (q .count) (length t) w ≡ p → readPacket (standing expected b done) p ≡ s → next ≡ s
+  next-is p e h = ap (readPacket (standing expected b done)) (at-next at ∙ e) ∙ h
+
+  -- the count goes on
+  next-expects : 0 < length w → Expects (nextCount (q .count)) ((afterNext q) .count)
+  next-expects some =
+      let e : nextCount (q .count) ≡ nextCount (q .count) % counts = omega arith in
+      inr (e ∙ ap (λ (n : ℕ). n % counts) (sym (count-next at ∙ count-some (q .count) w some)))
+
+  keeps-none : length w ≡ 0 → Keeps (afterNext q) next
+  unfolding packetOf countAfter
+  keeps-none h =
+      let no-w : w ≡ [] = nil-of w h in
+      let no-b : b ≡ [] = none-begun (at .mid) (joined waiting) h in
+      let same-count : (afterNext q) .count ≡ q .count = count-next at ∙ ap (countAfter (q .count)) no-w in
+      record {
+        expected = expected;
+        done = done;
+        b = b;
+        t = t;
+        waiting = waiting;
+        at = at-none at h;
+        goods = goods;
+        expects = rw same-count expects;
+        is = next-is nullPacket (ap (packetOf (q .count) (length t)) no-w) (rw no-b (read-null expected done));
+      }
+
+  -- the frame that has begun
+  this-good : 0 < length t → Good (b ++ t)
+  this-good some =
+      let g : Each Good (one b t) = each-front Good (one b t) waiting goods in
+      let g′ : Each Good ((b ++ t) ∷ []) = rw (one-some b t some) at g in
+      g′ .0
+
+  some-on : payloadLength ≤ length t → 0 < length w
+  some-on h = omega (arith, length-append t (joined waiting))
+
+  keeps-on : payloadLength < length t → Keeps (afterNext q) next
+  unfolding part rest
+  keeps-on h =
+      let front = b ++ take payloadLength t in
+      let back = drop payloadLength t in
+      let some-t : 0 < length t = omega arith in
+      let some-b : 0 < length b = mid-front (at .mid) some-t in
+      let some-front : 0 < length front = omega (arith, length-append b (take payloadLength t)) in
+      let some-back : 0 < length back = omega (arith, length-drop payloadLength t) in
+      let whole : front ++ back ≡ b ++ t =
+      append-assoc b (take payloadLength t) back ∙ ap (λ (l : List ℕ). b ++ l) (take-append-drop payloadLength t) in
+      let says : Says (front ++ back) = rw whole (good-says (b ++ t) ((this-good some-t) .0)) in
+      let is-one : one front back ≡ one b t = one-some front back some-back ∙ ap (λ (l : List ℕ). l ∷ []) whole ∙ sym (one-some b t some-t) in
+      record {
+        expected = nextCount (q .count);
+        done = done;
+        b = front;
+        t = back;
+        waiting = waiting;
+        at = at-on at h;
+        goods = rw is-one goods;
+        expects = next-expects (some-on (omega arith));
+        is = next-is
+            (header false framesPid (q .count) ++ take payloadLength t)
+            (packet-on t (joined waiting) (omega arith) (q .count))
+            (read-on expected (q .count) b (take payloadLength t) done expects (some-begun b some-b)
+            (front-not-good front back some-front some-back says) (front-begins front back some-front some-back says));
+      }
+
+  keeps-whole : length t ≡ payloadLength → Keeps (afterNext q) next
+  unfolding part
+  keeps-whole h =
+      let some-t : 0 < length t = omega arith in
+      let some-b : 0 < length b = mid-front (at .mid) some-t in
+      let all : take payloadLength t ≡ t = take-all payloadLength t (omega arith) in
+      record {
+        expected = nextCount (q .count);
+        done = done ++ one b t;
+        b = [];
+        t = [];
+        waiting = waiting;
+        at = at-whole at h;
+        goods = each-back Good (one b t) waiting goods;
+        expects = next-expects (some-on (omega arith));
+        is = next-is
+            (header false framesPid (q .count) ++ t)
+            (packet-on t (joined waiting) (omega arith) (q .count) ∙ ap (λ (l : List ℕ). header false framesPid (q .count) ++ l) all)
+            (read-whole expected (q .count) b t done expects (some-begun b some-b) ((this-good some-t) .0)
+            ∙ ap (λ (l : List (List ℕ)). standing (nextCount (q .count)) [] (done ++ l)) (sym (one-some b t some-t)));
+      }
+
+  keeps-ends : length t < payloadLength → 0 < length w → Keeps (afterNext q) next
+  keeps-ends h some =
+      let waiting-good = each-back Good (one b t) waiting goods in
+      let m = pointedLength - length t in
+      let s = split m pointedLength waiting waiting-good (omega arith) in
+      let goods-behind : Each Good (s .whole ++ (one (s .front) (s .back) ++ s .behind)) = rw (s .are) at waiting-good in
+      record {
+        expected = nextCount (q .count);
+        done = done ++ one b t ++ s .whole;
+        b = s .front;
+        t = s .back;
+        waiting = s .behind;
+        at = at-ends at h some (s .whole) (s .front) (s .back) (s .behind) (s .mid) (s .are) (s .taken);
+        goods = each-back Good (s .whole) (one (s .front) (s .back) ++ s .behind) goods-behind;
+        expects = next-expects some;
+        is = next-is
+            (header true framesPid (q .count) ++ (length t ∷ (t ++ room m waiting)))
+            (packet-ends t (joined waiting) h some (q .count))
+            (read-ends expected (q .count) (room m waiting) done (s .whole) (s .front) expects (s .is-found) (at .mid) (omega arith)
+            (λ some-t. (this-good some-t) .0)
+            (λ no-t. room-starts m waiting waiting-good (omega arith) (omega (arith, length-append t (joined waiting)))));
+      }
+
+  -- every packet has 188 bytes
+  sized-none : length w ≡ 0 → length (packetNext q) ≡ mpegLength
+  unfolding packetOf nullPacket
+  sized-none h = ap length (at-next at ∙ ap (packetOf (q .count) (length t)) (nil-of w h))
+
+  sized-on : payloadLength ≤ length t → length (packetNext q) ≡ mpegLength
+  unfolding part
+  sized-on h =
+      ap length (at-next at ∙ packet-on t (joined waiting) h (q .count))
+      ∙ omega (arith, length-append (header false framesPid (q .count)) (take payloadLength t), length-take payloadLength t)
+
+  sized-ends : length t < payloadLength → 0 < length w → length (packetNext q) ≡ mpegLength
+  unfolding part
+  sized-ends h some =
+      let m = pointedLength - length t in
+      let front = take m (joined waiting) in
+      let fill = replicate (m - length front) fillByte in
+      let body = length t ∷ (t ++ (front ++ fill)) in
+      let long-fill : length fill ≡ m - length front = length-replicate (m - length front) fillByte in
+      let long : length (t ++ (front ++ fill)) ≡ length t + (length front + length fill) =
+      omega (arith, length-append t (front ++ fill), length-append front fill) in
+      ap length (at-next at ∙ packet-ends t (joined waiting) h some (q .count))
+      ∙ omega (arith, length-append (header true framesPid (q .count)) body, length-take m (joined waiting))
+
+  -- whichever packet it is
+  next-keeps : Keeps (afterNext q) next × (length (packetNext q) ≡ mpegLength)
+  next-keeps =
+      ⊎-elim
+      (λ (e : eqb (length w) 0 ≡ true). let h = eqb-true (length w) 0 e in (keeps-none h, sized-none h))
+      (λ (e : eqb (length w) 0 ≡ false).
+      let some : 0 < length w = some-of (length w) (eqb-false (length w) 0 e) in
+      ⊎-elim
+      (λ (e1 : leb payloadLength (length t) ≡ true).
+      let h = leb-true payloadLength (length t) e1 in
+      ⊎-elim
+      (λ (e2 : eqb (length t) payloadLength ≡ true). (keeps-whole (eqb-true (length t) payloadLength e2), sized-on h))
+      (λ (e2 : eqb (length t) payloadLength ≡ false). (keeps-on (more-of (length t) payloadLength h (eqb-false (length t) payloadLength e2)), sized-on h))
+      (true-or-false (eqb (length t) payloadLength)))
+      (λ (e1 : leb payloadLength (length t) ≡ false).
+      let h = leb-false payloadLength (length t) e1 in (keeps-ends h some, sized-ends h some))
+      (true-or-false (leb payloadLength (length t))))
+      (true-or-false (eqb (length w) 0))
+
+keeps-next : {q : Backlog} {s : Reading} → Keeps q s → Keeps (afterNext q) (readPacket s (packetNext q)) × (length (packetNext q) ≡ mpegLength)
+keeps-next {q} {s} k = rw (k .is) (next-keeps q (k .expected) (k .done) (k .b) (k .t) (k .waiting) (k .at) (k .goods) (k .expects))
+
+-- A run.
+abbrev Sized : List ℕ → Type 0
+Sized packet = length packet ≡ mpegLength
+
+keeps-run : (bursts : List Burst) {q : Backlog} {s : Reading} → GoodBursts bursts → Keeps q s →
+    Keeps (runEnd q bursts) (readFrom s (runPackets q bursts)) × Each Sized (runPackets q bursts)
+unfolding runEnd runPackets readFrom
+keeps-run [] g k = (k, tt)
+keeps-run (burst ∷ bursts) {q} {s} (g, gs) k =
+    let n = keeps-next (keeps-added burst k g) in
+    let more = keeps-run bursts gs (n .0) in
+    (more .0, (n .1, more .1))
+
+frames-at-end : (bursts : List Burst) (q : Backlog) → (runEnd q bursts) .frames ≡ q .frames ++ allFrames bursts
+unfolding runEnd allFrames afterNext
+frames-at-end [] q = sym (append-nil (q .frames))
+frames-at-end (burst ∷ bursts) q = frames-at-end bursts (afterNext (added q burst)) ∙ append-assoc (q .frames) burst (allFrames bursts)
+
+-- The packets back to back are taken apart again.
+up-to-first : {A : Type 0} (f : ℕ → A) (n : ℕ) → upTo f (suc n) ≡ f 0 ∷ upTo (λ k. f (suc k)) n
+unfolding upTo
+up-to-first f zero = refl
+up-to-first f (suc n) = ap (λ l. l ++ (f (suc n) ∷ [])) (up-to-first f n)
+
+up-to-same : {A : Type 0} (f g : ℕ → A) (n : ℕ) → ((k : ℕ) → f k ≡ g k) → upTo f n ≡ upTo g n
+unfolding upTo
+up-to-same f g zero h = refl
+up-to-same f g (suc n) h = rw (up-to-same f g n h, h n) refl
+
+packets-back : (ps : List (List ℕ)) → Each Sized ps → packetsIn (joined ps) (length ps) ≡ ps
+unfolding packetsIn upTo joined part
+packets-back [] h = refl
+packets-back (p ∷ ps) (h, hs) =
+    let all : ℕ → List ℕ = λ k. take mpegLength (drop (mpegLength * k) (p ++ joined ps)) in
+    let behind : ℕ → List ℕ = λ k. take mpegLength (drop (mpegLength * k) (joined ps)) in
+    let first : all 0 ≡ p = ap (λ (n : ℕ). take n (p ++ joined ps)) (sym h) ∙ take-append-seam p (joined ps) in
+    let further : (k : ℕ) → all (suc k) ≡ behind k =
+    λ k.
+    let e : mpegLength * suc k ≡ length p + mpegLength * k = omega arith in
+    ap (λ (n : ℕ). take mpegLength (drop n (p ++ joined ps))) e ∙ ap (take mpegLength) (drop-append-add p (joined ps) (mpegLength * k)) in
+    up-to-first all (length ps)
+    ∙ ap (λ (x : List ℕ). x ∷ upTo (λ k. all (suc k)) (length ps)) first
+    ∙ ap (λ (l : List (List ℕ)). p ∷ l) (up-to-same (λ k. all (suc k)) behind (length ps) further ∙ packets-back ps hs)
+
+packets-length : (ps : List (List ℕ)) → Each Sized ps → length (joined ps) ≡ mpegLength * length ps
+unfolding joined
+packets-length [] h = refl
+packets-length (p ∷ ps) (h, hs) = omega (arith, length-append p (joined ps), packets-length ps hs)
+
+reading-packets : (ps : List (List ℕ)) → Each Sized ps → reading (joined ps) ≡ readFrom atStart ps
+unfolding reading
+reading-packets ps h =
+    let long = packets-length ps h in
+    let whole : length (joined ps) % mpegLength ≡ 0 = omega arith in
+    let many : length (joined ps) / mpegLength ≡ length ps = omega arith in
+    rw (eq-eqb (length (joined ps) % mpegLength) 0 whole, many, packets-back ps h) refl
+
+-- What a run gives is read.
+keeps-start : (count : ℕ) → Keeps (noBacklog count) atStart
+unfolding joined
+keeps-start count =
+    record {
+      expected = anyCount;
+      done = [];
+      b = [];
+      t = [];
+      waiting = [];
+      at = record { mid = between; frames-are = refl; place-is = refl };
+      goods = tt;
+      expects = inl refl;
+      is = refl;
+    }
+
+pub runs-are-read : RunsAreRead
+runs-are-read count bursts g =
+    let run = keeps-run bursts g (keeps-start count) in
+    let k = run .0 in
+    let e : reading (joined (runPackets (noBacklog count) bursts)) ≡ standing (k .expected) (k .b) (k .done) =
+    reading-packets (runPackets (noBacklog count) bursts) (run .1) ∙ k .is in
+    let sent : sentWhole ((runEnd (noBacklog count) bursts) .frames) ((runEnd (noBacklog count) bursts) .place) ≡ k .done =
+    at-sent (k .at) (each-some (k .waiting) (each-back Good (one (k .b) (k .t)) (k .waiting) (k .goods))) in
+    record {
+      taken = ap (λ (s : Reading). s .sound) e;
+      given-back = ap (λ (s : Reading). s .frames) e
+          ∙ sym sent
+          ∙ ap (λ (fs : List (List ℕ)). sentWhole fs ((runEnd (noBacklog count) bursts) .place)) (frames-at-end bursts (noBacklog count));
+    }
+
+-- Calls enough: each sends a byte at least as long as any wait.
+some-carried : (r : ℕ) (waiting : List ℕ) → 0 < length waiting → 0 < carried r waiting
+some-carried r waiting some =
+    ⊎-elim
+    (λ (e : leb payloadLength r ≡ true).
+    let c : carried r waiting ≡ payloadLength = carried-some r waiting some ∙ rw e refl in
+    let g : 0 < carried r waiting = omega arith in g)
+    (λ (e : leb payloadLength r ≡ false).
+    let c : carried r waiting ≡ min pointedLength (length waiting) = carried-some r waiting some ∙ rw e refl in
+    let g : 0 < carried r waiting = omega arith in g)
+    (true-or-false (leb payloadLength r))
+
+abbrev all-length : Backlog → ℕ
+all-length q = length (joined (q .frames))
+
+goes-on : (q : Backlog) (n : ℕ) → all-length q ≤ q .place + suc n → all-length q ≤ (afterNext q) .place + n
+unfolding afterNext
+goes-on q n h =
+    let long : length (waitingIn q) ≡ all-length q - q .place = length-rest (joined (q .frames)) (q .place) in
+    ⊎-elim
+    (λ (e : ltb 0 (length (waitingIn q)) ≡ true).
+    let c : 0 < carried (leftIn q) (waitingIn q) = some-carried (leftIn q) (waitingIn q) (ltb-true 0 (length (waitingIn q)) e) in
+    let g : all-length q ≤ q .place + carried (leftIn q) (waitingIn q) + n = omega arith in g)
+    (λ (e : ltb 0 (length (waitingIn q)) ≡ false).
+    let c : length (waitingIn q) ≤ 0 = ltb-false 0 (length (waitingIn q)) e in
+    let g : all-length q ≤ q .place + carried (leftIn q) (waitingIn q) + n = omega arith in g)
+    (true-or-false (ltb 0 (length (waitingIn q))))
+
+frames-kept : (q : Backlog) → all-length (afterNext q) ≡ all-length q
+unfolding afterNext
+frames-kept q = refl
+
+-- no frame more is added
+same-length : (q : Backlog) → all-length (added q []) ≡ all-length q
+same-length q = ap (λ (fs : List (List ℕ)). length (joined fs)) (append-nil (q .frames))
+
+all-sent : (n : ℕ) (q : Backlog) → all-length q ≤ q .place + n → all-length q ≤ (runEnd q (replicate n [])) .place
+unfolding runEnd
+all-sent zero q h = omega arith
+all-sent (suc n) q h =
+    let q′ = afterNext (added q []) in
+    let same : all-length (added q []) ≡ all-length q = same-length q in
+    let step : all-length (added q []) ≤ q′ .place + n = goes-on (added q []) n (omega arith) in
+    let kept : all-length q′ ≡ all-length (added q []) = frames-kept (added q []) in
+    let sent : all-length q′ ≤ (runEnd q′ (replicate n [])) .place = all-sent n q′ (omega arith) in
+    omega arith
+
+-- the run of the bursts, and then of the calls
+run-both : (bursts more : List Burst) (q : Backlog) → runEnd q (bursts ++ more) ≡ runEnd (runEnd q bursts) more
+unfolding runEnd
+run-both [] more q = refl
+run-both (burst ∷ bursts) more q = run-both bursts more (afterNext (added q burst))
+
+drained-frames : (bursts : List Burst) (n : ℕ) → allFrames (drained bursts n) ≡ allFrames bursts
+unfolding allFrames
+drained-frames [] zero = refl
+drained-frames [] (suc n) = drained-frames [] n
+drained-frames (burst ∷ bursts) n = ap (λ (fs : List (List ℕ)). burst ++ fs) (drained-frames bursts n)
+
+pub drained-good : (bursts : List Burst) (n : ℕ) → GoodBursts bursts → GoodBursts (drained bursts n)
+drained-good [] zero g = tt
+drained-good [] (suc n) g = (tt, drained-good [] n g)
+drained-good (burst ∷ bursts) n (g, gs) = (g, drained-good bursts n gs)
+
+-- with every byte sent, all frames have been sent whole
+sent-all : (frames : List (List ℕ)) (place : ℕ) → length (joined frames) ≤ place → sentWhole frames place ≡ frames
+unfolding sentWhole joined
+sent-all [] place h = refl
+sent-all (f ∷ frames) place h =
+    let k : length f ≤ place = omega (arith, length-append f (joined frames)) in
+    let more : length (joined frames) ≤ place - length f = omega (arith, length-append f (joined frames)) in
+    rw (le-leb (length f) place k) (ap (λ (fs : List (List ℕ)). f ∷ fs) (sent-all frames (place - length f) more))
+
+pub all-come-back : AllComeBack
+all-come-back count n bursts g h =
+    let all = allFrames bursts in
+    let behind = runEnd (noBacklog count) bursts in
+    let frames-are : behind .frames ≡ all = frames-at-end bursts (noBacklog count) in
+    let long : all-length behind ≡ length (joined all) = ap (λ (fs : List (List ℕ)). length (joined fs)) frames-are in
+    let sent : all-length behind ≤ (runEnd behind (replicate n [])) .place = all-sent n behind (omega arith) in
+    let end : runEnd (noBacklog count) (drained bursts n) ≡ runEnd behind (replicate n []) = run-both bursts (replicate n []) (noBacklog count) in
+    let place : length (joined all) ≤ (runEnd (noBacklog count) (drained bursts n)) .place = rw end (omega arith) in
+    (runs-are-read count (drained bursts n) (drained-good bursts n g)) .given-back
+    ∙ ap (λ (fs : List (List ℕ)). sentWhole fs ((runEnd (noBacklog count) (drained bursts n)) .place)) (drained-frames bursts n)
+    ∙ sent-all all ((runEnd (noBacklog count) (drained bursts n)) .place) place

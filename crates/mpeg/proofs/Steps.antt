@@ -1,0 +1,122 @@
+-- What a run's step has to do with a call of the writer (W3): a call that is given good frames and room makes the step (`calls-make-runs`), 52 is given where bytes and
+-- lengths are not those of good frames (`judged-by-frames`), and frames that have been sent whole may be taken away (`sent-may-go`). And null packets may be put
+-- in where no frame has begun (`nulls-between`).
+use Prim.Native.Nat.{ℕ, _+_, _≤_}
+use mathlib.Core.Path.{_≡_, refl, sym, ap, _∙_}
+use mathlib.Core.Bool.{Bool, true, false, not, _||_}
+use mathlib.Core.List.{List, [], _∷_, _++_}
+use native.Mathlib.Omega.{arith}
+use lib.Dec.{eqb, ltb, leb}
+use lib.ListN.{length, length-append}
+use lib.Seq.{take-append-seam, drop-append-seam}
+use borrow.Author.Tests.{le-ltb, le-leb, ltb-false, eqb-true}
+use Rattle.refusal.specs.Refusal.{first}
+use Rattle.octets.specs.Stretch.{part, rest, joined, lengths, cutBy}
+use Rattle.octets.specs.Each.{Each}
+use Rattle.octets.proofs.Counts.{or-false-left, or-false-right}
+use Rattle.octets.proofs.Elements.{each-too}
+use Rattle.octets.proofs.Stretches.{length-part}
+use Rattle.packet.specs.Dmpt.{mpegLength}
+use Rattle.mpeg.specs.Packet.{nullPacket}
+use Rattle.mpeg.specs.Frame.{good, Good}
+use Rattle.mpeg.specs.Write.{badFrames, writeRefusals, carried, WriteOutcome, wrote, writtenBy, written}
+use Rattle.mpeg.specs.HandOut.{source, handedLength, HandsOutPackets}
+use Rattle.mpeg.specs.Read.{Reading, readPacket, readFrom}
+use Rattle.mpeg.specs.Run.{Backlog, packetNext, afterNext, waitingIn, leftIn, askedFor, IsStep, CallsMakeRuns, JudgedByFrames, behindSent, SentMayGo, NullsBetween}
+use Rattle.mpeg.proofs.Backlogs.{rest-done, left-done}
+use Rattle.mpeg.proofs.RunsRead.{nil-of}
+use Rattle.mpeg.proofs.PacketsRead.{read-null}
+use Rattle.mpeg.proofs.Taken.{front-and-rest}
+use Rattle.mpeg.proofs.Packets.{from-queue, from-null}
+
+-- Frames, and then 52's condition over their lengths and their bytes back to back.
+front-is : (f behind : List ℕ) → part (f ++ behind) 0 (length f) ≡ f
+unfolding part
+front-is f behind = take-append-seam f behind
+
+behind-is : (f behind : List ℕ) → rest (f ++ behind) (length f) ≡ behind
+unfolding rest
+behind-is f behind = drop-append-seam f behind
+
+pub frames-pass : (frames : List (List ℕ)) → Each (λ f. good f ≡ true) frames → badFrames (lengths frames) (joined frames) ≡ false
+unfolding badFrames lengths joined
+frames-pass [] g = refl
+frames-pass (f ∷ more) g =
+    let long : ltb (length (f ++ joined more)) (length f) ≡ false = le-ltb (length (f ++ joined more)) (length f) (omega (arith, length-append f (joined more))) in
+    rw (long, front-is f (joined more), behind-is f (joined more), g .0) (frames-pass more (g .1))
+
+not-not : (b : Bool) → not b ≡ false → b ≡ true
+not-not true h = refl
+not-not false h = sym h
+
+pub passed-are-frames : (lens bytes : List ℕ) → badFrames lens bytes ≡ false →
+    (lengths (cutBy lens bytes) ≡ lens) × (joined (cutBy lens bytes) ≡ bytes) × Each (λ f. good f ≡ true) (cutBy lens bytes)
+unfolding badFrames part rest lengths joined cutBy
+passed-are-frames [] bytes h = (refl, sym (nil-of bytes (eqb-true (length bytes) 0 (not-not (eqb (length bytes) 0) h))), tt)
+passed-are-frames (n ∷ more) bytes h =
+    let few : n ≤ length bytes = ltb-false (length bytes) n (or-false-left (ltb (length bytes) n) (not (good (part bytes 0 n)) || badFrames more (rest bytes n)) h) in
+    let enough : 0 + n ≤ length bytes = omega (arith, few) in
+    let others : (not (good (part bytes 0 n)) || badFrames more (rest bytes n)) ≡ false =
+    or-false-right (ltb (length bytes) n) (not (good (part bytes 0 n)) || badFrames more (rest bytes n)) h in
+    let this = not-not (good (part bytes 0 n)) (or-false-left (not (good (part bytes 0 n))) (badFrames more (rest bytes n)) others) in
+    let behind = passed-are-frames more (rest bytes n) (or-false-right (not (good (part bytes 0 n))) (badFrames more (rest bytes n)) others) in
+    (rw (length-part bytes 0 n enough, behind .0) refl, ap (λ (l : List ℕ). part bytes 0 n ++ l) (behind .1) ∙ front-and-rest bytes n, (this, behind .2))
+
+pub judged-by-frames : JudgedByFrames
+judged-by-frames = record { frames-pass = frames-pass; passed-are-frames = passed-are-frames }
+
+-- A call.
+module _ (q : Backlog) (output : List ℕ) (g : Each Good (q .frames)) (room : mpegLength ≤ length output) where
+  passes : first (writeRefusals (askedFor q output)) ≡ 0
+  passes =
+      let sound = frames-pass (q .frames) (each-too Good (λ f. good f ≡ true) (q .frames) (λ f p. p .0) g) in
+      rw (sound, le-ltb (length output) mpegLength room) refl
+
+  is-written : written (askedFor q output) ≡ wrote (askedFor q output)
+  unfolding written writtenBy
+  is-written = rw passes refl
+
+  is-step : IsStep q output
+  unfolding wrote packetNext afterNext
+  is-step =
+      record {
+        not-refused = ap (λ (o : WriteOutcome). o .answer .code) is-written;
+        next-place = ap (λ (o : WriteOutcome). o .answer .place) is-written;
+        next-count = ap (λ (o : WriteOutcome). o .answer .count) is-written;
+        its-packet = ap (λ (o : WriteOutcome). o .output) is-written;
+      }
+
+pub calls-make-runs : CallsMakeRuns
+calls-make-runs = is-step
+
+-- Frames that have been sent whole.
+pub sent-may-go : SentMayGo
+unfolding packetNext afterNext
+sent-may-go sent q =
+    let waiting : waitingIn (behindSent sent q) ≡ waitingIn q = rest-done sent (q .frames) (q .place) in
+    let left : leftIn (behindSent sent q) ≡ leftIn q = left-done sent (q .frames) (q .place) in
+    let farther : length (joined sent) + q .place + carried (leftIn q) (waitingIn q) ≡ length (joined sent) + (q .place + carried (leftIn q) (waitingIn q)) = omega arith in
+    (rw (left, waiting) refl, rw (left, waiting, farther) refl)
+
+-- A null packet more.
+skipped : (s : Reading) → s .sound ≡ true → s .begun ≡ [] → readPacket s nullPacket ≡ s
+skipped s sound none-begun = rw (sound, none-begun) (read-null (s .expected) (s .frames))
+
+pub nulls-between : NullsBetween
+unfolding readFrom
+nulls-between s [] behind sound none-begun = ap (λ (r : Reading). readFrom r behind) (skipped s sound none-begun)
+nulls-between s (p ∷ before) behind sound none-begun = nulls-between (readPacket s p) before behind sound none-begun
+
+-- What is handed out.
+pub hands-out-packets : HandsOutPackets
+unfolding handedLength nullPacket part
+hands-out-packets queue null answer is-null p =
+    record {
+      of-the-queue = λ some.
+          let from : source queue null ≡ queue = from-queue queue null some in
+          let whole : leb mpegLength (length (queue .now)) ≡ true = le-leb mpegLength (length (queue .now)) some in
+          p .its-bytes ∙ rw (from, whole) refl;
+      the-null-packet = λ few.
+          let from : source queue null ≡ null = from-null queue null few in
+          p .its-bytes ∙ rw (from, is-null) refl;
+    }

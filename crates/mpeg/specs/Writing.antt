@@ -1,0 +1,28 @@
+-- What the writer's inner functions answer: the parts that specs/Write.antt is made of, as the code finds them one by one.
+use Prim.Native.Nat.{ℕ, _-_, _≤_, _<_}
+use mathlib.Core.Bool.{Bool, not, _||_}
+use mathlib.Core.List.{List}
+use lib.Dec.{eqb, ltb}
+use lib.ListN.{length}
+use Rattle.octets.specs.Stretch.{part}
+use Rattle.packet.specs.Dmpt.{mpegLength}
+use Rattle.mpeg.specs.Packet.{pointedLength, filledTo}
+use Rattle.mpeg.specs.Frame.{good}
+
+-- the first n of these bytes are no frame that may be written, or are not there
+unfoldable pub badFirst : List ℕ → ℕ → Bool
+badFirst bytes n = ltb (length bytes) n || not (good (part bytes 0 n))
+
+-- So many frames have been passed, and the last of them ends there: but these are not all, or bytes are left over.
+abbrev pub notAll : ℕ → ℕ → List ℕ → List ℕ → Bool
+notAll passed end lens bytes = ltb passed (length lens) || not (eqb end (length bytes))
+
+-- what stands behind the pointer of a packet, where these bytes wait: as many of them as fit, and then 0xFF to the end
+abbrev pub behindPointer : List ℕ → List ℕ
+behindPointer waiting = filledTo pointedLength (part waiting 0 pointedLength)
+
+-- What a packet with frames is written from: bytes wait, those that end the frame that has begun are among them, and there is room for a packet.
+pub record Waiting (bytes : List ℕ) (place left : ℕ) (output : List ℕ) : Type 0 where
+  pub something : place < length bytes
+  pub all-there : left ≤ length bytes - place
+  pub room : mpegLength ≤ length output
