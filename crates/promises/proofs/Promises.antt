@@ -1,6 +1,6 @@
 -- The promises, by name. What each says stands in specs/, in the file that is named beside it; why it is so, in the file of this folder that it is cited from.
 -- No axiom is used, and no premise but those that the statements have. They speak of the very definitions that the contracts of `open`, `close`,
--- `receive` and `send` cite, so they hold of the code.
+-- `receive`, `send`, `write`, `read` and `hand_out` cite, so they hold of the code.
 use Rattle.promises.specs.Arrivals.{InTimeIsMeant}
 use Rattle.promises.specs.Demand.{Demand3, FewerLost}
 use Rattle.promises.specs.Gaps.{GapsAreTold}
@@ -11,8 +11,14 @@ use Rattle.promises.specs.Limits.{WithinLimits, NeverBroken}
 use Rattle.promises.specs.Refusals.{RefusalsChangeNothing}
 use Rattle.promises.specs.Unique.{UniqueOpen, UniqueClose, UniqueReceive, UniqueSend, UniqueCheck, UniqueSegment, UniqueCapture, UniqueFlow}
 use Rattle.promises.specs.RoundTrip.{SenderKeepsRules, SendingsGoOn, KeepsLimit, RoundTrip}
+use Rattle.promises.specs.Modulator.{CoreToModulator, SentMayTravel, UniqueMpeg}
 use Rattle.promises.specs.Marked.{Marked, BesidesMarked}
 use Rattle.promises.specs.Captures.{ReadsBack}
+use Rattle.mpeg.specs.Run.{RunsAreRead, ReadIsRun, AllComeBack, CallsMakeRuns, JudgedByFrames, SentMayGo, NullsBetween}
+use Rattle.mpeg.specs.HandOut.{HandsOutPackets}
+use Rattle.mpeg.proofs.RunsRead as runs-read
+use Rattle.mpeg.proofs.ReadRuns as read-runs
+use Rattle.mpeg.proofs.Steps as steps
 use Rattle.promises.proofs.InTime as in-time
 use Rattle.promises.proofs.Demand as demand
 use Rattle.promises.proofs.Gaps as gaps
@@ -24,6 +30,7 @@ use Rattle.promises.proofs.Limits as limits
 use Rattle.promises.proofs.Refusals as refusals
 use Rattle.promises.proofs.Uniqueness as unique
 use Rattle.promises.proofs.RoundTrip as trip
+use Rattle.promises.proofs.Modulator as modulator
 use Rattle.promises.proofs.Marked as cases
 use Rattle.capture.proofs.ReadsBack as capture
 
@@ -104,6 +111,40 @@ keeps-limit = trip.keeps-limit
 
 pub round-trip : RoundTrip
 round-trip = trip.round-trip
+
+-- To the modulator: specs/Modulator.antt; what is said of single packets and of runs of the writer, in specs/Run.antt and specs/HandOut.antt of crate mpeg.
+pub core-to-modulator : CoreToModulator
+core-to-modulator = modulator.core-to-modulator
+
+pub sent-may-travel : SentMayTravel
+sent-may-travel = modulator.sent-may-travel
+
+pub runs-are-read : RunsAreRead
+runs-are-read = runs-read.runs-are-read
+
+pub read-is-run : ReadIsRun
+read-is-run = read-runs.read-is-run
+
+pub all-come-back : AllComeBack
+all-come-back = runs-read.all-come-back
+
+pub calls-make-runs : CallsMakeRuns
+calls-make-runs = steps.calls-make-runs
+
+pub judged-by-frames : JudgedByFrames
+judged-by-frames = steps.judged-by-frames
+
+pub sent-may-go : SentMayGo
+sent-may-go = steps.sent-may-go
+
+pub nulls-between : NullsBetween
+nulls-between = steps.nulls-between
+
+pub hands-out-packets : HandsOutPackets
+hands-out-packets = steps.hands-out-packets
+
+pub unique-mpeg : UniqueMpeg
+unique-mpeg = modulator.unique-mpeg
 
 -- Capture files: specs/Captures.antt.
 pub reads-back : ReadsBack

@@ -9,5 +9,6 @@ pub mod Limits
 pub mod Refusals
 pub mod Unique
 pub mod RoundTrip
+pub mod Modulator
 pub mod Captures
 pub mod Marked
