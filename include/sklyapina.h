@@ -1,5 +1,6 @@
 /* The card's library, for its host program in C or C++: the packet check, the table of sessions, receiving
- * packets and sending them, as document 01 defines it.
+ * packets and sending them, as document 01 defines it; and MPEG packets for the modulator, as document 02 asks
+ * for them (W3).
  *
  * The library is target/staticlib/libhost.a, made by `rt staticlib host`. It is for x86-64, and needs no
  * other library but the C library's memcpy, memmove and memset.
@@ -7,8 +8,8 @@
  * Of every call it is proved:
  *
  * - It answers, whatever it is given: any numbers, any bytes, any lengths. Either it does its work and
- *   answers SKLYAPINA_NONE, or it refuses with the one number of enum sklyapina_refusal that document 01
- *   gives, and then nothing has changed: the table in the answer is the one that was passed, number by
+ *   answers SKLYAPINA_NONE, or it refuses with the one number of enum sklyapina_refusal that the papers
+ *   give, and then nothing has changed: the table in the answer is the one that was passed, number by
  *   number, and no element of any array was written.
  * - It reads and writes only inside the arrays that it is lent.
  *
@@ -29,6 +30,7 @@
 #ifndef SKLYAPINA_H
 #define SKLYAPINA_H
 
+#include <stdbool.h>
 #include <stddef.h>
 #include <stdint.h>
 
@@ -43,7 +45,8 @@ enum {
     SKLYAPINA_LONGEST_FRAME = 2048,  /* bytes of a frame at most, and so of a holding place */
     SKLYAPINA_HOLDING_SIZE = 49152,  /* bytes of all holding places: 6 x 4 x 2,048 */
     SKLYAPINA_MOST_BYTES = 6144,     /* the room that a data call asks for in the output */
-    SKLYAPINA_MOST_FRAMES = 127      /* .. and in the lengths */
+    SKLYAPINA_MOST_FRAMES = 127,     /* .. and in the lengths */
+    SKLYAPINA_MPEG_LENGTH = 188      /* bytes of an MPEG packet */
 };
 
 /* What a session is, and what the packet check takes a packet for. */
@@ -99,7 +102,16 @@ enum sklyapina_refusal {
     SKLYAPINA_FRAMES_UNSOUND = 33,
     SKLYAPINA_POSITION_OUTSIDE = 34, /* a position that is in no frame, nor behind the last */
     SKLYAPINA_NOTHING_LEFT = 35,     /* the position is behind the last frame */
-    SKLYAPINA_OUTPUT_TOO_SMALL = 36  /* fewer bytes than the limit and the session ID's 4 */
+    SKLYAPINA_OUTPUT_TOO_SMALL = 36, /* fewer bytes than the limit and the session ID's 4 */
+
+    /* MPEG packets for the modulator. */
+    /* to write, fewer bytes than 188; to read, too few elements for the frames or for their lengths */
+    SKLYAPINA_MPEG_OUTPUT_TOO_SMALL = 51,
+    /* a frame of more than 2,048 bytes, one that is not as long as it says, or one that starts with 0xFF; or
+     * lengths that do not add up to the bytes */
+    SKLYAPINA_FRAME_NOT_WRITTEN = 52,
+    /* to read, bytes that no calls of sklyapina_mpeg_write give, one after the other from a frame's start on */
+    SKLYAPINA_NO_RUN_GIVES_IT = 53
 };
 
 /* The table of sessions: six rows, each with four flows. All zeros is the table without a session, so
@@ -233,6 +245,60 @@ struct sklyapina_sent sklyapina_send(uint32_t session, size_t flow, uint16_t num
                                      struct sklyapina_position position,
                                      uint8_t *output, size_t output_length);
 
+/* Writes the next MPEG packet of these frames, as a DOCSIS modulator takes it (DRFI, section 7). A frame starts in a
+ * packet wherever the one before it ends; what the last frame leaves of its packet is filled up with 0xFF.
+ *
+ * frames   the frames back to back, and lengths the length of each: any number of frames. Bytes 2 and 3 of a
+ *          frame, the high one first, say its length without 6, so it has 6 to 2,048 bytes; its first is not 0xFF
+ * place    how many of these bytes have been sent: the next to send is frames[place]
+ * count    the packet's count, of which the lowest four bits go into it
+ * output   188 bytes or more; the packet is written to its front
+ *
+ * Answers 52, or 51, or 0. Then `place` and `count` are those of the next call: more frames may be put behind
+ * those that are there, and those of which every byte is sent may be taken away, with their lengths from place. All
+ * frames given are judged on every call, so it is the cheaper the fewer they are. Where nothing is left to send,
+ * the null packet is written: `null` is true, and place and count are those that were passed. Refused: null is
+ * false, place and count are those that were passed, and output is as it was. */
+struct sklyapina_mpeg_written {
+    uint32_t code;
+    size_t place;
+    uint8_t count;
+    bool null;
+};
+
+struct sklyapina_mpeg_written sklyapina_mpeg_write(const uint8_t *frames, size_t frames_length,
+                                                   const uint16_t *lengths, size_t lengths_length,
+                                                   size_t place, uint8_t count,
+                                                   uint8_t *output, size_t output_length);
+
+/* The frames back from MPEG packets, as a modem finds them.
+ *
+ * packets  MPEG packets back to back, as calls of sklyapina_mpeg_write give them one after the other, null packets
+ *          too. The first call begins at a frame's start; the last may be any
+ * output   the frames are written to its front, back to back
+ * lengths  the lengths of the frames are written to its front
+ *
+ * Answers 53, or 51, or 0. Then `frames` says how many frames came back, and `bytes` how long they are together;
+ * a last frame whose end is not there is not among them. Refused: both are 0, and output and lengths are as
+ * they were. */
+struct sklyapina_mpeg_read_back {
+    uint32_t code;
+    size_t frames;
+    size_t bytes;
+};
+
+struct sklyapina_mpeg_read_back sklyapina_mpeg_read(const uint8_t *packets, size_t packets_length,
+                                                    uint8_t *output, size_t output_length,
+                                                    uint16_t *lengths, size_t lengths_length);
+
+/* The null packet, which a channel sends where nothing waits: PID 0x1FFF, and nothing in it but 0xFF. It is always
+ * the same, and nothing is refused: ask once, keep it, and hand the modulator its address. */
+struct sklyapina_mpeg_packet {
+    uint8_t bytes[SKLYAPINA_MPEG_LENGTH];
+};
+
+struct sklyapina_mpeg_packet sklyapina_mpeg_null(void);
+
 #ifdef __cplusplus
 }
 #define SKLYAPINA_ASSERT static_assert
@@ -260,6 +326,15 @@ SKLYAPINA_ASSERT(sizeof(struct sklyapina_sent) == 40, "sent");
 SKLYAPINA_ASSERT(offsetof(struct sklyapina_sent, length) == 8, "sent");
 SKLYAPINA_ASSERT(offsetof(struct sklyapina_sent, position) == 16, "sent");
 SKLYAPINA_ASSERT(offsetof(struct sklyapina_sent, number) == 32, "sent");
+SKLYAPINA_ASSERT(sizeof(bool) == 1, "the library writes a bool as one byte");
+SKLYAPINA_ASSERT(sizeof(struct sklyapina_mpeg_written) == 24, "mpeg written");
+SKLYAPINA_ASSERT(offsetof(struct sklyapina_mpeg_written, place) == 8, "mpeg written");
+SKLYAPINA_ASSERT(offsetof(struct sklyapina_mpeg_written, count) == 16, "mpeg written");
+SKLYAPINA_ASSERT(offsetof(struct sklyapina_mpeg_written, null) == 17, "mpeg written");
+SKLYAPINA_ASSERT(sizeof(struct sklyapina_mpeg_read_back) == 24, "mpeg read back");
+SKLYAPINA_ASSERT(offsetof(struct sklyapina_mpeg_read_back, frames) == 8, "mpeg read back");
+SKLYAPINA_ASSERT(offsetof(struct sklyapina_mpeg_read_back, bytes) == 16, "mpeg read back");
+SKLYAPINA_ASSERT(sizeof(struct sklyapina_mpeg_packet) == 188, "mpeg packet");
 #undef SKLYAPINA_ASSERT
 
 #endif

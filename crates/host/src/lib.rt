@@ -1,7 +1,8 @@
-// What the card's host program, in C, can call. A static library exports the functions of one crate alone, so every export stands here,
-// over the crates that do the work; include/sklyapina.h is its other side. Nothing checks the one against the other but the tests from C.
+// What the card's host program, in C, can call. A static library exports the functions of one crate alone, so every export stands here, or in
+// `modulator`, over the crates that do the work; include/sklyapina.h is its other side. Nothing checks the one against the other but the tests from C.
 //
 // A call is given all that it may touch and keeps none of it: there is no state here, no heap, and no pointer outlives its call.
+pub mod modulator;
 pub mod receive;
 pub mod sessions;
 
