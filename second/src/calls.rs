@@ -2,11 +2,12 @@
 //!
 //! Document 01, 'Opening, closing, listening', 'Refusal numbers' and 'The sender'. A caller brings tables in plain
 //! numbers, slices of any length and positions; so refusals 1, 13, 14, 24, 34 and 36 exist here. What a call writes is
-//! told as changes: everything else has to stay as it was. The answers themselves come from `card`, `packet`, `sender`
-//! and `raw`.
+//! told as changes: everything else has to stay as it was. The answers themselves come from `card`, `packet`, `sender`,
+//! `mpeg` and `raw`.
 
 use crate::card::{Card, FLOWS, LONGEST_FRAME, ROWS};
 use crate::faults::{Fault, Faults};
+use crate::mpeg::{self, Going};
 use crate::packet::{self, big_endian, Kind, Refusal};
 use crate::raw::{place, RawTable};
 use crate::sender::{self, Order, Position, MOST_FRAMES};
@@ -275,6 +276,73 @@ fn cut_frames(bytes: &[u8], lengths: &[u16], faults: Faults) -> Option<Vec<Vec<u
         rest = after;
     }
     (rest.is_empty() || faults.has(Fault::LeftoverFrameBytesSent)).then_some(frames)
+}
+
+/// What a write of an MPEG packet is given: how many bytes the frames have, their lengths, how many of the bytes have
+/// been sent, the count, and how long the output is.
+#[derive(Clone, Debug)]
+pub struct MpegWriting {
+    pub frame_bytes: usize,
+    pub lengths: Vec<u16>,
+    pub place: u64,
+    pub count: u8,
+    pub output: usize,
+}
+
+/// The next MPEG packet of the first `frame_bytes` of `frames`.
+pub fn mpeg_write(writing: &MpegWriting, frames: &[u8], faults: Faults) -> Answer {
+    let going = Going { place: writing.place as usize, count: writing.count, output: writing.output };
+    match mpeg::write(&frames[..writing.frame_bytes], &writing.lengths, going, faults) {
+        Ok(written) => {
+            let mut bytes = written.packet;
+            if faults.has(Fault::MpegByteBehindPacketCleared) && writing.output > bytes.len() {
+                bytes.push(0);
+            }
+            let numbers = [0, written.place as u64, u64::from(written.count), u64::from(written.null)];
+            Answer { changes: vec![Change { array: Array::Output, place: 0, bytes }], ..Answer::of(&numbers) }
+        }
+        Err(refusal) => {
+            let first = writing.lengths.first().map_or(0, |length| u64::from(*length));
+            let place = if faults.has(Fault::MpegRefusedWriteMoves) { first } else { writing.place };
+            let count = if faults.has(Fault::MpegGivenCountReduced) { writing.count % 16 } else { writing.count };
+            Answer::of(&[code(refusal), place, u64::from(count), 0])
+        }
+    }
+}
+
+/// The null packet, with its length.
+pub fn mpeg_null(faults: Faults) -> Answer {
+    let bytes = mpeg::next_packet(&[], &[0], 0, 0, faults).packet;
+    let length = bytes.len() as u64;
+    Answer { changes: vec![Change { array: Array::Output, place: 0, bytes }], ..Answer::of(&[length]) }
+}
+
+/// The frames of MPEG packets, into slices of so many bytes and so many lengths.
+pub fn mpeg_read(packets: &[u8], output: usize, lengths: usize, faults: Faults) -> Answer {
+    match mpeg::read(packets, output, lengths, faults) {
+        Ok(frames) => {
+            let mut bytes = frames.concat();
+            let mut numbers: Vec<u8> = frames.iter().flat_map(|frame| (frame.len() as u16).to_be_bytes()).collect();
+            let mut answer = Answer::of(&[0, frames.len() as u64, bytes.len() as u64]);
+            if faults.has(Fault::MpegByteBehindFramesCleared) && output > bytes.len() {
+                bytes.push(0);
+            }
+            if faults.has(Fault::MpegLengthBehindLastCleared) && lengths > frames.len() {
+                numbers.extend([0, 0]);
+            }
+            let changes = [(Array::Output, bytes), (Array::Lengths, numbers)];
+            let changes = changes.map(|(array, bytes)| Change { array, place: 0, bytes });
+            answer.changes = changes.into_iter().filter(|change| !change.bytes.is_empty()).collect();
+            answer
+        }
+        Err(refusal) => {
+            let mut answer = Answer::of(&[code(refusal), 0, 0]);
+            if faults.has(Fault::MpegRefusedReadWrites) && output > 0 {
+                answer.changes.push(Change { array: Array::Output, place: 0, bytes: vec![0] });
+            }
+            answer
+        }
+    }
 }
 
 #[cfg(test)]

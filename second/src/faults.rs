@@ -3,7 +3,7 @@
 //! A comparison is worth as much as the faults it finds. Each fault here is asked for by name (`--fault NAME`) and
 //! consulted at the one place in the code that it spoils. `tests/faults` demands that the comparison on captures and
 //! frames files finds every one that these can show, `tests/calls` that the comparison from C finds those that calls can
-//! show. Several of them are document 01's 'Wrong turns', others are limits off by one, refusals in a wrong order, and
+//! show, and `tests/mpeg` those of MPEG packets. Several of them are document 01's 'Wrong turns', others are limits off by one, refusals in a wrong order, and
 //! rules left out.
 
 /// One deliberate fault.
@@ -79,6 +79,57 @@ pub enum Fault {
     OffsetAtEndIsEnd,
     ShortOutputSent,
     RefusedSendMovesNumber,
+    // Frames in MPEG packets.
+    MpegPointerOneOff,
+    Mpeg183WithoutPointer,
+    MpegPointerTo255,
+    MpegStartWithoutPointer,
+    MpegFlagOnlyAtStarts,
+    MpegFramesNotBegun,
+    MpegStuffingOfZeros,
+    MpegStuffingAloneSent,
+    MpegCountOfEightBits,
+    MpegCountNotWrapped,
+    MpegNullMovesCount,
+    MpegNullReducesCount,
+    MpegNullMovesPlace,
+    MpegNullFourthByteZero,
+    MpegNullNeedsNoRoom,
+    MpegGivenCountReduced,
+    MpegRefusedWriteMoves,
+    MpegShortBeforeFrames,
+    MpegLongestFrameRefused,
+    MpegLongerFrameTaken,
+    MpegFieldIsLength,
+    MpegFirstByteUnjudged,
+    MpegLeftoverBytesTaken,
+    MpegLengthsInSixteenBits,
+    MpegSentFramesUnjudged,
+    MpegPlacePastEndRefused,
+    MpegByteBehindPacketCleared,
+    MpegStuffingBetweenTaken,
+    MpegStuffingAloneTaken,
+    MpegTailHandedOut,
+    MpegTailUnjudged,
+    MpegThreeByteTailUnjudged,
+    MpegTailOfSevenRefused,
+    MpegSplitFieldRefused,
+    MpegNullInsideTaken,
+    MpegNullPayloadUnjudged,
+    MpegReadNullMovesCount,
+    MpegCountUnjudged,
+    MpegFirstCountZero,
+    MpegUpperBitsUnjudged,
+    MpegControlBitsUnjudged,
+    MpegPointerUnjudged,
+    MpegInsideBeginningTaken,
+    MpegPartialPacketIgnored,
+    MpegEmptyRefused,
+    MpegShortBeforeDamage,
+    MpegShortLengthsTaken,
+    MpegRefusedReadWrites,
+    MpegLengthBehindLastCleared,
+    MpegByteBehindFramesCleared,
 }
 
 /// The faults that captures and frames files can show, each with its name and a sentence on what it does.
@@ -176,7 +227,109 @@ pub const CALLS: [(Fault, &str, &str); 22] = [
     (Fault::RefusedSendMovesNumber, "refused-send-moves-number", "A refused send answers the next number."),
 ];
 
-/// The faults that no call shows: those of capture files, and one that needs a memory beside the table.
+/// The faults that writing and reading frames in MPEG packets shows.
+pub const MPEG: [(Fault, &str, &str); 50] = [
+    (Fault::MpegPointerOneOff, "mpeg-pointer-one-off", "A pointer is one more than what is left of the frame."),
+    (
+        Fault::Mpeg183WithoutPointer,
+        "mpeg-183-without-pointer",
+        "Where 183 bytes of a frame are left there is no pointer.",
+    ),
+    (Fault::MpegPointerTo255, "mpeg-pointer-to-255", "Up to 255 bytes that are left have a pointer."),
+    (
+        Fault::MpegStartWithoutPointer,
+        "mpeg-start-without-pointer",
+        "A frame of 184 bytes or more begins without a pointer.",
+    ),
+    (
+        Fault::MpegFlagOnlyAtStarts,
+        "mpeg-flag-only-at-starts",
+        "Where a frame ends and none begins there is no pointer.",
+    ),
+    (Fault::MpegFramesNotBegun, "mpeg-frames-not-begun", "A frame that does not fit begins with the next packet."),
+    (Fault::MpegStuffingOfZeros, "mpeg-stuffing-of-zeros", "Packets are filled with zeros."),
+    (
+        Fault::MpegStuffingAloneSent,
+        "mpeg-stuffing-alone-sent",
+        "With nothing waiting a data packet of stuffing is sent.",
+    ),
+    (Fault::MpegCountOfEightBits, "mpeg-count-of-8-bits", "A count above 15 is added to byte 3 as it is."),
+    (Fault::MpegCountNotWrapped, "mpeg-count-not-wrapped", "After 15 the count goes on with 16."),
+    (Fault::MpegNullMovesCount, "mpeg-null-moves-count", "A null packet moves the count."),
+    (Fault::MpegNullReducesCount, "mpeg-null-reduces-count", "A null packet answers the count modulo 16."),
+    (Fault::MpegNullMovesPlace, "mpeg-null-moves-place", "A null packet answers the end as the place."),
+    (Fault::MpegNullFourthByteZero, "mpeg-null-fourth-byte-zero", "The fourth byte of a null packet is 0."),
+    (Fault::MpegNullNeedsNoRoom, "mpeg-null-needs-no-room", "A null packet is written whatever room the output has."),
+    (Fault::MpegGivenCountReduced, "mpeg-given-count-reduced", "A refused write answers the count modulo 16."),
+    (
+        Fault::MpegRefusedWriteMoves,
+        "mpeg-refused-write-moves",
+        "A refused write answers the end of the first frame as the place.",
+    ),
+    (Fault::MpegShortBeforeFrames, "mpeg-short-before-frames", "The writer gives refusal 51 before refusal 52."),
+    (Fault::MpegLongestFrameRefused, "mpeg-longest-frame-refused", "A frame of 2,048 bytes is refused."),
+    (Fault::MpegLongerFrameTaken, "mpeg-longer-frame-taken", "A frame of 2,049 bytes is taken."),
+    (Fault::MpegFieldIsLength, "mpeg-field-is-length", "The length field counts the whole frame."),
+    (Fault::MpegFirstByteUnjudged, "mpeg-first-byte-unjudged", "The writer takes a frame that begins with 0xFF."),
+    (Fault::MpegLeftoverBytesTaken, "mpeg-leftover-bytes-taken", "Bytes behind the last frame are taken."),
+    (Fault::MpegLengthsInSixteenBits, "mpeg-lengths-in-16-bits", "Lengths are added modulo 65,536."),
+    (Fault::MpegSentFramesUnjudged, "mpeg-sent-frames-unjudged", "Frames before the place are not judged."),
+    (Fault::MpegPlacePastEndRefused, "mpeg-place-past-end-refused", "A place past the end is refused."),
+    (Fault::MpegByteBehindPacketCleared, "mpeg-byte-behind-packet-cleared", "The byte behind a packet is set to 0."),
+    (Fault::MpegStuffingBetweenTaken, "mpeg-stuffing-between-taken", "The reader takes stuffing between frames."),
+    (Fault::MpegStuffingAloneTaken, "mpeg-stuffing-alone-taken", "The reader takes a data packet of stuffing alone."),
+    (Fault::MpegTailHandedOut, "mpeg-tail-handed-out", "The reader hands out an unfinished last frame."),
+    (Fault::MpegTailUnjudged, "mpeg-tail-unjudged", "An unfinished frame may have any length field."),
+    (
+        Fault::MpegThreeByteTailUnjudged,
+        "mpeg-three-byte-tail-unjudged",
+        "Three bytes of an unfinished frame are not judged.",
+    ),
+    (
+        Fault::MpegTailOfSevenRefused,
+        "mpeg-tail-of-seven-refused",
+        "Three bytes of an unfinished frame, the last of them 7, are refused.",
+    ),
+    (Fault::MpegSplitFieldRefused, "mpeg-split-field-refused", "A length field that a packet's end splits is refused."),
+    (Fault::MpegNullInsideTaken, "mpeg-null-inside-taken", "The reader takes null packets inside a frame."),
+    (Fault::MpegNullPayloadUnjudged, "mpeg-null-payload-unjudged", "The payload of a null packet may be anything."),
+    (Fault::MpegReadNullMovesCount, "mpeg-read-null-moves-count", "The reader counts null packets."),
+    (Fault::MpegCountUnjudged, "mpeg-count-unjudged", "The reader takes any counts."),
+    (Fault::MpegFirstCountZero, "mpeg-first-count-zero", "The reader takes a stream only where its first count is 0."),
+    (Fault::MpegUpperBitsUnjudged, "mpeg-upper-bits-unjudged", "The error and the priority bit may be set."),
+    (Fault::MpegControlBitsUnjudged, "mpeg-control-bits-unjudged", "The upper four bits of byte 3 may be anything."),
+    (Fault::MpegPointerUnjudged, "mpeg-pointer-unjudged", "A pointer may be anything."),
+    (Fault::MpegInsideBeginningTaken, "mpeg-inside-beginning-taken", "A stream may begin inside a frame."),
+    (
+        Fault::MpegPartialPacketIgnored,
+        "mpeg-partial-packet-ignored",
+        "Bytes behind the last whole packet are passed over.",
+    ),
+    (Fault::MpegEmptyRefused, "mpeg-empty-refused", "A stream without packets is refused."),
+    (
+        Fault::MpegShortBeforeDamage,
+        "mpeg-short-before-damage",
+        "The reader, without room, gives refusal 51 before refusal 53.",
+    ),
+    (Fault::MpegShortLengthsTaken, "mpeg-short-lengths-taken", "The reader asks for no room for lengths."),
+    (
+        Fault::MpegRefusedReadWrites,
+        "mpeg-refused-read-writes",
+        "A refused read sets the first byte of the output to 0.",
+    ),
+    (
+        Fault::MpegLengthBehindLastCleared,
+        "mpeg-length-behind-last-cleared",
+        "The length behind the last one read is set to 0.",
+    ),
+    (
+        Fault::MpegByteBehindFramesCleared,
+        "mpeg-byte-behind-frames-cleared",
+        "The byte behind the frames read is set to 0.",
+    ),
+];
+
+/// The faults that no call of `tests/calls` shows: those of capture files, and one that needs a memory beside the table.
 const NO_CALL_SHOWS: [Fault; 6] = [
     Fault::ShortBeforeTooMany,
     Fault::FillBeforeKind,
@@ -186,7 +339,7 @@ const NO_CALL_SHOWS: [Fault; 6] = [
     Fault::ReopenKeepsFlows,
 ];
 
-/// The faults that calls can show.
+/// The faults that the calls of `tests/calls` can show.
 pub fn shown_by_calls() -> impl Iterator<Item = (Fault, &'static str, &'static str)> {
     FILES.into_iter().chain(CALLS).filter(|(fault, _, _)| !NO_CALL_SHOWS.contains(fault))
 }
@@ -198,12 +351,21 @@ pub struct Faults(Option<Fault>);
 impl Faults {
     pub const NONE: Faults = Faults(None);
 
+    pub const fn of(fault: Fault) -> Faults {
+        Faults(Some(fault))
+    }
+
     pub fn has(self, fault: Fault) -> bool {
         self.0 == Some(fault)
     }
 
     /// The fault of the name given.
     pub fn named(name: &str) -> Option<Faults> {
-        FILES.iter().chain(&CALLS).find(|(_, known, _)| *known == name).map(|(fault, _, _)| Faults(Some(*fault)))
+        FILES
+            .iter()
+            .chain(&CALLS)
+            .chain(&MPEG)
+            .find(|(_, known, _)| *known == name)
+            .map(|(fault, _, _)| Faults(Some(*fault)))
     }
 }

@@ -3,7 +3,8 @@
 //! This file has the commands. What they do stands in the modules: `packet` and `card` receive, `sender` sends,
 //! `capture` reads and writes files, `listing` prints; `directed`, `generate`, `sends` and `plan` make what is compared,
 //! `compare` compares it. `calls` answers as the C library does, on tables of `raw`; `call_cases` and `call_dice`, with
-//! `packets`, `tables` and `aimed`, make calls, and `records` writes them. `faults` makes this program wrong on purpose.
+//! `packets`, `tables` and `aimed`, make calls, and `records` writes them. `mpeg` puts
+//! frames into MPEG packets and gets them out, and `mpeg_cases` makes calls of that. `faults` makes this program wrong on purpose.
 
 mod aimed;
 mod call_cases;
@@ -18,6 +19,8 @@ mod directed;
 mod faults;
 mod generate;
 mod listing;
+mod mpeg;
+mod mpeg_cases;
 mod packet;
 mod packets;
 mod plan;
@@ -48,8 +51,11 @@ second send SESSION FLOW NUMBER L < FRAMES > CAPTURE
 second calls [--fault NAME] SEED COUNT > RECORDS
 second generate SEED COUNT FOLDER
 second compare [--fault NAME] --list COMMAND --trace COMMAND --send COMMAND SEED COUNT
+second mpeg [--fault NAME] SEED COUNT > RECORDS
+second stream < FRAMES > PACKETS
 second faults files
-second faults calls";
+second faults calls
+second faults mpeg";
 
 /// Status for a comparison that found a difference, or missed a refusal number. A refusal alone is an answer: status 0.
 const DIFFERENT: u8 = 1;
@@ -79,11 +85,14 @@ fn run(words: &[String]) -> io::Result<u8> {
             number: number(first)?,
             limit: number(limit)?,
         }),
-        ["calls", rest @ ..] => calls(rest),
+        ["calls", rest @ ..] => calls(rest, record_calls),
+        ["mpeg", rest @ ..] => calls(rest, record_mpeg),
+        ["stream"] => stream(),
         ["generate", seed, count, folder] => generate(number(seed)?, number(count)?, Path::new(folder)),
         ["compare", rest @ ..] => compare(rest),
         ["faults", "files"] => list_faults(faults::FILES.into_iter()),
         ["faults", "calls"] => list_faults(faults::shown_by_calls()),
+        ["faults", "mpeg"] => list_faults(faults::MPEG.into_iter()),
         _ => Err(unusable(USAGE)),
     }
 }
@@ -127,31 +136,51 @@ fn send(order: Order) -> io::Result<u8> {
     }
 }
 
-/// Writes records of calls for `tests/calls.c`: the directed ones, then others by dice.
-fn calls(words: &[&str]) -> io::Result<u8> {
+/// Writes a file of frames as MPEG packets, all frames waiting from the start.
+fn stream() -> io::Result<u8> {
+    let packets = sender::read_frames(&standard_input()?).ok_or(Refusal(52)).and_then(|frames| mpeg::stream(&frames));
+    match packets {
+        Ok(packets) => io::stdout().lock().write_all(&packets)?,
+        Err(Refusal(number)) => eprintln!("refused {number}"),
+    }
+    Ok(0)
+}
+
+/// Writes records of calls for `tests/calls.c` or `tests/mpeg.c`: the directed ones, then others by dice.
+fn calls(words: &[&str], record: fn(&mut Recorder, u64) -> Recorded<()>) -> io::Result<u8> {
     let mut words = words.to_vec();
     let faults = faults_named(take_option(&mut words, "--fault"))?;
     let [seed, count] = words.as_slice() else {
         return Err(unusable(USAGE));
     };
     let mut output = io::BufWriter::with_capacity(1 << 16, io::stdout().lock());
-    match record_calls(&mut output, number(seed)?, number(count)?, faults) {
+    let (seed, count) = (number(seed)?, number(count)?);
+    match write_records(&mut output, count, faults, |recorder| record(recorder, seed)) {
         // Who reads the records has seen a difference, and needs no more.
         Err(error) if error.kind() == io::ErrorKind::BrokenPipe => Ok(0),
         recorded => recorded.map(|()| 0),
     }
 }
 
-fn record_calls(output: &mut dyn Write, seed: u64, count: usize, faults: Faults) -> io::Result<()> {
-    let record = |recorder: &mut Recorder| -> Recorded<()> {
-        call_cases::all(recorder)?;
-        call_dice::endless(recorder, seed)
-    };
-    let mut recorder = match Recorder::new(output, count, faults) {
-        Ok(recorder) => recorder,
-        Err(Stop::Failed(error)) => return Err(error),
-        Err(Stop::Enough) => return Ok(()),
-    };
+fn record_calls(recorder: &mut Recorder, seed: u64) -> Recorded<()> {
+    recorder.begin(&records::CASES)?;
+    call_cases::all(recorder)?;
+    call_dice::endless(recorder, seed)
+}
+
+fn record_mpeg(recorder: &mut Recorder, seed: u64) -> Recorded<()> {
+    recorder.begin(&mpeg_cases::CASES)?;
+    mpeg_cases::all(recorder)?;
+    mpeg_cases::endless(recorder, seed)
+}
+
+fn write_records(
+    output: &mut dyn Write,
+    count: usize,
+    faults: Faults,
+    record: impl FnOnce(&mut Recorder) -> Recorded<()>,
+) -> io::Result<()> {
+    let mut recorder = Recorder::new(output, count, faults);
     match record(&mut recorder) {
         Err(Stop::Failed(error)) => Err(error),
         Err(Stop::Enough) | Ok(()) => recorder.end(),

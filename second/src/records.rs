@@ -1,5 +1,5 @@
-//! Records: calls of the library together with this program's answers, for `tests/calls.c`, which makes the calls and
-//! compares.
+//! Records: calls of the library together with this program's answers, for `tests/calls.c` and `tests/mpeg.c`, which make the
+//! calls and compare.
 //!
 //! The stream begins with the names of the cases. Then come records, each a byte that tells what it is and
 //!
@@ -18,12 +18,13 @@
 
 use std::io::{self, Write};
 
-use crate::calls::{self, Answer, Array, Change, Lent, Sending, HOLDING_BYTES};
+use crate::calls::{self, Answer, Array, Change, Lent, MpegWriting, Sending, HOLDING_BYTES};
 use crate::dice::Dice;
 use crate::faults::Faults;
+use crate::packet::MPEG_BYTES;
 use crate::raw::RawTable;
 
-/// What the calls are there for. Each case has to come up.
+/// What the calls of `tests/calls` are there for. Each case has to come up.
 pub const CASES: [&str; 64] = [
     "first calls",
     "packets checked",
@@ -101,6 +102,9 @@ enum Call {
     Send = 4,
     SegmentCause = 5,
     Segment = 6,
+    MpegWrite = 7,
+    MpegRead = 8,
+    MpegNull = 9,
 }
 
 impl Array {
@@ -119,7 +123,7 @@ impl Array {
         }
     }
 
-    /// The elements that there are to lend. `tests/calls.c` has the same numbers.
+    /// The elements that there are to lend. `tests/lent.c` has the same numbers.
     pub fn capacity(self) -> usize {
         match self {
             Array::Holding => HOLDING_BYTES + 4_096,
@@ -154,6 +158,8 @@ pub struct Recorder<'a> {
     faults: Faults,
     wanted: usize,
     made: usize,
+    /// The names of the cases, in the order in which the stream begins with them.
+    cases: &'static [&'static str],
     /// What each array has, big-endian. Output and lengths are only ever written, so what they have does not matter.
     arrays: [Vec<u8>; 6],
     /// The table that was given back last; at first it is empty.
@@ -165,27 +171,33 @@ pub struct Recorder<'a> {
 }
 
 impl<'a> Recorder<'a> {
-    pub fn new(output: &'a mut dyn Write, wanted: usize, faults: Faults) -> Recorded<Recorder<'a>> {
-        output.write_all(&(CASES.len() as u16).to_be_bytes())?;
-        for name in CASES {
-            output.write_all(&[name.len() as u8])?;
-            output.write_all(name.as_bytes())?;
-        }
-        let mut recorder = Recorder {
+    pub fn new(output: &'a mut dyn Write, wanted: usize, faults: Faults) -> Recorder<'a> {
+        Recorder {
             output,
             faults,
             wanted,
             made: 0,
+            cases: &[],
             arrays: Array::ALL.map(|array| vec![0; array.capacity() * array.width()]),
             table: RawTable::default(),
             dice: Dice::new(0x5EED),
             #[cfg(test)]
             seen: Vec::new(),
-        };
-        for array in Array::ALL {
-            recorder.fill(array, 0x5EED + u64::from(array.number()))?;
         }
-        Ok(recorder)
+    }
+
+    /// Writes the names of the cases, and fills all arrays.
+    pub fn begin(&mut self, cases: &'static [&'static str]) -> Recorded<()> {
+        self.cases = cases;
+        self.output.write_all(&(cases.len() as u16).to_be_bytes())?;
+        for name in cases {
+            self.output.write_all(&[name.len() as u8])?;
+            self.output.write_all(name.as_bytes())?;
+        }
+        for array in Array::ALL {
+            self.fill(array, 0x5EED + u64::from(array.number()))?;
+        }
+        Ok(())
     }
 
     /// Writes the end.
@@ -257,7 +269,7 @@ impl<'a> Recorder<'a> {
             return Err(Stop::Enough);
         }
         self.made += 1;
-        let number = CASES.iter().position(|known| *known == case).expect("a case of the list");
+        let number = self.cases.iter().position(|known| *known == case).expect("a case of the list");
         self.output.write_all(&[3, (number >> 8) as u8, number as u8, call as u8])?;
         if let Some(table) = table {
             self.write_table(*table == self.table, 1, table)?;
@@ -368,5 +380,40 @@ impl<'a> Recorder<'a> {
         let answer = calls::segment(packet, k, self.faults);
         self.ask(case, Call::Segment, None, &inputs, answer)?;
         Ok(())
+    }
+
+    /// Writes the next MPEG packet of frames; they are put at the start of the array of frames.
+    pub fn mpeg_write(&mut self, case: &'static str, frames: &[u8], writing: &MpegWriting) -> Recorded<Answer> {
+        let lengths: Vec<u8> = writing.lengths.iter().flat_map(|length| length.to_be_bytes()).collect();
+        self.put(Array::Frames, frames)?;
+        self.put(Array::FrameLengths, &lengths)?;
+        let answer = calls::mpeg_write(writing, &self.arrays[Array::Frames as usize], self.faults);
+        self.refresh(Array::Output, &answer)?;
+        let inputs = [
+            writing.frame_bytes as u64,
+            writing.lengths.len() as u64,
+            writing.place,
+            u64::from(writing.count),
+            writing.output as u64,
+        ];
+        self.ask(case, Call::MpegWrite, None, &inputs, answer)
+    }
+
+    /// Reads the frames of MPEG packets back, with room for so many bytes and so many lengths.
+    pub fn mpeg_read(&mut self, case: &'static str, packets: &[u8], room: (usize, usize)) -> Recorded<Answer> {
+        self.put(Array::Packet, packets)?;
+        let (output, lengths) = room;
+        let answer = calls::mpeg_read(packets, output, lengths, self.faults);
+        self.refresh(Array::Output, &answer)?;
+        self.refresh(Array::Lengths, &answer)?;
+        let inputs = [packets.len(), output, lengths].map(|number| number as u64);
+        self.ask(case, Call::MpegRead, None, &inputs, answer)
+    }
+
+    /// Asks for the null packet; who makes the call puts it into an output of its length.
+    pub fn mpeg_null(&mut self, case: &'static str) -> Recorded<Answer> {
+        let answer = calls::mpeg_null(self.faults);
+        self.refresh(Array::Output, &answer)?;
+        self.ask(case, Call::MpegNull, None, &[MPEG_BYTES as u64], answer)
     }
 }

@@ -1,0 +1,60 @@
+/* Has the library write frames into MPEG packets and read them back, as the records on standard input ask for (`second
+ * mpeg`), and compares all that each call gives back and leaves behind with the second program's answer: every number,
+ * and every byte of every array that was lent. lent.h says how, what is printed, and what words do. The array called
+ * packet has the packets that are read. */
+#include "sklyapina.h"
+
+#include "lent.h"
+
+enum { WRITE, READ, NULL_PACKET, CALLS };
+/* The number of the first of them in the records. */
+enum { FIRST_CALL = 7 };
+
+static const struct call calls[CALLS] = {
+    {"mpeg_write", false, 5, {"frames length", "lengths length", "place", "count", "output length"},
+     4, {"code", "place", "count", "null"}, 3, {0, 51, 52}},
+    {"mpeg_read", false, 3, {"packets length", "output length", "lengths length"},
+     3, {"code", "frames", "bytes"}, 3, {0, 51, 53}},
+    {"mpeg_null", false, 1, {"output length"}, 1, {"length"}, 0, {0}},
+};
+
+static void make_call(unsigned call, const uint64_t *in, uint64_t *out)
+{
+    switch (call) {
+    case WRITE: {
+        struct sklyapina_mpeg_written written = sklyapina_mpeg_write(
+            lend(FRAMES, in[0]), in[0], lend_numbers(FRAME_LENGTHS, in[1]), in[1], in[2], (uint8_t)in[3],
+            lend(OUTPUT, in[4]), in[4]);
+        out[0] = written.code;
+        out[1] = written.place;
+        out[2] = written.count;
+        out[3] = written.null;
+        break;
+    }
+    case READ: {
+        struct sklyapina_mpeg_read_back read_back = sklyapina_mpeg_read(
+            lend(PACKET, in[0]), in[0], lend(OUTPUT, in[1]), in[1], lend_numbers(LENGTHS, in[2]), in[2]);
+        out[0] = read_back.code;
+        out[1] = read_back.frames;
+        out[2] = read_back.bytes;
+        break;
+    }
+    case NULL_PACKET: {
+        /* It is lent nothing; its bytes are put into the output to be compared there. */
+        struct sklyapina_mpeg_packet packet = sklyapina_mpeg_null();
+        uint8_t *output = lend(OUTPUT, in[0]);
+        out[0] = sizeof packet.bytes;
+        for (size_t place = 0; place < in[0] && place < sizeof packet.bytes; place++)
+            output[place] = packet.bytes[place];
+        break;
+    }
+    }
+}
+
+int main(int word_count, char **words)
+{
+    static const struct program program = {
+        .name = "mpeg", .first_call = FIRST_CALL, .call_count = CALLS, .calls = calls, .make_call = make_call,
+    };
+    return run_records(&program, word_count, words);
+}
