@@ -8,7 +8,6 @@
 // What it cannot do it refuses by one line on standard error, `refused` and document 01's number, and writes nothing on standard output:
 // 31 to 33 and 35 are the sender's (a frames file that is cut short has lengths that do not add up to its bytes, 33; an empty one leaves
 // nothing to send, 35), 41 and 43 a capture's (over 60,000 bytes, over 1,000 entries).
-mod arguments;
 mod frames;
 mod series;
 

@@ -1,0 +1,49 @@
+// mpegframes < FILE.ts > FRAMES
+//
+// Gets the frames back from MPEG packets that a writer wrote from a frame's start on, as a modem does (W3), and writes them as a frames file: for each
+// frame its length, in two bytes, most significant first, and then its bytes. `pspsend` takes such files. Null packets are skipped, and an unfinished
+// last frame is not handed out. Packets that no run of the writer gives come to one line, `refused 53`.
+//
+// A file of more than 65,536 bytes is not read: that is said on standard error, and nothing is written on standard output.
+mod frames;
+
+ghost use mathlib.Core.Path.{_≡_};
+ghost use Prim.Native.Nat.{_+_};
+ghost use lib.ListN.{length};
+ghost use Rattle.mpegframes.specs.Frames.{mostRead, textRoom};
+use libc::STDERR_FILENO;
+use libc::STDIN_FILENO;
+use libc::STDOUT_FILENO;
+
+fn too_long() {
+    io::write_all(
+        STDERR_FILENO,
+        b"mpegframes: more than 65536 bytes on standard input, and that is all that it has room for\n",
+    );
+}
+
+fn main() {
+    let mut file = file_room();
+    let read = io::read_full(STDIN_FILENO, &mut file);
+    if frames::MOST_READ < read {
+        too_long();
+        return;
+    }
+    let mut text = text_room();
+    let length = frames::get_back(&file[..read], &mut text);
+    io::write_all(STDOUT_FILENO, &text[..length]);
+}
+
+// Rooms of zeros. The contracts say how long they are, which lending one as a slice needs. That for the file has one byte more than is read, so
+// that a longer one is seen to be too long.
+fn file_room() -> [u8; frames::MOST_READ + 1]
+    ensures { λ r. ⌜ mostRead + 1 ≡ length r ⌝ }
+{
+    [0; frames::MOST_READ + 1]
+}
+
+fn text_room() -> [u8; frames::TEXT_ROOM]
+    ensures { λ r. ⌜ textRoom ≡ length r ⌝ }
+{
+    [0; frames::TEXT_ROOM]
+}

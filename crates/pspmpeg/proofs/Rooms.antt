@@ -1,0 +1,173 @@
+-- The rooms are enough: the frames that a capture delivers on a session have no more bytes than the capture, by the byte account; and an entry
+-- delivers no more frames than a call can.
+use Prim.Native.Nat.{ℕ, zero, suc, _+_, _-_, _*_, _≤_}
+use mathlib.Core.Path.{_≡_, refl, ap, subst}
+use mathlib.Core.Bool.{Bool, true, false, cond}
+use mathlib.Core.List.{List, [], _∷_}
+use native.Mathlib.Omega.{arith}
+use lib.Dec.{eqb}
+use lib.ListN.{length, drop, replicate, length-append}
+use Rattle.refusal.specs.Refusal.{first}
+use Rattle.octets.specs.Bytes.{be32At}
+use Rattle.octets.specs.Count.{sumTo, upTo}
+use Rattle.octets.specs.Stretch.{part, joined, lengths, cutBy}
+use Rattle.octets.proofs.Counts.{sum-below}
+use Rattle.octets.proofs.Stretches.{part-short, length-rest, joined-append}
+use Rattle.packet.specs.Header.{overIp, idLength, sub}
+use Rattle.packet.specs.Segments.{entryWidth, bodyAt}
+use Rattle.packet.specs.Psp.{wanted}
+use Rattle.packet.proofs.Passing.{psp-passed}
+use Rattle.table.specs.declared.Mode.the-variants as mode
+use Rattle.join.specs.Slices.{mostFrames, Slices, asSlices}
+use Rattle.card.specs.Receive.{holdingSize, rowOf, toDmpt, flowOf, heldBy, packetRefusals, received}
+use Rattle.card.specs.History.{Card, opens, closes, hands, framesOf, answer}
+use Rattle.card.proofs.Accepted as call
+use Rattle.card.proofs.Limits.{bodyBytes, accepted-bounded, held-length, held-none}
+use Rattle.capture.specs.File.{Entry, headLength, entryLength, longestFile, openPsp, openDmpt, closing, entryCount, bodyLength, bodyStart, fileRefusal, nthEntry}
+use Rattle.capture.proofs.Checking.{is-sound}
+use Rattle.listing.specs.Run.{Running, callOf, answerTo, runOne, begin, standing, answerAt}
+use Rattle.listing.proofs.Standing.{frames-short}
+use Rattle.listing.proofs.Histories.{startCard, callAt, run-card}
+use Rattle.promises.specs.Account.{packetBody, takenBy}
+use Rattle.promises.proofs.Good.{Good, good-empty, good-all}
+use Rattle.promises.proofs.Measures.{by-length}
+use Rattle.promises.proofs.Holdings.{inTable, keptInAll, table-keeps, empty-keeps}
+use Rattle.promises.proofs.Fates.{heard-tells}
+use Rattle.promises.proofs.OneCall.{when-accepted, when-refused, call-balances}
+use Rattle.pspmpeg.specs.Stream.{isFor, framesAt, deliveredBefore}
+
+-- a packet brings no more bytes than it has
+body-few : (dmpt : Bool) (sub : List ℕ) → first (packetRefusals dmpt sub) ≡ 0 → bodyBytes dmpt sub ≤ length sub
+unfolding wanted bodyAt
+body-few true sub z = omega arith
+body-few false sub z = let p = psp-passed entryWidth sub z in omega (arith, p .fills)
+
+module _ (c : Card) (packet out lens : List ℕ) where
+  abbrev slices : Slices
+  slices = asSlices (c .holding) out lens
+
+  abbrev row : ℕ
+  row = rowOf overIp (c .table) packet
+
+  abbrev behind : List ℕ
+  behind = sub overIp packet
+
+  packet-few : received overIp (c .table) packet slices .answer .code ≡ 0 → length (packetBody (toDmpt (c .table) row) behind) ≤ length packet
+  packet-few z =
+      let a = call.accepted overIp (c .table) packet slices z in
+      let tells = heard-tells length by-length (toDmpt (c .table) row) (flowOf (c .table) row behind) (heldBy (c .table) row behind slices) behind
+      (held-none overIp (c .table) packet slices a) in
+      omega (
+        arith,
+        tells,
+        accepted-bounded overIp (c .table) packet slices a .all,
+        held-length overIp (c .table) packet slices a,
+        body-few (toDmpt (c .table) row) behind (a .passed),
+        length-rest packet (overIp + idLength),
+      )
+
+  hands-few : (n : ℕ) → received overIp (c .table) packet slices .answer .code ≡ n → length (takenBy c (hands packet out lens)) ≤ length packet
+  unfolding answer
+  hands-few zero e =
+      let code = received overIp (c .table) packet slices .answer .code in
+      omega (arith, ap length (when-accepted code e (packetBody (toDmpt (c .table) row) behind) []), packet-few e)
+  hands-few (suc n) e =
+      let code = received overIp (c .table) packet slices .answer .code in
+      omega (arith, ap length (when-refused code (λ z. omega arith) (packetBody (toDmpt (c .table) row) behind) []))
+
+-- .. and so does an entry
+entry-few : (r : Running) (e : Entry) → length (takenBy (r .card) (callOf r e)) ≤ length (e .body)
+entry-few r e = by (eqb (e .kind) openPsp) (eqb (e .kind) openDmpt) (eqb (e .kind) closing)
+  where
+    by : (a b d : Bool) →
+        length (takenBy (r .card) (cond a (opens mode.Psp (be32At (e .body) 0)) (cond b (opens mode.Dmpt (be32At (e .body) 0)) (cond d (closes (be32At (e .body) 0)) (hands (e .body) (r .output) (r .lengths))))))
+        ≤ length (e .body)
+    by true b d = omega arith
+    by false true d = omega arith
+    by false false true = omega arith
+    by false false false = hands-few (r .card) (e .body) (r .output) (r .lengths) _ refl
+
+-- What has been delivered and what is still held, together, has come in the bodies before.
+standing-good : (file : List ℕ) (k : ℕ) → Good (standing file k .card)
+standing-good file k = subst Good (run-card file k) (good-all startCard (upTo (callAt file) k) (good-empty (replicate holdingSize 0)))
+
+entry-balances : (file : List ℕ) (k : ℕ) →
+    length (joined (framesOf (answerAt file k))) + keptInAll inTable (standing file (suc k) .card)
+    ≤ length (nthEntry file k .body) + keptInAll inTable (standing file k .card)
+unfolding answerAt standing runOne
+entry-balances file k =
+    let c = standing file k .card in
+    let x = callOf (standing file k) (nthEntry file k) in
+    omega (arith, call-balances table-keeps c (standing-good file k) x, entry-few (standing file k) (nthEntry file k))
+
+chosen-few : (b : Bool) (frames : List (List ℕ)) → (length (cond b frames []) ≤ length frames) × (length (joined (cond b frames [])) ≤ length (joined frames))
+unfolding joined
+chosen-few true frames = (omega arith, omega arith)
+chosen-few false frames = (omega arith, omega arith)
+
+at-few : (session : ℕ) (file : List ℕ) (k : ℕ) →
+    (length (framesAt session file k) ≤ length (framesOf (answerAt file k)))
+    × (length (joined (framesAt session file k)) ≤ length (joined (framesOf (answerAt file k))))
+unfolding framesAt
+at-few session file k = chosen-few (isFor session (standing file k .card .table) (nthEntry file k)) (framesOf (answerAt file k))
+
+body-short : (file : List ℕ) (k : ℕ) → length (nthEntry file k .body) ≤ bodyLength headLength entryLength file k
+unfolding nthEntry
+body-short file k = part-short file (bodyStart headLength entryLength file k) (bodyLength headLength entryLength file k)
+
+told-before : (session : ℕ) (file : List ℕ) (k : ℕ) →
+    length (joined (deliveredBefore session file k)) + keptInAll inTable (standing file k .card) ≤ sumTo (bodyLength headLength entryLength file) k
+unfolding deliveredBefore joined standing begin sumTo
+told-before session file zero = omega (arith, empty-keeps table-keeps (replicate holdingSize 0))
+told-before session file (suc k) =
+    omega (
+      arith,
+      told-before session file k,
+      entry-balances file k,
+      at-few session file k .1,
+      body-short file k,
+      ap length (joined-append (deliveredBefore session file k) (framesAt session file k)),
+      length-append (joined (deliveredBefore session file k)) (joined (framesAt session file k)),
+    )
+
+pub few-bytes : (session : ℕ) (file : List ℕ) (k : ℕ) → fileRefusal file ≡ 0 → k ≤ entryCount headLength file →
+    length (joined (deliveredBefore session file k)) ≤ longestFile
+unfolding bodyStart
+few-bytes session file k z within =
+    let sound = is-sound file z in
+    omega (
+      arith,
+      told-before session file k,
+      sum-below (bodyLength headLength entryLength file) k (entryCount headLength file) within,
+      sound .ends,
+      sound .short,
+    )
+
+-- the frames, by number
+cut-many : (l bytes : List ℕ) → length (cutBy l bytes) ≡ length l
+unfolding cutBy
+cut-many [] bytes = refl
+cut-many (n ∷ l) bytes = ap suc (cut-many l (drop n bytes))
+
+entry-frames : (file : List ℕ) (k : ℕ) → length (framesOf (answerAt file k)) ≤ mostFrames
+unfolding answerAt
+entry-frames file k =
+    let a = answerTo (standing file k) (nthEntry file k) in
+    omega (
+      arith,
+      cut-many (part (a .lengths) 0 (a .frames)) (a .output),
+      part-short (a .lengths) 0 (a .frames),
+      frames-short (standing file k) (nthEntry file k) .0,
+    )
+
+pub few-frames : (session : ℕ) (file : List ℕ) (k : ℕ) → length (deliveredBefore session file k) ≤ mostFrames * k
+unfolding deliveredBefore
+few-frames session file zero = omega arith
+few-frames session file (suc k) =
+    omega (
+      arith,
+      few-frames session file k,
+      entry-frames file k,
+      at-few session file k .0,
+      length-append (deliveredBefore session file k) (framesAt session file k),
+    )

@@ -1,0 +1,61 @@
+-- `pspmpeg::run` is safe since what is written out lies in the room for it.
+use mathlib.Core.Path.{sym}
+use native.Mathlib.Omega.{arith}
+use lib.Seq.{length-take-le}
+use Rattle.text.proofs.Writing.{wrote-length}
+use borrow.Author.Needs.{needs}
+use Rattle.pspmpeg.proofs.run.Statement.{statement}
+use Rattle.pspmpeg.proofs.run.Tie as tie
+
+file-room-requires : tie.Need-file-room-requires
+file-room-requires c κs = search needs
+
+slice-aggregate-read-full : tie.Need-slice-aggregate-read-full
+slice-aggregate-read-full c = search needs
+
+read-full-requires : tie.Need-read-full-requires
+read-full-requires c κs = search needs
+
+stream-room-requires : tie.Need-stream-room-requires
+stream-room-requires c κs = search needs
+
+array-share-prefix-file : tie.Need-array-share-prefix-file
+array-share-prefix-file c = search needs
+
+slice-aggregate-write-stream : tie.Need-slice-aggregate-write-stream
+slice-aggregate-write-stream c = search needs
+
+slice-aggregate-write-stream-2 : tie.Need-slice-aggregate-write-stream-2
+slice-aggregate-write-stream-2 c = search needs
+
+write-stream-requires : tie.Need-write-stream-requires
+write-stream-requires c κs = search needs
+
+array-share-prefix-text : tie.Need-array-share-prefix-text
+array-share-prefix-text c = search needs
+
+slice-aggregate-write-all : tie.Need-slice-aggregate-write-all
+slice-aggregate-write-all c = let w = c .before .before .write-stream .ensures in sym (length-take-le _ _ (omega (arith, w .next-place, w .inside, wrote-length w)))
+
+write-all-requires : tie.Need-write-all-requires
+write-all-requires c κs = search needs
+
+returns : tie.Need-returns
+returns c = search needs
+
+pub run-spec : {M : Type 1} → statement M
+run-spec =
+    tie.close
+    (tie.spec
+    file-room-requires
+    slice-aggregate-read-full
+    read-full-requires
+    stream-room-requires
+    array-share-prefix-file
+    slice-aggregate-write-stream
+    slice-aggregate-write-stream-2
+    write-stream-requires
+    array-share-prefix-text
+    slice-aggregate-write-all
+    write-all-requires
+    returns)

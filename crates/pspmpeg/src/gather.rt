@@ -1,0 +1,172 @@
+// The frames that a capture delivers on a session, one behind the other.
+ghost use mathlib.Core.Path.{_≡_};
+ghost use Prim.Native.Nat.{_+_, _<_, _≤_};
+ghost use lib.ListN.{length};
+ghost use Rattle.card.specs.Receive.{framesFound};
+ghost use Rattle.capture.specs.File.{headLength, entryCount, longestFile};
+ghost use Rattle.listing.specs.Walk.{Stands, Unused, lineRoom};
+ghost use Rattle.trace.specs.Rooms.{Enough};
+ghost use Rattle.pspmpeg.specs.Stream.{isFor, framesAt, delivered};
+ghost use Rattle.pspmpeg.specs.Steps.{mostGathered, Fits, FitsFound, Adds, Gathers};
+use capture::reader;
+use listing::Walk;
+use packet::header;
+use table::Table;
+
+// Room for the lengths of all frames: of each entry as many as a call delivers.
+pub const MOST_GATHERED: usize = card::MOST_FRAMES * capture::MOST_ENTRIES;
+
+// How many frames have been gathered, and how many bytes they have together.
+pub struct Gathered {
+    pub count: usize,
+    pub bytes: usize,
+}
+
+// Where the run stands, and what has been gathered up to there.
+struct Stage {
+    walk: Walk,
+    gathered: Gathered,
+}
+
+// A frame's length as a number to count with. The contract says its bound, which a sum needs.
+fn wide(length: u16) -> usize
+    ensures { λ r. ⌜ (r ≡ length) × (r < 65536) ⌝ }
+{
+    length as usize
+}
+
+// Whether an entry is a packet for the session, while the session is open as PSP.
+fn is_for(table: Table, kind: u8, body: &[u8], session: u32) -> bool
+    ensures { λ r. ⌜ r ≡ isFor session table (record { kind = kind; body = now (body .entry) }) ⌝ }
+{
+    if kind != capture::DATA {
+        return false;
+    }
+    if body.len() < header::ID_LENGTH {
+        return false;
+    }
+    if octets::read_u32(body, 0) != session {
+        return false;
+    }
+    let at = table::find_row(table, session);
+    if table::ROWS <= at {
+        return false;
+    }
+    let row = table.rows[at];
+    let kind_of_row = row.kind;
+    !table::is_dmpt(kind_of_row)
+}
+
+// Puts the frames that a call delivered behind those gathered before.
+fn append(
+    output: &[u8],
+    lengths: &[u16],
+    more: usize,
+    bytes: &mut [u8],
+    sizes: &mut [u16],
+    before: Gathered,
+) -> Gathered
+    requires { ⌜ FitsFound (now output) (now lengths) more (now bytes) (now sizes) before ⌝ }
+    ensures { λ r. ⌜ Adds (framesFound more (now (lengths .entry)) (now (output .entry)))
+        (now (bytes .entry)) (now (sizes .entry)) (now (bytes .exit)) (now (sizes .exit)) before r ⌝ }
+{
+    let count = before.count;
+    let total = before.bytes;
+    let mut sum: usize = 0;
+    let mut i: usize = 0;
+    while i < more {
+        let size = wide(lengths[i]);
+        sizes[count + i] = size as u16;
+        sum += size;
+        i += 1;
+    }
+    octets::copy(bytes, total, output, 0, sum);
+    Gathered {
+        count: count + more,
+        bytes: total + sum,
+    }
+}
+
+// Runs an entry, and gathers its frames where it is for the session. (The line of a listing that the run writes with it is not used.)
+fn gather_entry(
+    file: &[u8],
+    session: u32,
+    stage: Stage,
+    holding: &mut [u8],
+    output: &mut [u8],
+    lengths: &mut [u16],
+    line: &mut [u8],
+    bytes: &mut [u8],
+    sizes: &mut [u16],
+) -> Stage
+    requires { ⌜ Stands (now file) (stage .walk) (now holding) (now output) (now lengths) × (stage .walk .index < entryCount headLength (now file)) ⌝ }
+    requires { ⌜ Enough (now holding) (now output) (now lengths) × (lineRoom ≤ length (now line)) ⌝ }
+    requires { ⌜ Fits (framesAt session (now file) (stage .walk .index)) (now bytes) (now sizes) (stage .gathered) ⌝ }
+    ensures { λ r. ⌜ Stands (now (file .entry)) (r .walk) (now (holding .exit)) (now (output .exit)) (now (lengths .exit)) ⌝ }
+    ensures { λ r. ⌜ r .walk .index ≡ stage .walk .index + 1 ⌝ }
+    ensures { λ r. ⌜ Adds (framesAt session (now (file .entry)) (stage .walk .index))
+        (now (bytes .entry)) (now (sizes .entry)) (now (bytes .exit)) (now (sizes .exit)) (stage .gathered) (r .gathered) ⌝ }
+{
+    let walk = stage.walk;
+    let before = stage.gathered;
+    let index = walk.index;
+    let start = walk.start;
+    let table = walk.table;
+    let kind = reader::kind_at(file, index);
+    let body = reader::body_at(file, index, start);
+    let wanted = is_for(table, kind, body, session);
+    let listed = listing::list_entry(file, walk, holding, output, lengths, line, 0);
+    let further = listed.walk;
+    if !wanted {
+        return Stage {
+            walk: further,
+            gathered: before,
+        };
+    }
+    let more = listed.frames as usize;
+    let gathered = append(output, lengths, more, bytes, sizes, before);
+    Stage {
+        walk: further,
+        gathered,
+    }
+}
+
+// Gathers the frames that a sound capture delivers on the session: their bytes, back to back, and their lengths.
+pub fn gather(
+    file: &[u8],
+    session: u32,
+    holding: &mut [u8],
+    output: &mut [u8],
+    lengths: &mut [u16],
+    line: &mut [u8],
+    bytes: &mut [u8],
+    sizes: &mut [u16],
+) -> Gathered
+    requires { ⌜ Unused (now file) (now holding) (now output) (now lengths) × (lineRoom ≤ length (now line)) ⌝ }
+    requires { ⌜ (longestFile ≤ length (now bytes)) × (mostGathered ≤ length (now sizes)) ⌝ }
+    ensures { λ r. ⌜ Gathers (delivered session (now (file .entry)))
+        (now (bytes .entry)) (now (sizes .entry)) (now (bytes .exit)) (now (sizes .exit)) r ⌝ }
+    ensures { λ r. ⌜ (r .bytes ≤ longestFile) × (r .count ≤ mostGathered) ⌝ }
+{
+    let count = reader::entry_count(file);
+    let walk = listing::begin(file);
+    let none = Gathered { count: 0, bytes: 0 };
+    let mut stage = Stage {
+        walk,
+        gathered: none,
+    };
+    while stage.walk.index < count {
+        stage = gather_entry(
+            file,
+            session,
+            stage,
+            holding,
+            output,
+            lengths,
+            line,
+            bytes,
+            sizes,
+        );
+    }
+    stage.gathered
+}

@@ -1,0 +1,116 @@
+// pspmpeg SESSION < CAPTURE > FILE.ts
+//
+// Runs a capture on a card with an empty table and writes, for the modulator, the MPEG packets of the frames that are delivered on the session, in
+// the order delivered (W3). SESSION is its ID, in decimal. All frames wait before the first packet is written, and the first count is 0: so only
+// the last packet is filled up, and there is no null packet. A session that is open as D-MPT delivers no frames, and nothing of it is written.
+//
+// A capture that is refused (41 to 45), and a frame that W3 does not let travel (52), come to one line, `refused` and the number.
+mod gather;
+mod packets;
+
+ghost use mathlib.Core.Path.{_≡_};
+ghost use Prim.Native.Nat.{_+_, _≤_};
+ghost use lib.ListN.{length};
+ghost use Rattle.text.specs.Text.{Wrote};
+ghost use Rattle.capture.specs.File.{longestFile};
+ghost use Rattle.listing.specs.Walk.{lineRoom};
+ghost use Rattle.pspmpeg.specs.Stream.{stream};
+ghost use Rattle.pspmpeg.specs.Steps.{mostGathered, streamRoom};
+use capture::reader;
+use libc::STDERR_FILENO;
+use libc::STDIN_FILENO;
+use libc::STDOUT_FILENO;
+
+// The greatest session ID.
+const GREATEST_ID: usize = 4294967295;
+
+fn usage() {
+    io::write_all(
+        STDERR_FILENO,
+        b"usage: pspmpeg SESSION < CAPTURE > FILE.ts   (SESSION in decimal, to 4294967295)\n",
+    );
+}
+
+fn main() {
+    let session = arguments::argument(1);
+    if (os::arg_count() != 2) | !session.good {
+        usage();
+        return;
+    }
+    if GREATEST_ID < session.value {
+        usage();
+        return;
+    }
+    run(session.value as u32);
+}
+
+// Rooms of zeros. The contracts say how long they are, which lending one as a slice needs. That for the file has one byte more than a capture
+// may have, so that a longer one is seen to be too long.
+fn file_room() -> [u8; capture::LONGEST_FILE + 1]
+    ensures { λ r. ⌜ longestFile + 1 ≡ length r ⌝ }
+{
+    [0; capture::LONGEST_FILE + 1]
+}
+
+fn stream_room() -> [u8; packets::STREAM_ROOM]
+    ensures { λ r. ⌜ streamRoom ≡ length r ⌝ }
+{
+    [0; packets::STREAM_ROOM]
+}
+
+fn line_room() -> [u8; listing::LINE_ROOM]
+    ensures { λ r. ⌜ lineRoom ≡ length r ⌝ }
+{
+    [0; listing::LINE_ROOM]
+}
+
+fn bytes_room() -> [u8; capture::LONGEST_FILE]
+    ensures { λ r. ⌜ longestFile ≡ length r ⌝ }
+{
+    [0; capture::LONGEST_FILE]
+}
+
+fn sizes_room() -> [u16; gather::MOST_GATHERED]
+    ensures { λ r. ⌜ mostGathered ≡ length r ⌝ }
+{
+    [0; gather::MOST_GATHERED]
+}
+
+// Reads the capture and writes the packets.
+fn run(session: u32) {
+    let mut file = file_room();
+    let read = io::read_full(STDIN_FILENO, &mut file);
+    let mut text = stream_room();
+    let length = write_stream(&file[..read], session, &mut text);
+    io::write_all(STDOUT_FILENO, &text[..length]);
+}
+
+// Writes the packets of a capture's frames, or the line of a refusal, and answers how long that is.
+fn write_stream(file: &[u8], session: u32, text: &mut [u8]) -> usize
+    requires { ⌜ streamRoom ≤ length (now text) ⌝ }
+    ensures { λ r. ⌜ Wrote (now (text .entry)) (now (text .exit)) 0 r (stream session (now (file .entry))) ⌝ }
+{
+    let refused = reader::check(file);
+    if refused != refusal::NONE {
+        return listing::line::write_refused(text, 0, refused);
+    }
+    let mut holding = listing::holding_room();
+    let mut output = listing::output_room();
+    let mut lengths = listing::lengths_room();
+    let mut line = line_room();
+    let mut bytes = bytes_room();
+    let mut sizes = sizes_room();
+    let gathered = gather::gather(
+        file,
+        session,
+        &mut holding,
+        &mut output,
+        &mut lengths,
+        &mut line,
+        &mut bytes,
+        &mut sizes,
+    );
+    let total = gathered.bytes;
+    let count = gathered.count;
+    packets::write_packets(&bytes[..total], &sizes[..count], text)
+}
