@@ -25,7 +25,7 @@ const NULL_PID_HIGH: u8 = 0x1F;
 
 const NULL_PID_LOW: u8 = 0xFF;
 
-// The flag that says: a frame starts here, and the first byte of the payload is the pointer to it.
+// The flag that says: the first byte of the payload is a pointer, to where the frame that has begun ends and the next one may start.
 const START_FLAG: u8 = 0x40;
 
 // What stands beside the count: payload and nothing else, not scrambled.

@@ -279,7 +279,7 @@ fn frames_from(packets: &[u8], start: usize, end: usize, standing: Standing) -> 
     }
 }
 
-// With the flag: the pointer says how many bytes end the frame that has begun, and then frames start.
+// With the flag: the pointer says how many bytes end the frame that has begun; behind them come frames, or 0xFF to the end, or nothing.
 fn with_flag(packets: &[u8], at: usize, standing: Standing) -> Standing
     requires { ⌜ (at + mpegLength ≤ length (now packets)) × Within at standing ⌝ }
     ensures { λ r. ⌜ Follows (λ s. withFlag s (part (now (packets .entry)) at mpegLength)) standing r ⌝ }
