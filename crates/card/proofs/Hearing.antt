@@ -9,16 +9,14 @@ use lib.Dec.{ltb}
 use lib.ListN.{length}
 use borrow.Author.Tests.{ltb-false}
 use Rattle.refusal.specs.Refusal.{_when_, first}
-use Rattle.refusal.proofs.Laws.{numbered, first-passed, first-stopped}
+use Rattle.refusal.proofs.Laws.{first-passed, first-stopped}
 use Rattle.octets.specs.Stretch.{part, joined, lengths}
 use Rattle.octets.proofs.Counts.{or-false-left, or-false-right}
 use Rattle.flow.specs.declared.Judged.{Judged}
 use Rattle.flow.specs.Flow.{longest, flows}
-use Rattle.packet.specs.Header.{flowId}
-use Rattle.packet.specs.Segments.{entryWidth}
-use Rattle.packet.proofs.Passing.{psp-passed, dmpt-passed}
 use Rattle.table.specs.declared.Table.{Table}
-use Rattle.table.specs.Rows.{rows, rowAt, flowAt}
+use Rattle.table.specs.declared.Terms.{Terms}
+use Rattle.table.specs.Rows.{rows, isDmpt, termsAt, rowAt, flowAt}
 use Rattle.table.specs.Broken.{broken}
 use Rattle.table.proofs.Keeping.{flows-whole}
 use Rattle.join.specs.declared.Tally.{Tally}
@@ -27,8 +25,9 @@ use Rattle.join.specs.Slices.{asSlices, mostFrames, mostBytes, Slices}
 use Rattle.join.specs.Placed.{nothingYet, Placed, Roomy}
 use Rattle.card.specs.declared.Received.{Received}
 use Rattle.card.specs.Hear.{judgedOf, fateOf, hear}
-use Rattle.card.specs.Receive.{holdingSize, placeOf, Outcome, toDmpt, flowOf, heardBy, tooSmall, packetRefusals, flowRefusals, carriedOut, refusedAnswer, refused, receivedBy}
+use Rattle.card.specs.Receive.{holdingSize, placeOf, Outcome, flowTo, flowOf, heardBy, tooSmall, packetRefusals, flowRefusals, carriedOut, refusedAnswer, refused, receivedBy}
 use Rattle.card.specs.Ready.{answered}
+use Rattle.card.proofs.ByKind.{numbered-packet}
 
 -- What is not refused for its size is large enough.
 pub record Large (s : Slices) : Type 0 where
@@ -55,16 +54,11 @@ place-roomy s r k e l m =
       lengths-long = enough .lengths-enough;
     }
 
--- a packet that is not refused is for a flow of the row
-pub flow-in-row : (dmpt : Bool) (sub : List ℕ) → first (packetRefusals dmpt sub) ≡ 0 → flowId sub < flows
-flow-in-row true sub z = omega (arith, dmpt-passed sub z .only-flow)
-flow-in-row false sub z = omega (arith, psp-passed entryWidth sub z .in-row)
-
--- which holds no more than a place has room for, and nothing where the session is D-MPT
-pub held-fits : (t : Table) (r k : ℕ) → broken t ≡ false → r < rows → k < flows → flowAt (rowAt t r) k .held ≤ longest
+-- a flow holds no more than a place has room for, and nothing where the session is D-MPT
+pub held-fits : (t : Table) (r k : ℕ) → broken t ≡ false → r < rows → k < flows → flowAt (rowAt t r) k .held ≤ termsAt t r .longest
 held-fits t r k whole l m = flows-whole t whole r k l m .fits
 
-pub dmpt-bare : (t : Table) (r k : ℕ) → broken t ≡ false → r < rows → k < flows → toDmpt t r ≡ true → flowAt (rowAt t r) k .held ≡ 0
+pub dmpt-bare : (t : Table) (r k : ℕ) → broken t ≡ false → r < rows → k < flows → isDmpt (rowAt t r .kind) ≡ true → flowAt (rowAt t r) k .held ≡ 0
 dmpt-bare t r k whole l m d = flows-whole t whole r k l m .holds-none d
 
 -- What is heard, carried out, is what counts and slices show.
@@ -94,41 +88,37 @@ pub refused-answer : (c : ℕ) (t : Table) (s : Slices) (answer : Received) →
 unfolding refused
 refused-answer c t s answer e = rw e refl
 
-numbered-packet : (dmpt : Bool) (sub : List ℕ) → numbered (packetRefusals dmpt sub) ≡ true
-numbered-packet true sub = refl
-numbered-packet false sub = refl
-
--- The returns of `hear`. `dmpt` and `code` are what it found of the row and of the packet.
-module _ (t : Table) (r : ℕ) (sub : List ℕ) (s : Slices) (dmpt : Bool) (kind : dmpt ≡ toDmpt t r) (code : ℕ) (found : code ≡ first (packetRefusals dmpt sub)) where
-  code-is : code ≡ first (packetRefusals (toDmpt t r) sub)
-  code-is = found ∙ ap (λ (d : Bool). first (packetRefusals d sub)) kind
+-- The returns of `hear`. `terms` and `code` are what it found of the row and of the packet.
+module _ (t : Table) (r : ℕ) (sub : List ℕ) (s : Slices) (terms : Terms) (asked : terms ≡ termsAt t r) (code : ℕ) (found : code ≡ first (packetRefusals terms sub)) where
+  code-is : code ≡ first (packetRefusals (termsAt t r) sub)
+  code-is = found ∙ ap (λ (d : Terms). first (packetRefusals d sub)) asked
 
   pub hear-refused : (answer : Received) → (code ≡ 0 → ⊥) → answer ≡ refusedAnswer code t →
       _≡_ {A = Outcome} (record { answer = answer; slices = s }) (receivedBy (first (flowRefusals t r sub)) t r sub s)
   hear-refused answer some e =
-      let stops = first-stopped (packetRefusals (toDmpt t r) sub) (12 when judgedOf (flowOf t r sub) sub .late ∷ []) (λ z. some (code-is ∙ z)) in
+      let stops = first-stopped (packetRefusals (termsAt t r) sub) (12 when judgedOf (flowOf t r sub) sub .late ∷ []) (λ z. some (code-is ∙ z)) in
       rw (stops, ← code-is) (refused-answer code t s answer e ∙ sym (refused-by code t r sub s some))
 
-  module _ (passed : code ≡ 0) (k : ℕ) (flow : k ≡ flowId sub) (j : Judged) (judged : j ≡ judgedOf (flowAt (rowAt t r) k) sub) where
+  module _ (passed : code ≡ 0) (k : ℕ) (flow : k ≡ flowTo t r sub) (j : Judged) (judged : j ≡ judgedOf (flowAt (rowAt t r) k) sub) where
     judged-is : j ≡ judgedOf (flowOf t r sub) sub
     judged-is = judged ∙ ap (λ (i : ℕ). judgedOf (flowAt (rowAt t r) i) sub) flow
 
     last-line : first (flowRefusals t r sub) ≡ cond (j .late) 12 0
     last-line =
         rw judged-is
-        (first-passed (packetRefusals (toDmpt t r) sub) (12 when judgedOf (flowOf t r sub) sub .late ∷ []) (numbered-packet (toDmpt t r) sub) (sym code-is ∙ passed))
+        (first-passed (packetRefusals (termsAt t r) sub) (12 when judgedOf (flowOf t r sub) sub .late ∷ []) (numbered-packet (termsAt t r) sub) (sym code-is ∙ passed))
 
     pub hear-late : (answer : Received) → j .late ≡ true → answer ≡ refusedAnswer 12 t →
         _≡_ {A = Outcome} (record { answer = answer; slices = s }) (receivedBy (first (flowRefusals t r sub)) t r sub s)
     hear-late answer late e = rw (last-line, late) (refused-answer 12 t s answer e ∙ sym (refused-by 12 t r sub s (λ z. omega arith)))
 
     pub hear-accepted : (place : ℕ) (tally : Tally) (answer : Received) (hold out lens : List ℕ) → j .late ≡ false → place ≡ placeOf r k →
-        Placed (fateOf dmpt (j .gap) (part (s .holding) place (flowAt (rowAt t r) k .held)) sub) place nothingYet s tally (asSlices hold out lens) →
+        Placed (fateOf terms (j .gap) (part (s .holding) place (flowAt (rowAt t r) k .held)) sub) place nothingYet s tally (asSlices hold out lens) →
         answer ≡ answered t r k j tally →
         _≡_ {A = Outcome} (record { answer = answer; slices = asSlices hold out lens })
         (receivedBy (first (flowRefusals t r sub)) t r sub s)
     unfolding receivedBy hear
     hear-accepted place tally answer hold out lens intime at p e =
-        let q : Placed (heardBy t r sub s .fate) (placeOf r (flowId sub)) nothingYet s tally (asSlices hold out lens) =
-        rw (kind, at, flow, judged-is) at p in
-        rw (last-line, intime, e, flow, judged-is) (carried-out r (flowId sub) (judgedOf (flowOf t r sub) sub) (heardBy t r sub s .fate) t s tally hold out lens q)
+        let q : Placed (heardBy t r sub s .fate) (placeOf r (flowTo t r sub)) nothingYet s tally (asSlices hold out lens) =
+        rw (asked, at, flow, judged-is) at p in
+        rw (last-line, intime, e, flow, judged-is) (carried-out r (flowTo t r sub) (judgedOf (flowOf t r sub) sub) (heardBy t r sub s .fate) t s tally hold out lens q)

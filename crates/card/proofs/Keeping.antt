@@ -15,29 +15,29 @@ use Rattle.flow.specs.declared.Flow.{Flow}
 use Rattle.flow.specs.declared.Judged.{Judged}
 use Rattle.flow.specs.Flow.{flows, judge}
 use Rattle.flow.proofs.Judging.{judge-sound}
-use Rattle.packet.specs.Header.{sSet, number, flowId, sub, sessionId}
-use Rattle.packet.specs.Segments.{entryWidth}
+use Rattle.packet.specs.Header.{Packet, sSet, number, sub, sessionId}
+use Rattle.packet.specs.Dmpt.{dmptRefusals}
 use Rattle.packet.proofs.Passing.{psp-passed, dmpt-passed}
-use Rattle.table.specs.declared.Kind.the-variants as kind
 use Rattle.table.specs.declared.Row.{Row}
 use Rattle.table.specs.declared.Table.{Table}
-use Rattle.table.specs.Rows.{rows, isClosed, rowAt, openIn, withFlow}
+use Rattle.table.specs.Rows.{rows, isClosed, isDmpt, noRow, termsAt, rowAt, openIn, withFlow}
 use Rattle.table.specs.Broken.{broken}
 use Rattle.table.proofs.Keeping.{accepted-keeps}
 use Rattle.join.specs.Slices.{Slices}
 use Rattle.join.proofs.Carrying.{dmpt-header, dmpt-holds-none}
-use Rattle.card.specs.Hear.{hear, recordAfter}
-use Rattle.card.specs.Receive.{rowOf, toDmpt, flowOf, heardBy, packetRefusals, carriedOut, refused, received}
+use Rattle.card.specs.Hear.{widthIn, hear, recordAfter}
+use Rattle.card.specs.Receive.{rowOf, flowTo, flowOf, heardBy, carriedOut, refused, received}
+use Rattle.card.proofs.ByKind.{refusals-dmpt, refusals-psp}
 use Rattle.card.proofs.Hearing.{dmpt-bare}
 use Rattle.card.proofs.Accepted.{Accepted, accepted, flow-there, received-accepted, received-refused}
 use Rattle.card.proofs.Limits.{accepted-bounded, held-none}
 
-module _ (lead : ℕ) (t : Table) (packet : List ℕ) (s : Slices) (a : Accepted lead t packet s) where
+module _ (t : Table) (p : Packet) (s : Slices) (a : Accepted t p s) where
   abbrev row : ℕ
-  row = rowOf lead t packet
+  row = rowOf t p
 
   abbrev after : List ℕ
-  after = sub lead packet
+  after = sub p
 
   abbrev flow : Flow
   flow = flowOf t row after
@@ -46,41 +46,41 @@ module _ (lead : ℕ) (t : Table) (packet : List ℕ) (s : Slices) (a : Accepted
   row-open : isClosed (rowAt t row .kind) ≡ false
   row-open =
       not-true (isClosed (rowAt t row .kind))
-      (and-left (not (isClosed (rowAt t row .kind))) (eqb (rowAt t row .id) (sessionId lead packet))
-      (least-passes (openIn t (sessionId lead packet)) rows (a .found)))
+      (and-left (not (isClosed (rowAt t row .kind))) (eqb (rowAt t row .id) (sessionId p))
+      (least-passes (openIn t (sessionId p)) rows (a .found)))
 
   -- a D-MPT packet: flow 0, and nothing is held before or after
-  dmpt-flow : toDmpt t row ≡ true → flowId after ≡ 0
-  dmpt-flow d = dmpt-passed after (sym (ap (λ (b : Bool). first (packetRefusals b after)) d) ∙ a .passed) .only-flow
+  dmpt-flow : isDmpt (rowAt t row .kind) ≡ true → flowTo t row after ≡ 0
+  dmpt-flow d = dmpt-passed after (sym (refusals-dmpt (termsAt t row) after d) ∙ a .passed) .only-flow
 
-  dmpt-after : toDmpt t row ≡ true → heardBy t row after s .fate .held ≡ []
+  dmpt-after : isDmpt (rowAt t row .kind) ≡ true → heardBy t row after s .fate .held ≡ []
   unfolding hear
   dmpt-after d =
-      let passed : first (packetRefusals true after) ≡ 0 = sym (ap (λ (b : Bool). first (packetRefusals b after)) d) ∙ a .passed in
-      rw (d, held-none lead t packet s a d) (dmpt-holds-none after (dmpt-header after passed))
+      let passed : first (dmptRefusals after) ≡ 0 = sym (refusals-dmpt (termsAt t row) after d) ∙ a .passed in
+      rw (d, held-none t p s a d) (dmpt-holds-none after (dmpt-header after passed))
 
   -- S is clear on D-MPT alone, and there the record stays as it was
-  clear-dmpt : sSet after ≡ false → toDmpt t row ≡ true
-  clear-dmpt c = by-kind (toDmpt t row) refl
+  clear-dmpt : sSet after ≡ false → isDmpt (rowAt t row .kind) ≡ true
+  clear-dmpt c = by-kind (isDmpt (rowAt t row .kind)) refl
     where
-      by-kind : (d : Bool) → toDmpt t row ≡ d → toDmpt t row ≡ true
+      by-kind : (d : Bool) → isDmpt (rowAt t row .kind) ≡ d → isDmpt (rowAt t row .kind) ≡ true
       by-kind true e = e
       by-kind false e =
-          absurd (true≢false (sym (psp-passed entryWidth after (sym (ap (λ (b : Bool). first (packetRefusals b after)) e) ∙ a .passed) .counted) ∙ c))
+          absurd (true≢false (sym (psp-passed (widthIn (rowAt t row .kind)) after (sym (refusals-psp (termsAt t row) after e) ∙ a .passed) .counted) ∙ c))
 
   clear-record : sSet after ≡ false → recordAfter (heardBy t row after s) ≡ flow
   unfolding hear
   clear-record c =
       let d = clear-dmpt c in
       let none : length (heardBy t row after s .fate .held) ≡ flow .held =
-      ap (λ (l : List ℕ). length l) (dmpt-after d) ∙ sym (dmpt-bare t row (flowId after) (a .whole) (a .found) (flow-there lead t packet s a) d) in
+      ap (λ (l : List ℕ). length l) (dmpt-after d) ∙ sym (dmpt-bare t row (flowTo t row after) (a .whole) (a .found) (flow-there t p s a) d) in
       rw (none, c) refl
 
   -- so nothing of the table changes
-  same-table : recordAfter (heardBy t row after s) ≡ flow → withFlow t row (flowId after) (recordAfter (heardBy t row after s)) ≡ t
+  same-table : recordAfter (heardBy t row after s) ≡ flow → withFlow t row (flowTo t row after) (recordAfter (heardBy t row after s)) ≡ t
   same-table e =
-      rw (e, set-getD (rowAt t row .flows) (flowId after))
-      (ap (λ (l : List Row). record { rows = l }) (set-getD (t .rows) row (record { id = 0; kind = kind.Closed; flows = [] })))
+      rw (e, set-getD (rowAt t row .flows) (flowTo t row after))
+      (ap (λ (l : List Row). record { rows = l }) (set-getD (t .rows) row noRow))
 
   -- a number that was accepted was heard
   set-heard : sSet after ≡ true → recordAfter (heardBy t row after s) .heard ≡ true
@@ -89,29 +89,29 @@ module _ (lead : ℕ) (t : Table) (packet : List ℕ) (s : Slices) (a : Accepted
       let in-time : judge flow (number after) .late ≡ false = rw set at (a .in-time) in
       rw set (ap (λ (j : Judged). j .flow .heard) (judge-sound flow (number after) .accepts in-time))
 
-  pub step-keeps : broken (withFlow t row (flowId after) (recordAfter (heardBy t row after s))) ≡ false
+  pub step-keeps : broken (withFlow t row (flowTo t row after) (recordAfter (heardBy t row after s))) ≡ false
   step-keeps =
       ⊎-elim
       (λ (set : sSet after ≡ true).
-      accepted-keeps t row (flowId after) (recordAfter (heardBy t row after s)) (a .whole) (a .found) row-open
-      (set-heard set) (accepted-bounded lead t packet s a .held-few) (λ d. (dmpt-flow d, ap (λ (l : List ℕ). length l) (dmpt-after d))))
+      accepted-keeps t row (flowTo t row after) (recordAfter (heardBy t row after s)) (a .whole) (a .found) row-open
+      (set-heard set) (accepted-bounded t p s a .held-few) (λ d. (dmpt-flow d, ap (λ (l : List ℕ). length l) (dmpt-after d))))
       (λ (clear : sSet after ≡ false). rw (same-table (clear-record clear)) (a .whole))
       (true-or-false (sSet after))
 
 -- No data call breaks a table.
-keeps-by : (c : ℕ) (lead : ℕ) (t : Table) (packet : List ℕ) (s : Slices) → received lead t packet s .answer .code ≡ c → broken t ≡ false →
-    broken (received lead t packet s .answer .table) ≡ false
+keeps-by : (c : ℕ) (t : Table) (p : Packet) (s : Slices) → received t p s .answer .code ≡ c → broken t ≡ false →
+    broken (received t p s .answer .table) ≡ false
 unfolding carriedOut refused
-keeps-by zero lead t packet s e whole = rw (received-accepted lead t packet s e) (step-keeps lead t packet s (accepted lead t packet s e))
-keeps-by (suc c) lead t packet s e whole = rw (received-refused lead t packet s c e) whole
+keeps-by zero t p s e whole = rw (received-accepted t p s e) (step-keeps t p s (accepted t p s e))
+keeps-by (suc c) t p s e whole = rw (received-refused t p s c e) whole
 
-pub received-keeps : (lead : ℕ) (t : Table) (packet : List ℕ) (s : Slices) → broken t ≡ false → broken (received lead t packet s .answer .table) ≡ false
-received-keeps lead t packet s whole = keeps-by (received lead t packet s .answer .code) lead t packet s refl whole
+pub received-keeps : (t : Table) (p : Packet) (s : Slices) → broken t ≡ false → broken (received t p s .answer .table) ≡ false
+received-keeps t p s whole = keeps-by (received t p s .answer .code) t p s refl whole
 
 -- A packet with S clear that is not refused leaves the table as it was: a fresh flow stays fresh.
-pub clear-leaves : (lead : ℕ) (t : Table) (packet : List ℕ) (s : Slices) → received lead t packet s .answer .code ≡ 0 → sSet (sub lead packet) ≡ false →
-    received lead t packet s .answer .table ≡ t
+pub clear-leaves : (t : Table) (p : Packet) (s : Slices) → received t p s .answer .code ≡ 0 → sSet (sub p) ≡ false →
+    received t p s .answer .table ≡ t
 unfolding carriedOut
-clear-leaves lead t packet s z clear =
-    let a = accepted lead t packet s z in
-    rw (received-accepted lead t packet s z) (same-table lead t packet s a (clear-record lead t packet s a clear))
+clear-leaves t p s z clear =
+    let a = accepted t p s z in
+    rw (received-accepted t p s z) (same-table t p s a (clear-record t p s a clear))

@@ -15,49 +15,53 @@ use Rattle.octets.proofs.Stretches.{length-part, part-none, length-put, part-pu
 use Rattle.flow.specs.declared.Flow.{Flow}
 use Rattle.flow.specs.Flow.{longest, half, accepted}
 use Rattle.flow.proofs.Judging.{judge-sound}
-use Rattle.packet.specs.Header.{idLength, sSet, number, flowId, segmentCount, longestPacket, sub}
-use Rattle.packet.specs.Segments.{entryWidth, lengthAt, segments}
-use Rattle.packet.specs.Dmpt.{carried, mpegCount, mpegs}
+use Rattle.packet.specs.Header.{Packet, idLength, sSet, number, segmentCount, longestPacket, sub}
+use Rattle.packet.specs.Segments.{lengthAt, segments}
+use Rattle.packet.specs.Psp.{pspRefusals}
+use Rattle.packet.specs.Dmpt.{carried, mpegCount, mpegs, dmptRefusals}
 use Rattle.packet.proofs.Passing.{psp-passed, dmpt-passed, mpegs-fill}
+use Rattle.table.specs.declared.Kind.{Kind}
 use Rattle.table.specs.declared.Table.{Table}
+use Rattle.table.specs.declared.Terms.{Terms}
+use Rattle.table.specs.Rows.{isDmpt, termsAt, rowAt}
 use Rattle.join.specs.Join.{Fate, pspFate, dmptFate}
 use Rattle.join.specs.Slices.{mostFrames, mostBytes, Slices}
 use Rattle.join.proofs.Account.{told}
 use Rattle.join.proofs.Walking.{so-far-accounts, all-few}
 use Rattle.join.proofs.Carrying as carrying
-use Rattle.card.specs.Hear.{judgedBy, judgedOf, fateOf, hear}
-use Rattle.card.specs.Receive.{placeOf, rowOf, toDmpt, flowOf, heldBy, heardBy, packetRefusals, carriedOut, refused, received}
+use Rattle.card.specs.Hear.{widthIn, judgedBy, judgedOf, fateOf, hear}
+use Rattle.card.specs.Receive.{placeOf, rowOf, flowTo, flowOf, heldBy, heardBy, packetRefusals, carriedOut, refused, received}
 use Rattle.card.proofs.Hearing.{large-enough, place-roomy, held-fits, dmpt-bare}
 use Rattle.card.proofs.Accepted as call
 
 -- how many body bytes a packet brings: the segment bodies, or everything behind the header
-abbrev pub bodyBytes : Bool → List ℕ → ℕ
-bodyBytes dmpt sub = cond dmpt (carried sub) (sumTo (lengthAt entryWidth sub) (segmentCount sub))
+abbrev pub bodyBytes : Kind → List ℕ → ℕ
+bodyBytes kind sub = cond (isDmpt kind) (carried sub) (sumTo (lengthAt (widthIn kind) sub) (segmentCount sub))
 
 -- One packet on one flow: what is held before and what comes is held, delivered or dropped afterwards.
-pub record Bounded (bytes : ℕ) (f : Fate) : Type 0 where
+pub record Bounded (most bytes : ℕ) (f : Fate) : Type 0 where
   pub all : told f ≡ bytes
   pub bytes-few : bytes ≤ mostBytes
   pub frames-few : length (f .delivered) ≤ mostFrames
-  pub held-few : length (f .held) ≤ longest
+  pub held-few : length (f .held) ≤ most
 
-psp-bounded : (gap : ℕ) (held sub : List ℕ) → first (packetRefusals false sub) ≡ 0 → length held ≤ longest → idLength + length sub ≤ longestPacket →
-    Bounded (length held + bodyBytes false sub) (fateOf false gap held sub)
+psp-bounded : (most width gap : ℕ) (held sub : List ℕ) → first (pspRefusals width sub) ≡ 0 → length held ≤ most → most ≤ longest → idLength + length sub ≤ longestPacket →
+    Bounded most (length held + sumTo (lengthAt width sub) (segmentCount sub)) (pspFate most gap held (segments width sub))
 unfolding pspFate segments
-psp-bounded gap held sub z few short =
-    let p = psp-passed entryWidth sub z in
-    let a = so-far-accounts entryWidth gap held sub p few (segmentCount sub) (omega arith) in
+psp-bounded most width gap held sub z few small short =
+    let p = psp-passed width sub z in
+    let a = so-far-accounts most width gap held sub p few small (segmentCount sub) (omega arith) in
     record {
       all = a .all;
-      bytes-few = all-few entryWidth gap held sub p few short (segmentCount sub) (omega arith);
+      bytes-few = all-few most width gap held sub p few small short (segmentCount sub) (omega arith);
       frames-few = omega (arith, a .frames-few);
       held-few = a .held-few;
     }
 
-dmpt-bounded : (gap : ℕ) (sub : List ℕ) → first (packetRefusals true sub) ≡ 0 → idLength + length sub ≤ longestPacket →
-    Bounded (0 + bodyBytes true sub) (fateOf true gap [] sub)
+dmpt-bounded : (most : ℕ) (sub : List ℕ) → first (dmptRefusals sub) ≡ 0 → idLength + length sub ≤ longestPacket →
+    Bounded most (0 + carried sub) (dmptFate [] (mpegs sub))
 unfolding dmptFate mpegs
-dmpt-bounded gap sub z short =
+dmpt-bounded most sub z short =
     let header = carrying.dmpt-header sub z in
     let a = carrying.so-far-accounts sub header (mpegCount sub) (omega arith) in
     let fills = mpegs-fill sub header (dmpt-passed sub z) in
@@ -68,38 +72,44 @@ dmpt-bounded gap sub z short =
       held-few = omega (arith, a .held-few);
     }
 
-pub fate-bounded : (dmpt : Bool) (gap : ℕ) (held sub : List ℕ) → first (packetRefusals dmpt sub) ≡ 0 → length held ≤ longest →
-    (dmpt ≡ true → held ≡ []) → idLength + length sub ≤ longestPacket → Bounded (length held + bodyBytes dmpt sub) (fateOf dmpt gap held sub)
-fate-bounded true gap held sub z few bare short = rw (bare refl) (dmpt-bounded gap sub z short)
-fate-bounded false gap held sub z few bare short = psp-bounded gap held sub z few short
+bounded-by : (d : Bool) (most width gap : ℕ) (held sub : List ℕ) → first (cond d (dmptRefusals sub) (pspRefusals width sub)) ≡ 0 → length held ≤ most → most ≤ longest →
+    (d ≡ true → held ≡ []) → idLength + length sub ≤ longestPacket →
+    Bounded most (length held + cond d (carried sub) (sumTo (lengthAt width sub) (segmentCount sub))) (cond d (dmptFate held (mpegs sub)) (pspFate most gap held (segments width sub)))
+bounded-by true most width gap held sub z few small bare short = rw (bare refl) (dmpt-bounded most sub z short)
+bounded-by false most width gap held sub z few small bare short = psp-bounded most width gap held sub z few small short
+
+pub fate-bounded : (terms : Terms) (gap : ℕ) (held sub : List ℕ) → first (packetRefusals terms sub) ≡ 0 → length held ≤ terms .longest → terms .longest ≤ longest →
+    (isDmpt (terms .kind) ≡ true → held ≡ []) → idLength + length sub ≤ longestPacket →
+    Bounded (terms .longest) (length held + bodyBytes (terms .kind) sub) (fateOf terms gap held sub)
+fate-bounded terms gap held sub z few small bare short = bounded-by (isDmpt (terms .kind)) (terms .longest) (widthIn (terms .kind)) gap held sub z few small bare short
 
 -- An accepted call: its flow's bytes and the packet's.
-module _ (lead : ℕ) (t : Table) (packet : List ℕ) (s : Slices) (a : call.Accepted lead t packet s) where
+module _ (t : Table) (p : Packet) (s : Slices) (a : call.Accepted t p s) where
   abbrev row : ℕ
-  row = rowOf lead t packet
+  row = rowOf t p
 
   abbrev after : List ℕ
-  after = sub lead packet
+  after = sub p
 
   pub held-length : length (heldBy t row after s) ≡ flowOf t row after .held
   held-length =
-      let k = call.flow-there lead t packet s a in
-      let roomy = place-roomy s row (flowId after) (a .large) (a .found) k in
-      length-part (s .holding) (placeOf row (flowId after)) (flowOf t row after .held)
-      (omega (arith, roomy .place-inside, held-fits t row (flowId after) (a .whole) (a .found) k))
+      let k = call.flow-there t p s a in
+      let roomy = place-roomy s row (flowTo t row after) (a .large) (a .found) k in
+      length-part (s .holding) (placeOf row (flowTo t row after)) (flowOf t row after .held)
+      (omega (arith, roomy .place-inside, held-fits t row (flowTo t row after) (a .whole) (a .found) k))
 
-  pub held-none : toDmpt t row ≡ true → heldBy t row after s ≡ []
+  pub held-none : isDmpt (rowAt t row .kind) ≡ true → heldBy t row after s ≡ []
   held-none d =
-      ap (part (s .holding) (placeOf row (flowId after))) (dmpt-bare t row (flowId after) (a .whole) (a .found) (call.flow-there lead t packet s a) d)
-      ∙ part-none (s .holding) (placeOf row (flowId after))
+      ap (part (s .holding) (placeOf row (flowTo t row after))) (dmpt-bare t row (flowTo t row after) (a .whole) (a .found) (call.flow-there t p s a) d)
+      ∙ part-none (s .holding) (placeOf row (flowTo t row after))
 
-  pub accepted-bounded : Bounded (flowOf t row after .held + bodyBytes (toDmpt t row) after) (heardBy t row after s .fate)
+  pub accepted-bounded : Bounded (termsAt t row .longest) (flowOf t row after .held + bodyBytes (rowAt t row .kind) after) (heardBy t row after s .fate)
   unfolding hear
   accepted-bounded =
-      let k = call.flow-there lead t packet s a in
-      let few = held-fits t row (flowId after) (a .whole) (a .found) k in
-      let b = fate-bounded (toDmpt t row) (judgedOf (flowOf t row after) after .gap) (heldBy t row after s) after (a .passed)
-      (omega (arith, held-length)) held-none (call.sub-short lead t packet s a) in
+      let k = call.flow-there t p s a in
+      let few = held-fits t row (flowTo t row after) (a .whole) (a .found) k in
+      let b = fate-bounded (termsAt t row) (judgedOf (flowOf t row after) after .gap) (heldBy t row after s) after (a .passed)
+      (omega (arith, held-length, few)) (omega arith) held-none (call.sub-short t p s a) in
       record { all = omega (arith, b .all, held-length); bytes-few = omega (arith, b .bytes-few, held-length); frames-few = b .frames-few; held-few = b .held-few }
 
 -- Every call.
@@ -112,43 +122,43 @@ pub record Limits (frames bytes gap : ℕ) : Type 0 where
   pub most-bytes : bytes ≤ mostBytes
   pub most-gap : gap < half
 
-limits-by : (c : ℕ) (lead : ℕ) (t : Table) (packet : List ℕ) (s : Slices) → received lead t packet s .answer .code ≡ c →
-    Limits (received lead t packet s .answer .frames) (received lead t packet s .answer .bytes) (received lead t packet s .answer .gap)
+limits-by : (c : ℕ) (t : Table) (p : Packet) (s : Slices) → received t p s .answer .code ≡ c →
+    Limits (received t p s .answer .frames) (received t p s .answer .bytes) (received t p s .answer .gap)
 unfolding carriedOut refused hear
-limits-by zero lead t packet s e =
-    let a = call.accepted lead t packet s e in
-    let b = accepted-bounded lead t packet s a in
-    let r = rowOf lead t packet in
-    rw (call.received-accepted lead t packet s e)
+limits-by zero t p s e =
+    let a = call.accepted t p s e in
+    let b = accepted-bounded t p s a in
+    let r = rowOf t p in
+    rw (call.received-accepted t p s e)
     (record {
       most-frames = b .frames-few;
       most-bytes = omega (arith, b .all, b .bytes-few);
-      most-gap = gap-by (sSet (sub lead packet)) (flowOf t r (sub lead packet)) (number (sub lead packet));
+      most-gap = gap-by (sSet (sub p)) (flowOf t r (sub p)) (number (sub p));
     })
-limits-by (suc c) lead t packet s e =
-    rw (call.received-refused lead t packet s c e) (record { most-frames = omega arith; most-bytes = omega arith; most-gap = omega arith })
+limits-by (suc c) t p s e =
+    rw (call.received-refused t p s c e) (record { most-frames = omega arith; most-bytes = omega arith; most-gap = omega arith })
 
-pub within-limits : (lead : ℕ) (t : Table) (packet : List ℕ) (s : Slices) →
-    Limits (received lead t packet s .answer .frames) (received lead t packet s .answer .bytes) (received lead t packet s .answer .gap)
-within-limits lead t packet s = limits-by (received lead t packet s .answer .code) lead t packet s refl
+pub within-limits : (t : Table) (p : Packet) (s : Slices) →
+    Limits (received t p s .answer .frames) (received t p s .answer .bytes) (received t p s .answer .gap)
+within-limits t p s = limits-by (received t p s .answer .code) t p s refl
 
 -- The lengths that a call leaves, as many as it delivered frames, add up to the bytes that it delivered.
-lengths-by : (c : ℕ) (lead : ℕ) (t : Table) (packet : List ℕ) (s : Slices) → received lead t packet s .answer .code ≡ c →
-    sumTo (byteAt (received lead t packet s .slices .lengths)) (received lead t packet s .answer .frames) ≡ received lead t packet s .answer .bytes
+lengths-by : (c : ℕ) (t : Table) (p : Packet) (s : Slices) → received t p s .answer .code ≡ c →
+    sumTo (byteAt (received t p s .slices .lengths)) (received t p s .answer .frames) ≡ received t p s .answer .bytes
 unfolding carriedOut refused
-lengths-by zero lead t packet s e =
-    let a = call.accepted lead t packet s e in
-    let b = accepted-bounded lead t packet s a in
-    let frames = heardBy t (rowOf lead t packet) (sub lead packet) s .fate .delivered in
+lengths-by zero t p s e =
+    let a = call.accepted t p s e in
+    let b = accepted-bounded t p s a in
+    let frames = heardBy t (rowOf t p) (sub p) s .fate .delivered in
     let few : length (lengths frames) ≤ length (s .lengths) = omega (arith, length-lengths frames, b .frames-few, large-enough s (a .large) .lengths-enough) in
     let kept = length-put (s .lengths) 0 (lengths frames) (omega (arith, few)) in
-    rw (call.received-accepted lead t packet s e)
+    rw (call.received-accepted t p s e)
     (sym (total-part (put (s .lengths) 0 (lengths frames)) (length frames) (omega (arith, few, kept, length-lengths frames)))
     ∙ ap (λ (n : ℕ). total (part (put (s .lengths) 0 (lengths frames)) 0 n)) (sym (length-lengths frames))
     ∙ ap total (part-put (s .lengths) 0 (lengths frames) (omega (arith, few)))
     ∙ total-lengths frames)
-lengths-by (suc c) lead t packet s e = rw (call.received-refused lead t packet s c e) (sum-none (byteAt (s .lengths)))
+lengths-by (suc c) t p s e = rw (call.received-refused t p s c e) (sum-none (byteAt (s .lengths)))
 
-pub lengths-add-up : (lead : ℕ) (t : Table) (packet : List ℕ) (s : Slices) →
-    sumTo (byteAt (received lead t packet s .slices .lengths)) (received lead t packet s .answer .frames) ≡ received lead t packet s .answer .bytes
-lengths-add-up lead t packet s = lengths-by (received lead t packet s .answer .code) lead t packet s refl
+pub lengths-add-up : (t : Table) (p : Packet) (s : Slices) →
+    sumTo (byteAt (received t p s .slices .lengths)) (received t p s .answer .frames) ≡ received t p s .answer .bytes
+lengths-add-up t p s = lengths-by (received t p s .answer .code) t p s refl

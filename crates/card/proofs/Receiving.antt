@@ -8,7 +8,7 @@ use native.Mathlib.Omega.{arith}
 use borrow.Author.Tests.{lt-ltb, le-ltb}
 use Rattle.refusal.specs.Refusal.{Refusal, _when_, first}
 use Rattle.refusal.proofs.Laws.{none-applies, none-first, first-passed, first-stopped}
-use Rattle.packet.specs.Header.{overIp, sub, sessionId, beforeSession}
+use Rattle.packet.specs.Header.{Packet, sub, sessionId, beforeSession}
 use Rattle.packet.proofs.Passing.{EarlyPassed, early-passed, sub-length, sub-whole}
 use Rattle.table.specs.declared.Table.{Table}
 use Rattle.table.specs.Rows.{rows, find}
@@ -21,7 +21,7 @@ use Rattle.card.specs.Ready.{Ready}
 use Rattle.card.proofs.Hearing.{refused-by, refused-answer}
 
 -- an outcome that is the definition's is permitted, field by field
-pub permits : {t : Table} {packet : List ℕ} {s : Slices} {o : Outcome} → o ≡ received overIp t packet s → PermitsReceive t packet s o
+pub permits : {t : Table} {p : Packet} {s : Slices} {o : Outcome} → o ≡ received t p s → PermitsReceive t p s o
 permits e =
     record {
       its-number = ap (λ (o : Outcome). o .answer .code) e;
@@ -36,70 +36,70 @@ permits e =
     }
 
 -- refusals 13 and 2 to 4 passed
-pub record EarlyOver (lead : ℕ) (t : Table) (packet : List ℕ) : Type 0 where
+pub record EarlyOver (t : Table) (p : Packet) : Type 0 where
   pub whole : broken t ≡ false
-  pub passed : EarlyPassed lead packet
+  pub passed : EarlyPassed p
 
-pub early-over : (lead : ℕ) (t : Table) (packet : List ℕ) → first (earlyRefusals lead t packet) ≡ 0 → EarlyOver lead t packet
-early-over lead t packet z =
-    let n = none-applies (earlyRefusals lead t packet) refl z in
-    record { whole = n .0; passed = early-passed lead packet (none-first (beforeSession lead packet) (n .1)) }
+pub early-over : (t : Table) (p : Packet) → first (earlyRefusals t p) ≡ 0 → EarlyOver t p
+early-over t p z =
+    let n = none-applies (earlyRefusals t p) refl z in
+    record { whole = n .0; passed = early-passed p (none-first (beforeSession p) (n .1)) }
 
 -- so the step of one flow has what it asks for
-pub ready : (lead : ℕ) (t : Table) (packet : List ℕ) (s : Slices) (r : ℕ) (after : List ℕ) → tooSmall s ≡ false → first (earlyRefusals lead t packet) ≡ 0 →
-    r < rows → after ≡ sub lead packet → Ready t r after s
-ready lead t packet s r after large z found e =
-    let over = early-over lead t packet z in
-    let p = over .passed in
+pub ready : (t : Table) (p : Packet) (s : Slices) (r : ℕ) (after : List ℕ) → tooSmall s ≡ false → first (earlyRefusals t p) ≡ 0 →
+    r < rows → after ≡ sub p → Ready t r after s
+ready t p s r after large z found e =
+    let over = early-over t p z in
+    let e-passed = over .passed in
     record {
       large = large;
       whole = over .whole;
       found = found;
-      header = rw e (sub-whole lead packet (p .not-short));
-      short = rw e (omega (arith, sub-length lead packet (p .not-short), p .not-long));
+      header = rw e (sub-whole p (e-passed .not-short));
+      short = rw e (omega (arith, sub-length p (e-passed .not-short), e-passed .not-long));
     }
 
 -- The returns of `receive`.
-module _ (lead : ℕ) (t : Table) (packet : List ℕ) (s : Slices) where
+module _ (t : Table) (p : Packet) (s : Slices) where
   -- an order that gives c refuses with c
-  refuses : (c : ℕ) (answer : Received) → c ≡ first (dataRefusals lead t packet s) → (c ≡ 0 → ⊥) →
+  refuses : (c : ℕ) (answer : Received) → c ≡ first (dataRefusals t p s) → (c ≡ 0 → ⊥) →
       answer ≡ refusedAnswer c t →
-      _≡_ {A = Outcome} (record { answer = answer; slices = s }) (received lead t packet s)
+      _≡_ {A = Outcome} (record { answer = answer; slices = s }) (received t p s)
   unfolding received
   refuses c answer given some e =
-      rw (← given) (refused-answer c t s answer e ∙ sym (refused-by c t (rowOf lead t packet) (sub lead packet) s some))
+      rw (← given) (refused-answer c t s answer e ∙ sym (refused-by c t (rowOf t p) (sub p) s some))
 
   pub receive-small : (answer : Received) → tooSmall s ≡ true → answer ≡ refusedAnswer 1 t →
-      _≡_ {A = Outcome} (record { answer = answer; slices = s }) (received lead t packet s)
+      _≡_ {A = Outcome} (record { answer = answer; slices = s }) (received t p s)
   receive-small answer small e = refuses 1 answer (simp small) (λ z. omega arith) e
 
-  module _ (large : tooSmall s ≡ false) (early : ℕ) (found : early ≡ first (earlyRefusals lead t packet)) where
+  module _ (large : tooSmall s ≡ false) (early : ℕ) (found : early ≡ first (earlyRefusals t p)) where
     abbrev behind : List Refusal
-    behind = 5 when not (isOpen t (sessionId lead packet)) ∷ flowRefusals t (rowOf lead t packet) (sub lead packet)
+    behind = 5 when not (isOpen t (sessionId p)) ∷ flowRefusals t (rowOf t p) (sub p)
 
     pub receive-early : (answer : Received) → (early ≡ 0 → ⊥) → answer ≡ refusedAnswer early t →
-        _≡_ {A = Outcome} (record { answer = answer; slices = s }) (received lead t packet s)
+        _≡_ {A = Outcome} (record { answer = answer; slices = s }) (received t p s)
     receive-early answer some e =
         refuses early answer
-        (simp large (found ∙ sym (first-stopped (earlyRefusals lead t packet) behind (λ z. some (found ∙ z))))) some e
+        (simp large (found ∙ sym (first-stopped (earlyRefusals t p) behind (λ z. some (found ∙ z))))) some e
 
-    module _ (passed : early ≡ 0) (id row : ℕ) (session : id ≡ sessionId lead packet) (seek : row ≡ find t id) where
-      row-is : row ≡ rowOf lead t packet
+    module _ (passed : early ≡ 0) (id row : ℕ) (session : id ≡ sessionId p) (seek : row ≡ find t id) where
+      row-is : row ≡ rowOf t p
       row-is = seek ∙ ap (find t) session
 
-      by-session : first (dataRefusals lead t packet s) ≡ first behind
-      by-session = simp large (first-passed (earlyRefusals lead t packet) behind refl (sym found ∙ passed))
+      by-session : first (dataRefusals t p s) ≡ first behind
+      by-session = simp large (first-passed (earlyRefusals t p) behind refl (sym found ∙ passed))
 
       pub receive-closed : (answer : Received) → rows ≤ row → answer ≡ refusedAnswer 5 t →
-          _≡_ {A = Outcome} (record { answer = answer; slices = s }) (received lead t packet s)
+          _≡_ {A = Outcome} (record { answer = answer; slices = s }) (received t p s)
       receive-closed answer none e =
-          let shut = le-ltb (rowOf lead t packet) rows (omega (arith, row-is)) in
+          let shut = le-ltb (rowOf t p) rows (omega (arith, row-is)) in
           refuses 5 answer (rw by-session (simp shut)) (λ z. omega arith) e
 
-      pub receive-heard : (after : List ℕ) (o : Outcome) → row < rows → after ≡ sub lead packet →
-          o ≡ receivedBy (first (flowRefusals t row after)) t row after s → o ≡ received lead t packet s
+      pub receive-heard : (after : List ℕ) (o : Outcome) → row < rows → after ≡ sub p →
+          o ≡ receivedBy (first (flowRefusals t row after)) t row after s → o ≡ received t p s
       unfolding received
       receive-heard after o there rest e =
-          let live = lt-ltb (rowOf lead t packet) rows (omega (arith, row-is)) in
-          let order : first (dataRefusals lead t packet s) ≡ first (flowRefusals t (rowOf lead t packet) (sub lead packet)) = by-session ∙ simp live in
+          let live = lt-ltb (rowOf t p) rows (omega (arith, row-is)) in
+          let order : first (dataRefusals t p s) ≡ first (flowRefusals t (rowOf t p) (sub p)) = by-session ∙ simp live in
           e ∙ rw (row-is, rest, order) refl

@@ -15,13 +15,12 @@ use Rattle.octets.specs.Stretch.{part, rest, put, joined, lengths, cutBy}
 use Rattle.octets.proofs.Counts.{true-or-false}
 use Rattle.octets.proofs.Stretches.{length-put, length-lengths, byte-put, part-put, part-put-apart, put-front, cut-joined}
 use Rattle.flow.specs.Flow.{longest, flows}
-use Rattle.packet.specs.Header.{flowId, sub}
-use Rattle.table.specs.declared.Kind.the-variants as kind
+use Rattle.packet.specs.Header.{Packet, sub}
 use Rattle.table.specs.declared.Table.{Table}
-use Rattle.table.specs.Rows.{rows, rowAt, flowAt}
+use Rattle.table.specs.Rows.{rows, noRow, rowAt, rowWith, flowAt, termsAt}
 use Rattle.join.specs.Slices.{mostFrames, mostBytes, Slices}
 use Rattle.card.specs.Hear.{Heard, recordAfter}
-use Rattle.card.specs.Receive.{placeOf, Outcome, rowOf, heardBy, carriedOut, received, framesFound}
+use Rattle.card.specs.Receive.{placeOf, Outcome, rowOf, flowTo, heardBy, carriedOut, received, framesFound}
 use Rattle.card.proofs.Hearing.{Large, large-enough}
 use Rattle.card.proofs.Accepted.{accepted, flow-there, received-accepted}
 use Rattle.card.proofs.Limits.{accepted-bounded}
@@ -50,7 +49,7 @@ pub record StepOf (r k : ℕ) (h : Heard) (t : Table) (s : Slices) (o : Outcome)
   pub gap-is : o .answer .gap ≡ h .judged .gap
   -- the table
   pub its-record : flowAt (rowAt (o .answer .table) r) k ≡ recordAfter h
-  pub its-session : (rowAt (o .answer .table) r .id ≡ rowAt t r .id) × (rowAt (o .answer .table) r .kind ≡ rowAt t r .kind)
+  pub its-session : (rowAt (o .answer .table) r .id ≡ rowAt t r .id) × (termsAt (o .answer .table) r ≡ termsAt t r)
   pub other-flows : (j : ℕ) → (j ≡ k → ⊥) → flowAt (rowAt (o .answer .table) r) j ≡ flowAt (rowAt t r) j
   pub other-rows : (i : ℕ) → (i ≡ r → ⊥) → rowAt (o .answer .table) i ≡ rowAt t i
   pub same-shape : Shaped (o .answer .table)
@@ -102,11 +101,11 @@ module _ (r k : ℕ) (h : Heard) (t : Table) (s : Slices) (shaped : Shaped t) (t
     where
       four-at : (i : ℕ) → i < rows → (eqb i r ≡ true) ⊎ (eqb i r ≡ false) → length (rowAt (done .answer .table) i .flows) ≡ flows
       four-at i l (inl e) =
-          rw (eqb-true i r e, getD-set-same (t .rows) r (record { id = rowAt t r .id; kind = rowAt t r .kind; flows = set (rowAt t r .flows) k (recordAfter h) }) (record { id = 0; kind = kind.Closed; flows = [] }) (omega (arith, shaped .six)))
+          rw (eqb-true i r e, getD-set-same (t .rows) r (rowWith (rowAt t r) k (recordAfter h)) noRow (omega (arith, shaped .six)))
           (length-set (rowAt t r .flows) k (recordAfter h) ∙ shaped .four r there)
-      four-at i l (inr e) = rw (getD-set-other (t .rows) r i _ (record { id = 0; kind = kind.Closed; flows = [] }) (eqb-false i r e)) (shaped .four i l)
+      four-at i l (inr e) = rw (getD-set-other (t .rows) r i _ noRow (eqb-false i r e)) (shaped .four i l)
 
-  row-there : rowAt (done .answer .table) r ≡ record { id = rowAt t r .id; kind = rowAt t r .kind; flows = set (rowAt t r .flows) k (recordAfter h) }
+  row-there : rowAt (done .answer .table) r ≡ rowWith (rowAt t r) k (recordAfter h)
   unfolding carriedOut
   row-there = getD-set-same (t .rows) r _ _ (omega (arith, shaped .six))
 
@@ -149,11 +148,11 @@ module _ (r k : ℕ) (h : Heard) (t : Table) (s : Slices) (shaped : Shaped t) (t
       }
 
 -- The lemma itself.
-pub one-flow-step : (lead : ℕ) (t : Table) (packet : List ℕ) (s : Slices) → Shaped t → received lead t packet s .answer .code ≡ 0 →
-    StepOf (rowOf lead t packet) (flowId (sub lead packet)) (heardBy t (rowOf lead t packet) (sub lead packet) s) t s (received lead t packet s)
-one-flow-step lead t packet s shaped z =
-    let a = accepted lead t packet s z in
-    let b = accepted-bounded lead t packet s a in
-    rw (received-accepted lead t packet s z)
-    (carried-step (rowOf lead t packet) (flowId (sub lead packet)) (heardBy t (rowOf lead t packet) (sub lead packet) s) t s shaped (a .found)
-    (flow-there lead t packet s a) (large-enough s (a .large)) (b .held-few) (b .frames-few) (omega (arith, b .all, b .bytes-few)))
+pub one-flow-step : (t : Table) (p : Packet) (s : Slices) → Shaped t → received t p s .answer .code ≡ 0 →
+    StepOf (rowOf t p) (flowTo t (rowOf t p) (sub p)) (heardBy t (rowOf t p) (sub p) s) t s (received t p s)
+one-flow-step t p s shaped z =
+    let a = accepted t p s z in
+    let b = accepted-bounded t p s a in
+    rw (received-accepted t p s z)
+    (carried-step (rowOf t p) (flowTo t (rowOf t p) (sub p)) (heardBy t (rowOf t p) (sub p) s) t s shaped (a .found)
+    (flow-there t p s a) (large-enough s (a .large)) (omega (arith, b .held-few)) (b .frames-few) (omega (arith, b .all, b .bytes-few)))

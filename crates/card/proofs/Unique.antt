@@ -2,13 +2,13 @@
 use Prim.Native.Nat.{ℕ}
 use mathlib.Core.Path.{_≡_, refl, sym, _∙_}
 use mathlib.Core.List.{List}
-use Rattle.packet.specs.Header.{overIp}
+use Rattle.packet.specs.Header.{Packet}
 use Rattle.table.specs.declared.Table.{Table}
 use Rattle.join.specs.Slices.{asSlices, Slices}
 use Rattle.card.specs.Receive.{Outcome, received, PermitsReceive}
 use Rattle.card.proofs.Receiving.{permits}
 
-pub receive-permitted : (t : Table) (packet : List ℕ) (s : Slices) → PermitsReceive t packet s (received overIp t packet s)
+pub receive-permitted : (t : Table) (p : Packet) (s : Slices) → PermitsReceive t p s (received t p s)
 receive-permitted t packet s = permits refl
 
 -- an outcome is what it is made of
@@ -26,7 +26,7 @@ same : {code code′ frames frames′ bytes bytes′ dropped dropped′ gap gap�
     })
 same c f b d g t h o l = rw (c, f, b, d, g, t, h, o, l) refl
 
-pub receive-unique : (t : Table) (packet : List ℕ) (s : Slices) (a b : Outcome) → PermitsReceive t packet s a → PermitsReceive t packet s b → a ≡ b
+pub receive-unique : (t : Table) (p : Packet) (s : Slices) (a b : Outcome) → PermitsReceive t p s a → PermitsReceive t p s b → a ≡ b
 receive-unique t packet s a b p q =
     same
     (p .its-number ∙ sym (q .its-number))

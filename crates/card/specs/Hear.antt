@@ -7,10 +7,13 @@ use mathlib.Core.List.{List}
 use lib.ListN.{length}
 use Rattle.flow.specs.declared.Flow.{Flow}
 use Rattle.flow.specs.declared.Judged.{Judged}
-use Rattle.flow.specs.Flow.{judge, unnumbered, longest}
-use Rattle.packet.specs.Header.{sSet, number}
+use Rattle.flow.specs.Flow.{judge, unnumbered}
+use Rattle.packet.specs.Header.{sSet, flowId, number}
 use Rattle.packet.specs.Segments.{entryWidth, segments}
 use Rattle.packet.specs.Dmpt.{mpegs}
+use Rattle.table.specs.declared.Kind.{Kind}
+use Rattle.table.specs.declared.Terms.{Terms}
+use Rattle.table.specs.Rows.{isDmpt}
 use Rattle.join.specs.Join.{Fate, pspFate, dmptFate}
 
 -- With S set the number is judged; with S clear it is ignored, the gap is 0 and the record stays as it was. (PSP has S set, by 8.) The
@@ -22,17 +25,25 @@ judgedBy false f n = unnumbered f
 abbrev pub judgedOf : Flow → List ℕ → Judged
 judgedOf f sub = judgedBy (sSet sub) f (number sub)
 
--- by the kind of the session: whether it is D-MPT
-abbrev pub fateOf : Bool → ℕ → List ℕ → List ℕ → Fate
-fateOf dmpt gap held sub = cond dmpt (dmptFate held (mpegs sub)) (pspFate longest gap held (segments entryWidth sub))
+-- How a session's packets are laid out, by its kind: the width of a segment's entry, and the flow that a packet is for.
+abbrev pub widthIn : Kind → ℕ
+widthIn kind = entryWidth
+
+abbrev pub flowIn : Kind → List ℕ → ℕ
+flowIn kind sub = flowId sub
+
+-- what becomes of the bytes, by the terms of the session
+abbrev pub fateOf : Terms → ℕ → List ℕ → List ℕ → Fate
+fateOf terms gap held sub =
+    cond (isDmpt (terms .kind)) (dmptFate held (mpegs sub)) (pspFate (terms .longest) gap held (segments (widthIn (terms .kind)) sub))
 
 -- what a flow makes of a packet
 pub record Heard : Type 0 where
   pub judged : Judged
   pub fate : Fate
 
-unfoldable pub hear : Bool → Flow → List ℕ → List ℕ → Heard
-hear dmpt f held sub = record { judged = judgedOf f sub; fate = fateOf dmpt ((judgedOf f sub) .gap) held sub }
+unfoldable pub hear : Terms → Flow → List ℕ → List ℕ → Heard
+hear terms f held sub = record { judged = judgedOf f sub; fate = fateOf terms ((judgedOf f sub) .gap) held sub }
 
 -- the flow's record afterwards: the number as judged, and how many bytes are held now
 abbrev pub recordAfter : Heard → Flow

@@ -2,12 +2,14 @@
 -- slice are lent anew with each data call, with whatever stands in them.
 use Prim.Native.Nat.{ℕ}
 use mathlib.Core.List.{List, [], _∷_}
-use Rattle.packet.specs.Header.{overIp}
-use Rattle.table.specs.declared.Mode.{Mode}
+use mathlib.Core.Bool.{Bool}
+use lib.Dec.{eqb}
+use Rattle.packet.specs.Header.{Packet}
+use Rattle.table.specs.declared.Request.{Request}
 use Rattle.table.specs.declared.Table.{Table}
 use Rattle.table.specs.Rows.{empty}
 use Rattle.table.specs.Calls.{opened, closed}
-use Rattle.join.specs.Slices.{asSlices}
+use Rattle.join.specs.Slices.{Slices, asSlices}
 use Rattle.card.specs.Receive.{Outcome, received, framesFound}
 
 -- table and holding slice between calls
@@ -15,11 +17,17 @@ pub record Card : Type 0 where
   pub table : Table
   pub holding : List ℕ
 
--- an open of a session, its close, or a packet handed in with the slices lent for what comes out
+-- a packet handed in, with the slices lent for what comes out
+pub record Arrival : Type 0 where
+  pub packet : Packet
+  pub output : List ℕ
+  pub lengths : List ℕ
+
+-- an open of a session, its close, or a packet
 pub data Call : Type 0 where
-  opens : Mode → ℕ → Call
+  opens : Request → Call
   closes : ℕ → Call
-  hands : List ℕ → List ℕ → List ℕ → Call
+  hands : Arrival → Call
 
 -- What the caller sees of a call: its number and counts, and after a data call the two slices. (An open and a close lend no slices and
 -- count no frames.)
@@ -52,20 +60,26 @@ abbrev pub framesOf : Answer → List (List ℕ)
 framesOf a = framesFound (a .frames) (a .lengths) (a .output)
 
 -- what a packet comes to, handed to the card as it stands
-abbrev pub handed : Card → List ℕ → List ℕ → List ℕ → Outcome
-handed c packet out lens = received overIp (c .table) packet (asSlices (c .holding) out lens)
+abbrev pub lentWith : Card → Arrival → Slices
+lentWith c a = asSlices (c .holding) (a .output) (a .lengths)
+
+abbrev pub handed : Card → Arrival → Outcome
+handed c a = received (c .table) (a .packet) (lentWith c a)
+
+-- whether its bytes are taken in: then each is delivered, dropped or held. Else the card stays as it is, and nothing comes out.
+abbrev pub takesIn : Card → Arrival → Bool
+takesIn c a = eqb ((handed c a) .answer .code) 0
 
 -- one call: its answer, and the card afterwards
 unfoldable pub answer : Card → Call → Answer
-answer c (opens asked id) = plainAnswer ((opened (c .table) id asked) .code) 0
+answer c (opens r) = plainAnswer ((opened (c .table) r) .code) 0
 answer c (closes id) = plainAnswer ((closed (c .table) id) .code) ((closed (c .table) id) .dropped)
-answer c (hands packet out lens) = dataAnswer (handed c packet out lens)
+answer c (hands a) = dataAnswer (handed c a)
 
 unfoldable pub after : Card → Call → Card
-after c (opens asked id) = record { table = (opened (c .table) id asked) .table; holding = c .holding }
+after c (opens r) = record { table = (opened (c .table) r) .table; holding = c .holding }
 after c (closes id) = record { table = (closed (c .table) id) .table; holding = c .holding }
-after c (hands packet out lens) =
-    record { table = (handed c packet out lens) .answer .table; holding = (handed c packet out lens) .slices .holding }
+after c (hands a) = record { table = (handed c a) .answer .table; holding = (handed c a) .slices .holding }
 
 -- all calls: their answers, and the card at the end
 unfoldable pub answers : Card → List Call → List Answer

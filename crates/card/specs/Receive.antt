@@ -12,17 +12,17 @@ use Rattle.refusal.specs.Refusal.{Refusal, _when_, first}
 use Rattle.octets.specs.Stretch.{part, put, joined, lengths, cutBy}
 use Rattle.flow.specs.declared.Flow.{Flow}
 use Rattle.flow.specs.Flow.{longest, flows}
-use Rattle.packet.specs.Header.{overIp, sub, sessionId, flowId, beforeSession}
-use Rattle.packet.specs.Segments.{entryWidth}
+use Rattle.packet.specs.Header.{Packet, sub, sessionId, beforeSession}
 use Rattle.packet.specs.Psp.{pspRefusals}
 use Rattle.packet.specs.Dmpt.{dmptRefusals}
 use Rattle.table.specs.declared.Table.{Table}
-use Rattle.table.specs.Rows.{rows, isDmpt, rowAt, flowAt, find, withFlow}
+use Rattle.table.specs.declared.Terms.{Terms}
+use Rattle.table.specs.Rows.{rows, isDmpt, termsAt, rowAt, flowAt, find, withFlow}
 use Rattle.table.specs.Broken.{broken}
 use Rattle.table.specs.Calls.{isOpen}
 use Rattle.join.specs.Slices.{Slices, mostFrames, mostBytes}
 use Rattle.card.specs.declared.Received.{Received}
-use Rattle.card.specs.Hear.{Heard, judgedOf, hear, recordAfter}
+use Rattle.card.specs.Hear.{widthIn, flowIn, Heard, judgedOf, hear, recordAfter}
 
 -- A place of 2,048 bytes for each flow of each row, row by row: 49,152 bytes, and the place of row r, flow k starts at (4r + k) x 2,048.
 abbrev pub holdingSize : ℕ
@@ -36,45 +36,45 @@ pub record Outcome : Type 0 where
   pub answer : Received
   pub slices : Slices
 
--- Where a packet goes. Its session's row is r (6, where the session is not open), and whether that row is D-MPT; its flow there has
+-- Where a packet goes. Its session's row is r (6, where the session is not open), and that row's terms say how it is read; its flow there has
 -- a record, and the bytes that this flow holds are the first ones of its place; and so the flow hears the packet.
-abbrev pub rowOf : ℕ → Table → List ℕ → ℕ
-rowOf lead t packet = find t (sessionId lead packet)
+abbrev pub rowOf : Table → Packet → ℕ
+rowOf t p = find t (sessionId p)
 
-abbrev pub toDmpt : Table → ℕ → Bool
-toDmpt t r = isDmpt ((rowAt t r) .kind)
+abbrev pub flowTo : Table → ℕ → List ℕ → ℕ
+flowTo t r sub = flowIn (rowAt t r .kind) sub
 
 abbrev pub flowOf : Table → ℕ → List ℕ → Flow
-flowOf t r sub = flowAt (rowAt t r) (flowId sub)
+flowOf t r sub = flowAt (rowAt t r) (flowTo t r sub)
 
 abbrev pub heldBy : Table → ℕ → List ℕ → Slices → List ℕ
-heldBy t r sub s = part (s .holding) (placeOf r (flowId sub)) ((flowOf t r sub) .held)
+heldBy t r sub s = part (s .holding) (placeOf r (flowTo t r sub)) ((flowOf t r sub) .held)
 
 abbrev pub heardBy : Table → ℕ → List ℕ → Slices → Heard
-heardBy t r sub s = hear (toDmpt t r) (flowOf t r sub) (heldBy t r sub s) sub
+heardBy t r sub s = hear (termsAt t r) (flowOf t r sub) (heldBy t r sub s) sub
 
 -- The refusals, in order: 1, 13, 2 to 4, 5, 6 to 11 by the kind of the session, 12.
 abbrev pub tooSmall : Slices → Bool
 tooSmall s = ltb (length (s .holding)) holdingSize || ltb (length (s .output)) mostBytes || ltb (length (s .lengths)) mostFrames
 
 -- 13, then 2 to 4, which need no session
-abbrev pub earlyRefusals : ℕ → Table → List ℕ → List Refusal
-earlyRefusals lead t packet = 13 when broken t ∷ beforeSession lead packet
+abbrev pub earlyRefusals : Table → Packet → List Refusal
+earlyRefusals t p = 13 when broken t ∷ beforeSession p
 
--- 6 to 11, by whether the session is D-MPT
-abbrev pub packetRefusals : Bool → List ℕ → List Refusal
-packetRefusals dmpt sub = cond dmpt (dmptRefusals sub) (pspRefusals entryWidth sub)
+-- 6 to 11, by the terms of the session
+abbrev pub packetRefusals : Terms → List ℕ → List Refusal
+packetRefusals terms sub = cond (isDmpt (terms .kind)) (dmptRefusals sub) (pspRefusals (widthIn (terms .kind)) sub)
 
 -- those that need the session's row: 6 to 11, and 12
 abbrev pub flowRefusals : Table → ℕ → List ℕ → List Refusal
-flowRefusals t r sub = packetRefusals (toDmpt t r) sub ++ (12 when (judgedOf (flowOf t r sub) sub) .late ∷ [])
+flowRefusals t r sub = packetRefusals (termsAt t r) sub ++ (12 when (judgedOf (flowOf t r sub) sub) .late ∷ [])
 
-abbrev pub dataRefusals : ℕ → Table → List ℕ → Slices → List Refusal
-dataRefusals lead t packet s =
+abbrev pub dataRefusals : Table → Packet → Slices → List Refusal
+dataRefusals t p s =
     1 when tooSmall s
-    ∷ earlyRefusals lead t packet
-    ++ (5 when not (isOpen t (sessionId lead packet)) ∷ [])
-    ++ flowRefusals t (rowOf lead t packet) (sub lead packet)
+    ∷ earlyRefusals t p
+    ++ (5 when not (isOpen t (sessionId p)) ∷ [])
+    ++ flowRefusals t (rowOf t p) (sub p)
 
 -- What is heard, carried out for row r, flow k: the counts; the flow's next record; the held bytes at the start of the flow's place;
 -- and the frames and their lengths at the start of the other two slices. `put` leaves every other element as it was, so of the place no
@@ -106,24 +106,24 @@ refused number t s = record { answer = refusedAnswer number t; slices = s }
 
 -- by the number of the first refusal that applies
 unfoldable pub receivedBy : ℕ → Table → ℕ → List ℕ → Slices → Outcome
-receivedBy zero t r sub s = carriedOut r (flowId sub) (heardBy t r sub s) t s
+receivedBy zero t r sub s = carriedOut r (flowTo t r sub) (heardBy t r sub s) t s
 receivedBy (suc c) t r sub s = refused (suc c) t s
 
-unfoldable pub received : ℕ → Table → List ℕ → Slices → Outcome
-received lead t packet s = receivedBy (first (dataRefusals lead t packet s)) t (rowOf lead t packet) (sub lead packet) s
+unfoldable pub received : Table → Packet → Slices → Outcome
+received t p s = receivedBy (first (dataRefusals t p s)) t (rowOf t p) (sub p) s
 
 -- the frames that the caller finds: as many as the answer says, of the lengths that stand in the lengths slice, back to back in the output
 abbrev pub framesFound : ℕ → List ℕ → List ℕ → List (List ℕ)
 framesFound count lens output = cutBy (part lens 0 count) output
 
--- What the call permits, whole, over IP: t and s are the table and the slices when it is called, and o has both when it returns.
-pub record PermitsReceive (t : Table) (packet : List ℕ) (s : Slices) (o : Outcome) : Type 0 where
-  pub its-number : o .answer .code ≡ (received overIp t packet s) .answer .code
-  pub its-frames : o .answer .frames ≡ (received overIp t packet s) .answer .frames
-  pub its-bytes : o .answer .bytes ≡ (received overIp t packet s) .answer .bytes
-  pub its-dropped : o .answer .dropped ≡ (received overIp t packet s) .answer .dropped
-  pub its-gap : o .answer .gap ≡ (received overIp t packet s) .answer .gap
-  pub its-table : o .answer .table ≡ (received overIp t packet s) .answer .table
-  pub its-holding : o .slices .holding ≡ (received overIp t packet s) .slices .holding
-  pub its-output : o .slices .output ≡ (received overIp t packet s) .slices .output
-  pub its-lengths : o .slices .lengths ≡ (received overIp t packet s) .slices .lengths
+-- What the call permits, whole: t and s are the table and the slices when it is called, p the packet, and o has table and slices when it returns.
+pub record PermitsReceive (t : Table) (p : Packet) (s : Slices) (o : Outcome) : Type 0 where
+  pub its-number : o .answer .code ≡ (received t p s) .answer .code
+  pub its-frames : o .answer .frames ≡ (received t p s) .answer .frames
+  pub its-bytes : o .answer .bytes ≡ (received t p s) .answer .bytes
+  pub its-dropped : o .answer .dropped ≡ (received t p s) .answer .dropped
+  pub its-gap : o .answer .gap ≡ (received t p s) .answer .gap
+  pub its-table : o .answer .table ≡ (received t p s) .answer .table
+  pub its-holding : o .slices .holding ≡ (received t p s) .slices .holding
+  pub its-output : o .slices .output ≡ (received t p s) .slices .output
+  pub its-lengths : o .slices .lengths ≡ (received t p s) .slices .lengths

@@ -11,8 +11,8 @@ ghost use lib.ListN.{length};
 ghost use Rattle.refusal.specs.Refusal.{first};
 ghost use Rattle.octets.specs.Stretch.{part};
 ghost use Rattle.flow.specs.Flow.{longest, flows};
-ghost use Rattle.packet.specs.Header.{mostLead, idLength, headerLength, longestPacket};
-ghost use Rattle.table.specs.Rows.{rows};
+ghost use Rattle.packet.specs.Header.{ip, mostLead, idLength, headerLength, longestPacket};
+ghost use Rattle.table.specs.Rows.{rows, isDmpt};
 ghost use Rattle.join.specs.Slices.{asSlices, mostFrames, mostBytes};
 ghost use Rattle.join.specs.Placed.{nothingYet, Placed, Roomy, Within};
 ghost use Rattle.card.specs.Hear.{judgedOf, fateOf};
@@ -28,6 +28,7 @@ use packet::header;
 use packet::psp;
 use table::ROWS;
 use table::Table;
+use table::Terms;
 
 // A place for each flow of each row.
 pub const HOLDING_SIZE: usize = ROWS * FLOWS * Flow::LONGEST as usize;
@@ -55,7 +56,7 @@ pub fn receive(
     output: &mut [u8],
     lengths: &mut [u16],
 ) -> Received
-    ensures { λ r. ⌜ PermitsReceive table (now (packet .entry))
+    ensures { λ r. ⌜ PermitsReceive table (ip (now (packet .entry)))
         (asSlices (now (holding .entry)) (now (output .entry)) (now (lengths .entry)))
         (record { answer = r; slices = asSlices (now (holding .exit)) (now (output .exit)) (now (lengths .exit)) }) ⌝ }
 {
@@ -98,7 +99,7 @@ pub fn too_small(holding: usize, output: usize, lengths: usize) -> bool
 // Refusals 13 and 2 to 4, or 0.
 fn refuse_before_session(table: Table, packet: &[u8], lead: usize) -> u32
     requires { ⌜ lead ≤ mostLead ⌝ }
-    ensures { λ r. ⌜ r ≡ first (earlyRefusals lead table (now (packet .entry))) ⌝ }
+    ensures { λ r. ⌜ r ≡ first (earlyRefusals table (record { lead = lead; bytes = now (packet .entry) })) ⌝ }
 {
     if table::is_broken(table) {
         return refusal::TABLE_BROKEN;
@@ -107,11 +108,12 @@ fn refuse_before_session(table: Table, packet: &[u8], lead: usize) -> u32
 }
 
 // Refusals 6 to 11, by the kind of the session; or 0.
-pub fn refuse_packet(dmpt: bool, sub: &[u8]) -> u32
+pub fn refuse_packet(terms: Terms, sub: &[u8]) -> u32
     requires { ⌜ headerLength ≤ length (now sub) ⌝ }
-    ensures { λ r. ⌜ r ≡ first (packetRefusals dmpt (now (sub .entry))) ⌝ }
+    ensures { λ r. ⌜ r ≡ first (packetRefusals terms (now (sub .entry))) ⌝ }
 {
-    if dmpt {
+    let kind = terms.kind;
+    if table::is_dmpt(kind) {
         return dmpt::refuse(sub);
     }
     psp::refuse(sub, psp::ENTRY_WIDTH)
@@ -142,7 +144,7 @@ pub fn place_of(row: usize, k: usize) -> usize
 
 // Carries out what becomes of the bytes of an accepted packet.
 pub fn place_packet(
-    dmpt: bool,
+    terms: Terms,
     holding: &mut [u8],
     place: usize,
     output: &mut [u8],
@@ -152,14 +154,15 @@ pub fn place_packet(
     held: usize,
 ) -> Tally
     requires { ⌜ Roomy place (asSlices (now holding) (now output) (now lengths)) ⌝ }
-    requires { ⌜ (held ≤ longest) × (dmpt ≡ true → held ≡ 0)
-        × (idLength + length (now sub) ≤ longestPacket) × (first (packetRefusals dmpt (now sub)) ≡ 0) ⌝ }
-    ensures { λ r. ⌜ Placed (fateOf dmpt gap (part (now (holding .entry)) place held) (now (sub .entry)))
+    requires { ⌜ (terms .longest ≤ longest) × (held ≤ terms .longest) × (isDmpt (terms .kind) ≡ true → held ≡ 0)
+        × (idLength + length (now sub) ≤ longestPacket) × (first (packetRefusals terms (now sub)) ≡ 0) ⌝ }
+    ensures { λ r. ⌜ Placed (fateOf terms gap (part (now (holding .entry)) place held) (now (sub .entry)))
         place nothingYet (asSlices (now (holding .entry)) (now (output .entry)) (now (lengths .entry)))
         r (asSlices (now (holding .exit)) (now (output .exit)) (now (lengths .exit))) ⌝ }
     ensures { λ r. ⌜ Within r ⌝ }
 {
-    if dmpt {
+    let kind = terms.kind;
+    if table::is_dmpt(kind) {
         return mpegs::walk(output, lengths, sub);
     }
     join::walk(
@@ -169,6 +172,7 @@ pub fn place_packet(
         lengths,
         sub,
         psp::ENTRY_WIDTH,
+        terms.longest,
         gap,
         held,
     )
@@ -215,9 +219,8 @@ fn hear(
         table row (now (sub .entry)) (asSlices (now (holding .entry)) (now (output .entry)) (now (lengths .entry)))) ⌝ }
 {
     let session = table.rows[row];
-    let kind = session.kind;
-    let dmpt = table::is_dmpt(kind);
-    let code = refuse_packet(dmpt, sub);
+    let terms = table::terms_of(session);
+    let code = refuse_packet(terms, sub);
     if code != refusal::NONE {
         return refused_answer(code, table);
     }
@@ -229,7 +232,7 @@ fn hear(
     }
     let held = flow.held as usize;
     let tally = place_packet(
-        dmpt,
+        terms,
         holding,
         place_of(row, k),
         output,

@@ -10,7 +10,7 @@ use Rattle.octets.specs.Count.{any, least, sumTo, upTo}
 use Rattle.flow.specs.declared.Flow.{Flow}
 use Rattle.flow.specs.Numbers.{ahead, next}
 use Rattle.flow.specs.Flow.{fresh}
-use Rattle.packet.specs.Header.{overIp}
+use Rattle.packet.specs.Header.{ip}
 use Rattle.packet.specs.Segments.{bodyAt, segmentAt, segments}
 use Rattle.packet.specs.Psp.{wanted}
 use Rattle.packet.specs.Dmpt.{mpegAt, mpegs}
@@ -62,10 +62,10 @@ afterA = put before 18432 (0x21 ∷ 0x22 ∷ [])
 
 -- M1: A on a fresh flow gives a frame of 6, and 2 bytes are held. M2: then B gives a frame of 9, and none is held; what stood in the
 -- place stands there still. M3: then B again is late. M4: B on a fresh flow gives no frame, 7 bytes dropped.
-marked-1-to-4 : (received overIp (card fresh) A (lent before) ≡ accepts 1 6 0 0 (card (at 0 2)) afterA (0x11 ∷ 0x12 ∷ 0x13 ∷ 0x14 ∷ 0x15 ∷ 0x16 ∷ []) (6 ∷ []))
-    × (received overIp (card (at 0 2)) B (lent afterA) ≡ accepts 1 9 0 0 (card (at 1 0)) afterA (0x21 ∷ 0x22 ∷ 0x23 ∷ 0x24 ∷ 0x25 ∷ 0x26 ∷ 0x27 ∷ 0x28 ∷ 0x29 ∷ []) (9 ∷ []))
-    × (received overIp (card (at 1 0)) B (lent afterA) ≡ refuses 12 (card (at 1 0)) afterA)
-    × (received overIp (card fresh) B (lent before) ≡ accepts 0 0 7 0 (card (at 1 0)) before [] [])
+marked-1-to-4 : (received (card fresh) (ip A) (lent before) ≡ accepts 1 6 0 0 (card (at 0 2)) afterA (0x11 ∷ 0x12 ∷ 0x13 ∷ 0x14 ∷ 0x15 ∷ 0x16 ∷ []) (6 ∷ []))
+    × (received (card (at 0 2)) (ip B) (lent afterA) ≡ accepts 1 9 0 0 (card (at 1 0)) afterA (0x21 ∷ 0x22 ∷ 0x23 ∷ 0x24 ∷ 0x25 ∷ 0x26 ∷ 0x27 ∷ 0x28 ∷ 0x29 ∷ []) (9 ∷ []))
+    × (received (card (at 1 0)) (ip B) (lent afterA) ≡ refuses 12 (card (at 1 0)) afterA)
+    × (received (card fresh) (ip B) (lent before) ≡ accepts 0 0 7 0 (card (at 1 0)) before [] [])
 unfolding part rest put joined lengths any least sumTo upTo ahead next bodyAt segmentAt segments wanted broken settledBy settled fateBy fate atGap inOrder pspFate hear carriedOut refused receivedBy received
 marked-1-to-4 = (refl, refl, refl, refl)
 
@@ -74,9 +74,9 @@ abbrev whole : ℕ → ℕ → List ℕ
 whole high low = 0x00 ∷ 0x00 ∷ 0x01 ∷ 0x01 ∷ 0x41 ∷ 0x01 ∷ high ∷ low ∷ 0xC0 ∷ 0x03 ∷ 0x33 ∷ 0x34 ∷ 0x35 ∷ []
 
 -- M5: after A, number 1: gap 1, the 2 held bytes dropped, one frame. M6: number 0x7FFF: gap 32,767. M7: number 0x8000 is late.
-marked-5-to-7 : (received overIp (card (at 0 2)) (whole 0x00 0x01) (lent afterA) ≡ accepts 1 3 2 1 (card (at 2 0)) afterA (0x33 ∷ 0x34 ∷ 0x35 ∷ []) (3 ∷ []))
-    × (received overIp (card (at 0 2)) (whole 0x7F 0xFF) (lent afterA) ≡ accepts 1 3 2 32767 (card (at 0x8000 0)) afterA (0x33 ∷ 0x34 ∷ 0x35 ∷ []) (3 ∷ []))
-    × (received overIp (card (at 0 2)) (whole 0x80 0x00) (lent afterA) ≡ refuses 12 (card (at 0 2)) afterA)
+marked-5-to-7 : (received (card (at 0 2)) (ip (whole 0x00 0x01)) (lent afterA) ≡ accepts 1 3 2 1 (card (at 2 0)) afterA (0x33 ∷ 0x34 ∷ 0x35 ∷ []) (3 ∷ []))
+    × (received (card (at 0 2)) (ip (whole 0x7F 0xFF)) (lent afterA) ≡ accepts 1 3 2 32767 (card (at 0x8000 0)) afterA (0x33 ∷ 0x34 ∷ 0x35 ∷ []) (3 ∷ []))
+    × (received (card (at 0 2)) (ip (whole 0x80 0x00)) (lent afterA) ≡ refuses 12 (card (at 0 2)) afterA)
 unfolding part rest put joined lengths any least sumTo upTo ahead next bodyAt segmentAt segments wanted broken settledBy settled fateBy fate atGap inOrder pspFate hear carriedOut refused receivedBy received
 marked-5-to-7 = (refl, refl, refl)
 
@@ -88,10 +88,10 @@ one-more = 0x00 ∷ 0x00 ∷ 0x01 ∷ 0x01 ∷ 0x41 ∷ 0x01 ∷ 0x00 ∷ 0x04 �
 abbrev full : ℕ → List ℕ
 full n = put before 18432 (replicate n 8)
 
-marked-8-to-11 : (received overIp (card (at 4 2047)) one-more (lent (full 2047)) ≡ accepts 1 2048 0 0 (card (at 5 0)) (full 2047) (replicate 2047 8 ++ (0x44 ∷ [])) (2048 ∷ []))
-    × (received overIp (card (at 4 2048)) one-more (lent (full 2048)) ≡ accepts 0 0 2049 0 (card (at 5 0)) (full 2048) [] [])
-    × (received overIp (card fresh) (set A 5 0) (lent before) ≡ refuses 9 (card fresh) before)
-    × (received overIp (card fresh) (take 19 A) (lent before) ≡ refuses 10 (card fresh) before)
+marked-8-to-11 : (received (card (at 4 2047)) (ip one-more) (lent (full 2047)) ≡ accepts 1 2048 0 0 (card (at 5 0)) (full 2047) (replicate 2047 8 ++ (0x44 ∷ [])) (2048 ∷ []))
+    × (received (card (at 4 2048)) (ip one-more) (lent (full 2048)) ≡ accepts 0 0 2049 0 (card (at 5 0)) (full 2048) [] [])
+    × (received (card fresh) (ip (set A 5 0)) (lent before) ≡ refuses 9 (card fresh) before)
+    × (received (card fresh) (ip (take 19 A)) (lent before) ≡ refuses 10 (card fresh) before)
 unfolding part rest put joined lengths any least sumTo upTo ahead next bodyAt segmentAt segments wanted broken settledBy settled fateBy fate atGap inOrder pspFate hear carriedOut refused receivedBy received
 marked-8-to-11 = (refl, refl, refl, refl)
 
@@ -115,9 +115,9 @@ flow-3 f =
 abbrev to-flow-3 : List ℕ
 to-flow-3 = 0x00 ∷ 0x00 ∷ 0x01 ∷ 0x01 ∷ 0x43 ∷ 0x01 ∷ 0x00 ∷ 0x04 ∷ 0x00 ∷ 0x02 ∷ 0x61 ∷ 0x62 ∷ []
 
-places : (received overIp (card (at 0 2)) to-other (lent afterA) ≡ accepts 1 5 0 0 (other-heard (at 0 2)) afterA (1 ∷ 2 ∷ 3 ∷ 0x51 ∷ 0x52 ∷ []) (5 ∷ []))
-    × (received overIp (flow-3 (at 4 1)) to-flow-3 (lent (put before 22528 (0x60 ∷ []))) ≡ accepts 0 0 0 0 (flow-3 (at 5 3)) (put before 22528 (0x60 ∷ 0x61 ∷ 0x62 ∷ [])) [] [])
-    × (received overIp (card (at 0xFFFF 2)) B (lent afterA) ≡ accepts 0 0 9 1 (card (at 1 0)) afterA [] [])
+places : (received (card (at 0 2)) (ip to-other) (lent afterA) ≡ accepts 1 5 0 0 (other-heard (at 0 2)) afterA (1 ∷ 2 ∷ 3 ∷ 0x51 ∷ 0x52 ∷ []) (5 ∷ []))
+    × (received (flow-3 (at 4 1)) (ip to-flow-3) (lent (put before 22528 (0x60 ∷ []))) ≡ accepts 0 0 0 0 (flow-3 (at 5 3)) (put before 22528 (0x60 ∷ 0x61 ∷ 0x62 ∷ [])) [] [])
+    × (received (card (at 0xFFFF 2)) (ip B) (lent afterA) ≡ accepts 0 0 9 1 (card (at 1 0)) afterA [] [])
 unfolding part rest put joined lengths any least sumTo upTo ahead next bodyAt segmentAt segments wanted broken settledBy settled fateBy fate atGap inOrder pspFate hear carriedOut refused receivedBy received
 places = (refl, refl, refl)
 
@@ -133,14 +133,14 @@ D marks = 0x00 ∷ 0x00 ∷ 0x01 ∷ 0x03 ∷ marks ∷ 0x7F ∷ 0x12 ∷ 0x34 �
 abbrev dmpt-card : Flow → Table
 dmpt-card f = record { rows = closedRow ∷ closedRow ∷ closedRow ∷ rowWith 0x103 kind.Dmpt f fresh ∷ closedRow ∷ closedRow ∷ [] }
 
-dmpt : (received overIp (dmpt-card fresh) (D 0x00) (lent before) ≡ accepts 1 188 188 0 (dmpt-card fresh) before (mpeg 0xFE) (188 ∷ []))
-    × (received overIp (dmpt-card (at 9 0)) (D 0x00) (lent before) ≡ accepts 1 188 188 0 (dmpt-card (at 9 0)) before (mpeg 0xFE) (188 ∷ []))
-    × (received overIp (dmpt-card fresh) (D 0x40) (lent before) ≡ accepts 1 188 188 0 (dmpt-card (at 0x1235 0)) before (mpeg 0xFE) (188 ∷ []))
-    × (received overIp (dmpt-card (at 0x1230 0)) (D 0x40) (lent before) ≡ accepts 1 188 188 4 (dmpt-card (at 0x1235 0)) before (mpeg 0xFE) (188 ∷ []))
-    × (received overIp (dmpt-card (at 0x1235 0)) (D 0x40) (lent before) ≡ refuses 12 (dmpt-card (at 0x1235 0)) before)
-    × (received overIp (dmpt-card (at 0x1235 0)) (D 0x00) (lent before) ≡ accepts 1 188 188 0 (dmpt-card (at 0x1235 0)) before (mpeg 0xFE) (188 ∷ []))
-    × (received overIp (dmpt-card (at 0x1235 0)) (set (D 0x40) 8 0x48) (lent before) ≡ refuses 11 (dmpt-card (at 0x1235 0)) before)
-    × (received overIp (dmpt-card fresh) (D 0x41) (lent before) ≡ refuses 7 (dmpt-card fresh) before)
+dmpt : (received (dmpt-card fresh) (ip (D 0x00)) (lent before) ≡ accepts 1 188 188 0 (dmpt-card fresh) before (mpeg 0xFE) (188 ∷ []))
+    × (received (dmpt-card (at 9 0)) (ip (D 0x00)) (lent before) ≡ accepts 1 188 188 0 (dmpt-card (at 9 0)) before (mpeg 0xFE) (188 ∷ []))
+    × (received (dmpt-card fresh) (ip (D 0x40)) (lent before) ≡ accepts 1 188 188 0 (dmpt-card (at 0x1235 0)) before (mpeg 0xFE) (188 ∷ []))
+    × (received (dmpt-card (at 0x1230 0)) (ip (D 0x40)) (lent before) ≡ accepts 1 188 188 4 (dmpt-card (at 0x1235 0)) before (mpeg 0xFE) (188 ∷ []))
+    × (received (dmpt-card (at 0x1235 0)) (ip (D 0x40)) (lent before) ≡ refuses 12 (dmpt-card (at 0x1235 0)) before)
+    × (received (dmpt-card (at 0x1235 0)) (ip (D 0x00)) (lent before) ≡ accepts 1 188 188 0 (dmpt-card (at 0x1235 0)) before (mpeg 0xFE) (188 ∷ []))
+    × (received (dmpt-card (at 0x1235 0)) (ip (set (D 0x40) 8 0x48)) (lent before) ≡ refuses 11 (dmpt-card (at 0x1235 0)) before)
+    × (received (dmpt-card fresh) (ip (D 0x41)) (lent before) ≡ refuses 7 (dmpt-card fresh) before)
 unfolding part rest put joined lengths any least sumTo upTo ahead next mpegAt mpegs broken mpegFate inOrder dmptFate hear carriedOut refused receivedBy received
 dmpt = (refl, refl, refl, refl, refl, refl, refl, refl)
 
@@ -152,26 +152,26 @@ short holding output sizes = record { holding = replicate holding 5; output = re
 abbrev broken-card : Table
 broken-card = record { rows = closedRow ∷ rowWith 0x102 kind.Psp fresh (at 7 2049) ∷ rowWith 0x101 kind.Psp fresh fresh ∷ closedRow ∷ closedRow ∷ closedRow ∷ [] }
 
-longer : received overIp (card fresh) B (short 49153 6145 128)
+longer : received (card fresh) (ip B) (short 49153 6145 128)
     ≡ record { answer = record { code = 0; frames = 0; bytes = 0; dropped = 7; gap = 0; table = card (at 1 0) }; slices = short 49153 6145 128 }
 unfolding part rest put joined lengths any least sumTo upTo ahead next bodyAt segmentAt segments wanted broken settledBy settled fateBy fate atGap inOrder pspFate hear carriedOut refused receivedBy received
 longer = refl
 
-order : (received overIp broken-card [] (short 49151 6144 127) ≡ refused 1 broken-card (short 49151 6144 127))
-    × (received overIp broken-card [] (short 49152 6143 127) ≡ refused 1 broken-card (short 49152 6143 127))
-    × (received overIp broken-card [] (short 49152 6144 126) ≡ refused 1 broken-card (short 49152 6144 126))
-    × (received overIp broken-card (take 7 A) (lent before) ≡ refuses 13 broken-card before)
-    × (received overIp broken-card A (lent before) ≡ refuses 13 broken-card before)
-    × (received overIp empty (replicate 7 0) (lent before) ≡ refuses 2 empty before)
-    × (received overIp empty (replicate 4101 0) (lent before) ≡ refuses 3 empty before)
-    × (received overIp empty (replicate 8 0) (lent before) ≡ refuses 4 empty before)
-    × (received overIp empty (set A 4 0x80) (lent before) ≡ refuses 5 empty before)
-    × (received overIp (card (at 1 0)) (set A 4 0x87) (lent before) ≡ refuses 6 (card (at 1 0)) before)
-    × (received overIp (card (at 1 0)) (set B 4 0x04) (lent before) ≡ refuses 7 (card (at 1 0)) before)
-    × (received overIp (card (at 1 0)) (set (set B 4 0x01) 5 0) (lent before) ≡ refuses 8 (card (at 1 0)) before)
-    × (received overIp (card (at 1 0)) (set B 5 0) (lent before) ≡ refuses 9 (card (at 1 0)) before)
-    × (received overIp (card (at 1 0)) (set B 9 0) (lent before) ≡ refuses 10 (card (at 1 0)) before)
-    × (received overIp (card (at 0 0)) (set A 10 0x00) (lent before) ≡ refuses 11 (card (at 0 0)) before)
-    × (received overIp (card (at 0 0)) A (lent before) ≡ refuses 12 (card (at 0 0)) before)
+order : (received broken-card (ip []) (short 49151 6144 127) ≡ refused 1 broken-card (short 49151 6144 127))
+    × (received broken-card (ip []) (short 49152 6143 127) ≡ refused 1 broken-card (short 49152 6143 127))
+    × (received broken-card (ip []) (short 49152 6144 126) ≡ refused 1 broken-card (short 49152 6144 126))
+    × (received broken-card (ip (take 7 A)) (lent before) ≡ refuses 13 broken-card before)
+    × (received broken-card (ip A) (lent before) ≡ refuses 13 broken-card before)
+    × (received empty (ip (replicate 7 0)) (lent before) ≡ refuses 2 empty before)
+    × (received empty (ip (replicate 4101 0)) (lent before) ≡ refuses 3 empty before)
+    × (received empty (ip (replicate 8 0)) (lent before) ≡ refuses 4 empty before)
+    × (received empty (ip (set A 4 0x80)) (lent before) ≡ refuses 5 empty before)
+    × (received (card (at 1 0)) (ip (set A 4 0x87)) (lent before) ≡ refuses 6 (card (at 1 0)) before)
+    × (received (card (at 1 0)) (ip (set B 4 0x04)) (lent before) ≡ refuses 7 (card (at 1 0)) before)
+    × (received (card (at 1 0)) (ip (set (set B 4 0x01) 5 0)) (lent before) ≡ refuses 8 (card (at 1 0)) before)
+    × (received (card (at 1 0)) (ip (set B 5 0)) (lent before) ≡ refuses 9 (card (at 1 0)) before)
+    × (received (card (at 1 0)) (ip (set B 9 0)) (lent before) ≡ refuses 10 (card (at 1 0)) before)
+    × (received (card (at 0 0)) (ip (set A 10 0x00)) (lent before) ≡ refuses 11 (card (at 0 0)) before)
+    × (received (card (at 0 0)) (ip A) (lent before) ≡ refuses 12 (card (at 0 0)) before)
 unfolding part rest put any least sumTo ahead next bodyAt wanted broken refused receivedBy received
 order = (refl, refl, refl, refl, refl, refl, refl, refl, refl, refl, refl, refl, refl, refl, refl, refl)

@@ -19,7 +19,7 @@ use Rattle.host.specs.declared.sessions.HostOpening.{HostOpening}
 use Rattle.host.specs.declared.sessions.HostClosing.{HostClosing}
 use Rattle.numbers.specs.Tables.{tableIn, kindOut, tableOut}
 use Rattle.numbers.specs.Fitness.{withFreshRow, heldInRow}
-use Rattle.host.specs.Calls.{modeIn, openingOut, closingOut}
+use Rattle.host.specs.Calls.{modeIn, requestIn, openingOut, closingOut}
 use Rattle.numbers.proofs.Columns.{Shaped}
 use Rattle.host.proofs.Hearing.{find-by-id}
 use Rattle.numbers.proofs.FreshRows.{out-fresh-row, free-by-kind, held-by-number}
@@ -36,13 +36,13 @@ mode-back (suc (suc (suc n))) known =
 
 module _ (t : HostTable) (id kind : ℕ) where
   abbrev OpenedAs : HostOpening → Type 0
-  OpenedAs answer = answer ≡ cond (kindUnknown kind) (record { code = 24; table = t }) (openingOut t (opened (tableIn t) id (modeIn kind)))
+  OpenedAs answer = answer ≡ cond (kindUnknown kind) (record { code = 24; table = t }) (openingOut t (opened (tableIn t) (requestIn id kind)))
 
   pub open-unknown : kindUnknown kind ≡ true → OpenedAs (record { code = 24; table = t })
   open-unknown unknown = rw unknown refl
 
   module _ (known : kindUnknown kind ≡ false) where
-    open-refused : (c : ℕ) → first (openRefusals (tableIn t) id) ≡ suc c → OpenedAs (record { code = suc c; table = t })
+    open-refused : (c : ℕ) → first (openRefusals (tableIn t) (requestIn id kind)) ≡ suc c → OpenedAs (record { code = suc c; table = t })
     unfolding opened
     open-refused c e = rw (known, e) refl
 
@@ -70,8 +70,8 @@ module _ (t : HostTable) (id kind : ℕ) where
           pub open-done : Shaped t → row < rows → (after : HostTable) → after ≡ withFreshRow t row id kind → OpenedAs (record { code = 0; table = after })
           unfolding opened
           open-done shaped room after e =
-              let passed : first (openRefusals (tableIn t) id) ≡ 0 = rw (whole, ne-eqb id 0 named, ← found, le-ltb at rows absent, ← free, lt-leb rows row room) refl in
-              let out : tableOut (withRow (tableIn t) row (freshRow id (modeIn kind))) ≡ withFreshRow t row id kind =
+              let passed : first (openRefusals (tableIn t) (requestIn id kind)) ≡ 0 = rw (whole, ne-eqb id 0 named, ← found, le-ltb at rows absent, ← free, lt-leb rows row room) refl in
+              let out : tableOut (withRow (tableIn t) row (freshRow (requestIn id kind))) ≡ withFreshRow t row id kind =
               out-fresh-row t whole shaped row room id (kindOf (modeIn kind)) ∙ ap (withFreshRow t row id) (mode-back kind known) in
               rw (known, passed, ← free, out, e) refl
 

@@ -6,11 +6,12 @@ use mathlib.Core.Path.{_≡_}
 use mathlib.Core.Bool.{cond}
 use mathlib.Core.List.{List}
 use lib.Dec.{eqb}
-use Rattle.packet.specs.Header.{overIp}
+use Rattle.packet.specs.Header.{ip}
 use Rattle.packet.specs.Check.{kindPsp, kindUnknown}
 use Rattle.table.specs.declared.Table.{Table}
 use Rattle.table.specs.declared.Mode.{Mode}
 use Rattle.table.specs.declared.Mode.the-variants as mode
+use Rattle.table.specs.declared.Request.{Request}
 use Rattle.table.specs.declared.Opening.{Opening}
 use Rattle.table.specs.declared.Closing.{Closing}
 use Rattle.table.specs.Calls.{opened, closed}
@@ -33,12 +34,15 @@ tableAfter (suc number) given after = given
 abbrev pub modeIn : ℕ → Mode
 modeIn kind = cond (eqb kind kindPsp) mode.Psp mode.Dmpt
 
+abbrev pub requestIn : ℕ → ℕ → Request
+requestIn id kind = record { id = id; mode = modeIn kind }
+
 abbrev pub openingOut : HostTable → Opening → HostOpening
 openingOut given o = record { code = o .code; table = tableAfter (o .code) given (o .table) }
 
 abbrev pub PermitsHostOpen : HostTable → ℕ → ℕ → HostOpening → Type 0
 PermitsHostOpen t id kind answer =
-    answer ≡ cond (kindUnknown kind) (record { code = 24; table = t }) (openingOut t (opened (tableIn t) id (modeIn kind)))
+    answer ≡ cond (kindUnknown kind) (record { code = 24; table = t }) (openingOut t (opened (tableIn t) (requestIn id kind)))
 
 -- Closing.
 abbrev pub closingOut : HostTable → Closing → HostClosing
@@ -67,7 +71,7 @@ abbrev pub outcomeOut : HostTable → Outcome → HostOutcome
 outcomeOut given o = record { answer = receivedOut given (o .answer); slices = o .slices }
 
 unfoldable pub hostReceived : HostTable → List ℕ → Slices → HostOutcome
-hostReceived t packet s = outcomeOut t (received overIp (tableIn t) packet s)
+hostReceived t packet s = outcomeOut t (received (tableIn t) (ip packet) s)
 
 abbrev pub PermitsHostReceive : HostTable → List ℕ → Slices → HostOutcome → Type 0
 PermitsHostReceive t packet s o = o ≡ hostReceived t packet s

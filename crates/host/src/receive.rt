@@ -2,7 +2,7 @@
 // the table is read and changed where it stands, instead of being changed over and back on every packet.
 ghost use mathlib.Core.Path.{_≡_};
 ghost use Rattle.refusal.specs.Refusal.{first};
-ghost use Rattle.packet.specs.Header.{overIp};
+ghost use Rattle.packet.specs.Header.{ip};
 ghost use Rattle.join.specs.Slices.{asSlices};
 ghost use Rattle.card.specs.Receive.{earlyRefusals, flowRefusals, receivedBy};
 ghost use Rattle.card.specs.Ready.{Ready};
@@ -14,6 +14,7 @@ use flow::Flow;
 use numbers::HostTable;
 use packet::header;
 use table::ROWS;
+use table::Terms;
 
 #[repr(C)]
 pub struct HostReceived {
@@ -69,7 +70,7 @@ fn refused_answer(code: u32, table: HostTable) -> HostReceived
 
 // Refusals 13 and 2 to 4, or 0.
 fn refuse_before_session(table: HostTable, packet: &[u8]) -> u32
-    ensures { λ r. ⌜ r ≡ first (earlyRefusals overIp (tableIn table) (now (packet .entry))) ⌝ }
+    ensures { λ r. ⌜ r ≡ first (earlyRefusals (tableIn table) (ip (now (packet .entry)))) ⌝ }
 {
     if numbers::is_broken(table) {
         return refusal::TABLE_BROKEN;
@@ -93,8 +94,13 @@ fn hear(
         (tableIn table) row (now (sub .entry)) (asSlices (now (holding .entry)) (now (output .entry)) (now (lengths .entry))))) ⌝ }
 {
     let mut next = table;
-    let dmpt = next.kind[row] == numbers::DMPT;
-    let code = card::refuse_packet(dmpt, sub);
+    let number = next.kind[row];
+    let kind = numbers::kind_in(number);
+    let terms = Terms {
+        kind,
+        longest: Flow::LONGEST,
+    };
+    let code = card::refuse_packet(terms, sub);
     if code != refusal::NONE {
         return refused_answer(code, next);
     }
@@ -114,7 +120,7 @@ fn hear(
     }
     let before = flow.held as usize;
     let tally = card::place_packet(
-        dmpt,
+        terms,
         holding,
         card::place_of(row, k),
         output,
@@ -127,12 +133,16 @@ fn hear(
     next.heard[n] = numbers::mark_of(after.heard);
     next.expected[n] = after.expected;
     next.held[n] = tally.held as u16;
+    let frames = tally.frames as u32;
+    let bytes = tally.bytes as u32;
+    let dropped = tally.dropped as u32;
+    let gap = judged.gap as u32;
     HostReceived {
         code: refusal::NONE,
-        frames: tally.frames as u32,
-        bytes: tally.bytes as u32,
-        dropped: tally.dropped as u32,
-        gap: judged.gap as u32,
+        frames,
+        bytes,
+        dropped,
+        gap,
         table: next,
     }
 }

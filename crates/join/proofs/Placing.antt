@@ -12,7 +12,6 @@ use borrow.Author.Tests.{lt-ltb, le-ltb, eq-eqb, ne-eqb, eqb-true}
 use Rattle.octets.specs.Stretch.{part, put, joined, lengths}
 use Rattle.octets.specs.Count.{upTo}
 use Rattle.octets.proofs.Stretches.{length-part, length-put, length-lengths, put-nil, put-put, put-same, part-put, part-none, joined-append, lengths-append}
-use Rattle.flow.specs.Flow.{longest}
 use Rattle.packet.specs.Segments.{beginsIn, endsIn, lengthIn, Segment}
 use Rattle.join.specs.declared.Tally.{Tally}
 use Rattle.join.specs.Join.{Fate, delivering, dropping, keeping, andThen, settledBy, settled, fateBy, fate, atGap, inOrder}
@@ -156,7 +155,7 @@ way-fits true size a b e f =
 way-fits false size a b e f = rw e f
 
 -- The three ways of a segment whose entry the code has read: `count` and `ends` are what it found there.
-module _ (place : ℕ) (a : Tally) (s : Slices) (sub : List ℕ) (from entry count : ℕ) (ends : Bool) (sized : count ≡ lengthIn entry) (marked : ends ≡ endsIn entry)
+module _ (most place : ℕ) (a : Tally) (s : Slices) (sub : List ℕ) (from entry count : ℕ) (ends : Bool) (sized : count ≡ lengthIn entry) (marked : ends ≡ endsIn entry)
     (r : Tally) (s′ : Slices) (inside : place + a .held ≤ length (s .holding)) where
   abbrev heldNow : List ℕ
   heldNow = part (s .holding) place (a .held)
@@ -167,45 +166,45 @@ module _ (place : ℕ) (a : Tally) (s : Slices) (sub : List ℕ) (from entry cou
   pub segment-begins : (b : Tally) → beginsIn entry ≡ true →
       b ≡ record { held = 0; frames = a .frames; bytes = a .bytes; dropped = a .dropped + a .held } →
       a .bytes ≤ length (s .output) → a .frames ≤ length (s .lengths) →
-      Placed (settled longest ends (part (s .holding) place (b .held) ++ part sub from count)) place b s r s′ →
-      Placed (fate longest heldNow read) place a s r s′
+      Placed (settled most ends (part (s .holding) place (b .held) ++ part sub from count)) place b s r s′ →
+      Placed (fate most heldNow read) place a s r s′
   segment-begins b begins alone room places q =
       let n = length-part (s .holding) place (a .held) inside in
       let first : Placed (dropping heldNow) place a s b s = rw alone (placed-dropping place a s heldNow _ refl refl refl (omega arith)) in
       let none : part (s .holding) place (b .held) ≡ [] = rw alone (part-none (s .holding) place) in
-      let then : Placed (settled longest (endsIn entry) (part sub from (lengthIn entry))) place b s r s′ = rw (none, sized, marked) at q in
-      rw (fate-begins longest heldNow read begins)
+      let then : Placed (settled most (endsIn entry) (part sub from (lengthIn entry))) place b s r s′ = rw (none, sized, marked) at q in
+      rw (fate-begins most heldNow read begins)
       (placed-then (rw alone room) (rw alone places) first refl then)
 
   pub segment-orphan : beginsIn entry ≡ false → a .held ≡ 0 → from + lengthIn entry ≤ length sub →
       r .held ≡ 0 → r .frames ≡ a .frames → r .bytes ≡ a .bytes → r .dropped ≡ a .dropped + count →
-      Placed (fate longest heldNow read) place a s r s
+      Placed (fate most heldNow read) place a s r s
   segment-orphan begins none whole h f b d =
       let n = length-part (s .holding) place (a .held) inside in
       let m = length-part sub from (lengthIn entry) whole in
-      rw (fate-orphan longest heldNow read begins (n ∙ none))
+      rw (fate-orphan most heldNow read begins (n ∙ none))
       (placed-dropping place a s (read .body) r h f b (omega arith))
 
   pub segment-joins : beginsIn entry ≡ false → (a .held ≡ 0 → ⊥) →
-      Placed (settled longest ends (heldNow ++ part sub from count)) place a s r s′ →
-      Placed (fate longest heldNow read) place a s r s′
+      Placed (settled most ends (heldNow ++ part sub from count)) place a s r s′ →
+      Placed (fate most heldNow read) place a s r s′
   segment-joins begins some q =
       let n = length-part (s .holding) place (a .held) inside in
-      rw (fate-joins longest heldNow read begins (λ z. some (sym n ∙ z))) (rw (sized, marked) at q)
+      rw (fate-joins most heldNow read begins (λ z. some (sym n ∙ z))) (rw (sized, marked) at q)
 
   -- .. where what is held has made way for a segment with B
   pub segment-lost : (begins : Bool) (b : Tally) → begins ≡ beginsIn entry → b ≡ madeWay begins a → (not begins && eqb (b .held) 0) ≡ true →
       from + lengthIn entry ≤ length sub →
       r .held ≡ 0 → r .frames ≡ b .frames → r .bytes ≡ b .bytes → r .dropped ≡ b .dropped + count →
-      Placed (fate longest heldNow read) place a s r s
+      Placed (fate most heldNow read) place a s r s
   segment-lost true b mark e t whole h f n d = absurd (true≢false (sym t))
   segment-lost false b mark e t whole h f n d =
       segment-orphan (sym mark) (rw e at (eqb-true (b .held) 0 t)) whole h (rw e at f) (rw e at n) (rw e at d)
 
   pub segment-settles : (begins : Bool) (b : Tally) → begins ≡ beginsIn entry → b ≡ madeWay begins a → (not begins && eqb (b .held) 0) ≡ false →
       a .bytes ≤ length (s .output) → a .frames ≤ length (s .lengths) →
-      Placed (settled longest ends (part (s .holding) place (b .held) ++ part sub from count)) place b s r s′ →
-      Placed (fate longest heldNow read) place a s r s′
+      Placed (settled most ends (part (s .holding) place (b .held) ++ part sub from count)) place b s r s′ →
+      Placed (fate most heldNow read) place a s r s′
   segment-settles true b mark e t room places q = segment-begins b (sym mark) e room places q
   segment-settles false b mark e t room places q =
       segment-joins (sym mark) (λ z. true≢false (sym (eq-eqb (b .held) 0 (ap (λ (x : Tally). x .held) e ∙ z)) ∙ t)) (rw e at q)

@@ -24,12 +24,12 @@ use Rattle.join.specs.Placed.{Placed, Whole, Ran}
 use Rattle.join.proofs.Placing.{placed-delivering, settled-whole, fate-begins}
 
 -- the code's test
-pub whole-entry : (entry : ℕ) → (leb (bBit + eBit) entry && leb entry (bBit + eBit + longest)) ≡ true → Whole entry
-whole-entry entry t =
+pub whole-entry : (most entry : ℕ) → most ≤ longest → (leb (bBit + eBit) entry && leb entry (bBit + eBit + most)) ≡ true → Whole most entry
+whole-entry most entry small t =
     let least = leb (bBit + eBit) entry in
-    let most = leb entry (bBit + eBit + longest) in
-    let above : bBit + eBit ≤ entry = leb-true _ _ (and-left least most t) in
-    let below : entry ≤ bBit + eBit + longest = leb-true _ _ (and-right least most t) in
+    let top = leb entry (bBit + eBit + most) in
+    let above : bBit + eBit ≤ entry = leb-true _ _ (and-left least top t) in
+    let below : entry ≤ bBit + eBit + most = leb-true _ _ (and-right least top t) in
     record {
       begins = eq-eqb (entry / bBit % 2) 1 (omega arith);
       ends = eq-eqb (entry / eBit % 2) 1 (omega arith);
@@ -46,14 +46,14 @@ written-more lens lens′ at f n room e =
     ∙ put-put lens at (upTo f n) (f n ∷ []) (omega arith))
 
 -- The loop's invariant.
-pub record Running (width : ℕ) (sub : List ℕ) (k count at : ℕ) (lens lens′ : List ℕ) (frames bytes : ℕ) : Type 0 where
+pub record Running (most width : ℕ) (sub : List ℕ) (k count at : ℕ) (lens lens′ : List ℕ) (frames bytes : ℕ) : Type 0 where
   pub within : k + frames ≤ count
-  pub ran : Ran width sub k at lens lens′ frames bytes
+  pub ran : Ran most width sub k at lens lens′ frames bytes
   pub small : bytes ≤ longest * frames
 
-pub run-begin : (width : ℕ) (sub : List ℕ) (k count at : ℕ) (lens : List ℕ) → k ≤ count → Running width sub k count at lens lens 0 0
+pub run-begin : (most width : ℕ) (sub : List ℕ) (k count at : ℕ) (lens : List ℕ) → k ≤ count → Running most width sub k count at lens lens 0 0
 unfolding upTo
-run-begin width sub k count at lens l =
+run-begin most width sub k count at lens l =
     record {
       within = omega arith;
       ran =
@@ -65,20 +65,20 @@ run-begin width sub k count at lens l =
       small = omega arith;
     }
 
-module _ {width : ℕ} {sub : List ℕ} {k count at : ℕ} {lens lens′ : List ℕ} {frames bytes : ℕ}
-    (r : Running width sub k count at lens lens′ frames bytes) (room : at + count ≤ length lens + k) where
+module _ {most width : ℕ} {sub : List ℕ} {k count at : ℕ} {lens lens′ : List ℕ} {frames bytes : ℕ}
+    (r : Running most width sub k count at lens lens′ frames bytes) (small : most ≤ longest) (room : at + count ≤ length lens + k) where
   pub run-length : length lens′ ≡ length lens
   run-length =
       let f : ℕ → ℕ = λ i. lengthAt width sub (k + i) in
       rw (r .ran .written) (length-put lens at (upTo f frames) (omega (arith, length-up-to f frames, r .within)))
 
-  pub run-turn : {entry size : ℕ} → k + frames < count → entry ≡ entryAt width sub (k + frames) → Whole entry → size ≡ lengthIn entry →
-      Running width sub k count at lens (set lens′ (at + frames) size) (frames + 1) (bytes + size)
+  pub run-turn : {entry size : ℕ} → k + frames < count → entry ≡ entryAt width sub (k + frames) → Whole most entry → size ≡ lengthIn entry →
+      Running most width sub k count at lens (set lens′ (at + frames) size) (frames + 1) (bytes + size)
   run-turn {entry} {size} more e w z =
       let f : ℕ → ℕ = λ i. lengthAt width sub (k + i) in
-      let this : Whole (entryAt width sub (k + frames)) = rw e at w in
+      let this : Whole most (entryAt width sub (k + frames)) = rw e at w in
       let size-is : size ≡ f frames = z ∙ ap lengthIn e in
-      let few : size ≤ longest = rw z (w .short) in
+      let few : size ≤ longest = omega (arith, w .short) in
       record {
         within = omega arith;
         ran =
@@ -99,15 +99,15 @@ module _ {width : ℕ} {sub : List ℕ} {k count at : ℕ} {lens lens′ : List 
       }
 
 -- One whole frame, where nothing is held.
-pub whole-placed : (place : ℕ) (a : Tally) (s : Slices) (sub : List ℕ) (from entry : ℕ) → Whole entry → a .held ≡ 0 → from + lengthIn entry ≤ length sub →
+pub whole-placed : (most place : ℕ) (a : Tally) (s : Slices) (sub : List ℕ) (from entry : ℕ) → Whole most entry → a .held ≡ 0 → from + lengthIn entry ≤ length sub →
     (r : Tally) (s′ : Slices) → s′ .holding ≡ s .holding → s′ .output ≡ put (s .output) (a .bytes) (part sub from (lengthIn entry)) →
     s′ .lengths ≡ put (s .lengths) (a .frames) (lengthIn entry ∷ []) →
     r .held ≡ 0 → r .frames ≡ a .frames + 1 → r .bytes ≡ a .bytes + lengthIn entry → r .dropped ≡ a .dropped →
-    Placed (fate longest (part (s .holding) place (a .held)) (record { begins = beginsIn entry; ends = endsIn entry; body = part sub from (lengthIn entry) }))
+    Placed (fate most (part (s .holding) place (a .held)) (record { begins = beginsIn entry; ends = endsIn entry; body = part sub from (lengthIn entry) }))
     place a s r s′
-whole-placed place a s sub from entry w none inside r s′ same out lens h f b d =
+whole-placed most place a s sub from entry w none inside r s′ same out lens h f b d =
     let body = part sub from (lengthIn entry) in
     let n : length body ≡ lengthIn entry = length-part sub from (lengthIn entry) inside in
     let empty : part (s .holding) place (a .held) ≡ [] = rw none (part-none (s .holding) place) in
-    rw (empty, fate-begins longest [] (record { begins = beginsIn entry; ends = endsIn entry; body = body }) (w .begins), settled-whole longest (endsIn entry) body (rw n (w .short)) (w .ends))
+    rw (empty, fate-begins most [] (record { begins = beginsIn entry; ends = endsIn entry; body = body }) (w .begins), settled-whole most (endsIn entry) body (rw n (w .short)) (w .ends))
     (placed-delivering place a s body r s′ same out (rw n lens) h f (rw n b) d)

@@ -30,32 +30,32 @@ count-few : (sub : List ℕ) → segmentCount sub ≤ mostFrames
 count-few sub = omega arith
 
 -- what has become of the bytes after k segments
-abbrev pub soFar : ℕ → ℕ → List ℕ → List ℕ → ℕ → Fate
-soFar width gap held sub k = inOrder (fate longest) (atGap gap held) (upTo (segmentAt width sub) k)
+abbrev pub soFar : ℕ → ℕ → ℕ → List ℕ → List ℕ → ℕ → Fate
+soFar most width gap held sub k = inOrder (fate most) (atGap gap held) (upTo (segmentAt width sub) k)
 
-module _ (width gap : ℕ) (held sub : List ℕ) (passed : PspPassed width sub) (few : length held ≤ longest) where
-  segment-accounts : (h : List ℕ) (k : ℕ) → length h ≤ longest → k < segmentCount sub →
-      Accounts (length h + lengthAt width sub k) 1 longest (fate longest h (segmentAt width sub k))
+module _ (most width gap : ℕ) (held sub : List ℕ) (passed : PspPassed width sub) (few : length held ≤ most) (small : most ≤ longest) where
+  segment-accounts : (h : List ℕ) (k : ℕ) → length h ≤ most → k < segmentCount sub →
+      Accounts (length h + lengthAt width sub k) 1 most (fate most h (segmentAt width sub k))
   unfolding segmentAt
   segment-accounts h k l there =
       let n = length-part sub (bodyAt width sub k) (lengthAt width sub k) (body-inside width sub passed k there) in
-      let a = fate-accounts longest h (segmentAt width sub k) in
+      let a = fate-accounts most h (segmentAt width sub k) in
       record { all = omega (arith, n, a .all); frames-few = a .frames-few; held-few = a .held-few }
 
   pub so-far-accounts : (k : ℕ) → k ≤ segmentCount sub →
-      Accounts (length held + sumTo (lengthAt width sub) k) k longest (soFar width gap held sub k)
+      Accounts (length held + sumTo (lengthAt width sub) k) k most (soFar most width gap held sub k)
   so-far-accounts k l =
-      in-order-accounts (fate longest) (atGap gap held) (segmentAt width sub) (lengthAt width sub) (length held) longest (segmentCount sub)
-      (gap-accounts longest gap held few) segment-accounts k l
+      in-order-accounts (fate most) (atGap gap held) (segmentAt width sub) (lengthAt width sub) (length held) most (segmentCount sub)
+      (gap-accounts most gap held few) segment-accounts k l
 
   -- between two segments nothing is held
-  pub so-far-ended : (k : ℕ) → suc k < segmentCount sub → soFar width gap held sub (suc k) .held ≡ []
+  pub so-far-ended : (k : ℕ) → suc k < segmentCount sub → soFar most width gap held sub (suc k) .held ≡ []
   unfolding segmentAt
   so-far-ended k l =
       let there : k < segmentCount sub = omega arith in
       let e : endsIn (entryAt width sub k) ≡ true = ends-early width sub passed k there (λ z. omega arith) in
-      rw (in-order-next (fate longest) (atGap gap held) (segmentAt width sub) k)
-      (fate-ends longest (soFar width gap held sub k .held) (segmentAt width sub k) e)
+      rw (in-order-next (fate most) (atGap gap held) (segmentAt width sub) k)
+      (fate-ends most (soFar most width gap held sub k .held) (segmentAt width sub k) e)
 
   -- 2,048 held and 4,092 that came are the most that one packet can tell of
   pub all-few : idLength + length sub ≤ longestPacket → (k : ℕ) → k ≤ segmentCount sub → length held + sumTo (lengthAt width sub) k ≤ mostBytes
@@ -63,24 +63,24 @@ module _ (width gap : ℕ) (held sub : List ℕ) (passed : PspPassed width sub) 
   all-few short k l = let s = sum-below (lengthAt width sub) k (segmentCount sub) l in omega (arith, passed .fills)
 
 -- The loop's invariant.
-pub record Walking (width gap held place : ℕ) (sub : List ℕ) (s s′ : Slices) (tally : Tally) (from k : ℕ) : Type 0 where
+pub record Walking (most width gap held place : ℕ) (sub : List ℕ) (s s′ : Slices) (tally : Tally) (from k : ℕ) : Type 0 where
   pub within : k ≤ segmentCount sub
   pub at : from ≡ bodyAt width sub k
-  pub placed : Placed (soFar width gap (part (s .holding) place held) sub k) place nothingYet s tally s′
+  pub placed : Placed (soFar most width gap (part (s .holding) place held) sub k) place nothingYet s tally s′
 
-module _ (width gap held place : ℕ) (sub : List ℕ) (s : Slices)
-    (passed : PspPassed width sub) (few : held ≤ longest) (short : idLength + length sub ≤ longestPacket) (roomy : Roomy place s) where
+module _ (most width gap held place : ℕ) (sub : List ℕ) (s : Slices)
+    (passed : PspPassed width sub) (few : held ≤ most) (small : most ≤ longest) (short : idLength + length sub ≤ longestPacket) (roomy : Roomy place s) where
   abbrev heldFirst : List ℕ
   heldFirst = part (s .holding) place held
 
   held-length : length heldFirst ≡ held
   held-length = length-part (s .holding) place held (omega (arith, roomy .place-inside))
 
-  held-few : length heldFirst ≤ longest
+  held-few : length heldFirst ≤ most
   held-few = omega (arith, held-length)
 
   pub walk-begin : (count from : ℕ) → count ≡ segmentCount sub → from ≡ headerLength + width * count →
-      Walking width gap held place sub s s (begun gap held) from 0
+      Walking most width gap held place sub s s (begun gap held) from 0
   unfolding inOrder upTo bodyAt
   walk-begin count from counted e =
       record {
@@ -89,18 +89,18 @@ module _ (width gap held place : ℕ) (sub : List ℕ) (s : Slices)
         placed = placed-begun gap place held s (omega (arith, roomy .place-inside));
       }
 
-  module _ {s′ : Slices} {tally : Tally} {from k : ℕ} (w : Walking width gap held place sub s s′ tally from k) where
-    account : Accounts (length heldFirst + sumTo (lengthAt width sub) k) k longest (soFar width gap heldFirst sub k)
-    account = so-far-accounts width gap heldFirst sub passed held-few k (w .within)
+  module _ {s′ : Slices} {tally : Tally} {from k : ℕ} (w : Walking most width gap held place sub s s′ tally from k) where
+    account : Accounts (length heldFirst + sumTo (lengthAt width sub) k) k most (soFar most width gap heldFirst sub k)
+    account = so-far-accounts most width gap heldFirst sub passed held-few small k (w .within)
 
     bytes-few : length heldFirst + sumTo (lengthAt width sub) k ≤ mostBytes
-    bytes-few = all-few width gap heldFirst sub passed held-few short k (w .within)
+    bytes-few = all-few most width gap heldFirst sub passed held-few small short k (w .within)
 
     -- the slices are as long as they were
     pub walk-lengths : (length (s′ .holding) ≡ length (s .holding)) × (length (s′ .output) ≡ length (s .output)) × (length (s′ .lengths) ≡ length (s .lengths))
     walk-lengths =
         let n = count-few sub in (
-          holding-long (w .placed) account (roomy .place-inside),
+          holding-long (w .placed) account (omega (arith, roomy .place-inside)),
           output-long (w .placed) account (omega (arith, bytes-few, roomy .output-long)),
           lengths-long (w .placed) account (omega (arith, w .within, n, roomy .lengths-long)),
         )
@@ -118,7 +118,7 @@ module _ (width gap held place : ℕ) (sub : List ℕ) (s : Slices)
         let n = count-few sub in
         let c = placed-counted (w .placed) account in
         record {
-          held-few = c .held-few;
+          held-few = omega (arith, c .held-few);
           bytes-few = omega (arith, c .all, bytes-few);
           frames-few = omega (arith, c .frames-few, w .within, n);
         }
@@ -131,9 +131,9 @@ module _ (width gap held place : ℕ) (sub : List ℕ) (s : Slices)
       walk-fits =
           let n = count-few sub in
           let c = placed-counted (w .placed) account in
-          let more = all-few width gap heldFirst sub passed held-few short (k + 1) (omega arith) in
+          let more = all-few most width gap heldFirst sub passed held-few small short (k + 1) (omega arith) in
           record {
-            held-few = c .held-few;
+            held-few = omega (arith, c .held-few);
             bytes-few = omega (arith, c .all, more, sum-more (lengthAt width sub) k);
             frames-few = omega (arith, c .frames-few, n);
           }
@@ -143,25 +143,25 @@ module _ (width gap held place : ℕ) (sub : List ℕ) (s : Slices)
       unfolding inOrder upTo
       quiet = quiet-at k there (w .placed .holding-now)
         where
-          quiet-at : (j : ℕ) → j < segmentCount sub → s′ .holding ≡ put (s .holding) place (soFar width gap heldFirst sub j .held) → s′ .holding ≡ s .holding
+          quiet-at : (j : ℕ) → j < segmentCount sub → s′ .holding ≡ put (s .holding) place (soFar most width gap heldFirst sub j .held) → s′ .holding ≡ s .holding
           quiet-at zero l e = e ∙ sym (placed-begun gap place held s (omega (arith, roomy .place-inside)) .holding-now)
-          quiet-at (suc j) l e = e ∙ ap (put (s .holding) place) (so-far-ended width gap heldFirst sub passed held-few j l) ∙ put-nil (s .holding) place
+          quiet-at (suc j) l e = e ∙ ap (put (s .holding) place) (so-far-ended most width gap heldFirst sub passed held-few small j l) ∙ put-nil (s .holding) place
 
       pub walk-turn : (entry size : ℕ) (r : Tally) (s″ : Slices) → entry ≡ entryAt width sub k → size ≡ lengthIn entry →
-          Placed (fate longest (part (s′ .holding) place (tally .held)) (record { begins = beginsIn entry; ends = endsIn entry; body = part sub from (lengthIn entry) }))
+          Placed (fate most (part (s′ .holding) place (tally .held)) (record { begins = beginsIn entry; ends = endsIn entry; body = part sub from (lengthIn entry) }))
           place tally s′ r s″ →
-          Walking width gap held place sub s s″ r (from + size) (k + 1)
+          Walking most width gap held place sub s s″ r (from + size) (k + 1)
       unfolding segmentAt bodyAt
       walk-turn entry size r s″ e z q =
           let n = count-few sub in
           let c = placed-counted (w .placed) account in
-          let q′ : Placed (fate longest (soFar width gap heldFirst sub k .held) (segmentAt width sub k)) place tally s′ r s″ =
-          rw (held-there (w .placed) account (roomy .place-inside), e, w .at) at q in
+          let q′ : Placed (fate most (soFar most width gap heldFirst sub k .held) (segmentAt width sub k)) place tally s′ r s″ =
+          rw (held-there (w .placed) account (omega (arith, roomy .place-inside)), e, w .at) at q in
           record {
             within = omega arith;
             at = rw (w .at, z, e, sum-more (lengthAt width sub) k) (omega arith);
             placed =
-                placed-next (fate longest) (atGap gap heldFirst) (segmentAt width sub) k
+                placed-next (fate most) (atGap gap heldFirst) (segmentAt width sub) k
                 (omega (arith, c .all, bytes-few, roomy .output-long)) (omega (arith, c .frames-few, n, roomy .lengths-long)) (w .placed) quiet q′;
           }
 
@@ -174,12 +174,12 @@ module _ (width gap held place : ℕ) (sub : List ℕ) (s : Slices)
     unfolding bodyAt wanted
     walk-place = rw (w .at) (omega (arith, passed .fills, sum-below (lengthAt width sub) k (segmentCount sub) (w .within)))
 
-    pub walk-end : segmentCount sub ≤ k → Placed (pspFate longest gap heldFirst (segments width sub)) place nothingYet s tally s′
+    pub walk-end : segmentCount sub ≤ k → Placed (pspFate most gap heldFirst (segments width sub)) place nothingYet s tally s′
     unfolding pspFate segments
     walk-end l = let done : k ≡ segmentCount sub = omega (arith, w .within) in rw done at (w .placed)
 
   -- Whole frames behind a segment, placed together.
-  module _ {s′ : Slices} {tally : Tally} {from k : ℕ} (w : Walking width gap held place sub s s′ tally from k) (behind : 1 ≤ k) where
+  module _ {s′ : Slices} {tally : Tally} {from k : ℕ} (w : Walking most width gap held place sub s s′ tally from k) (behind : 1 ≤ k) where
     abbrev behindAt : ℕ → ℕ
     behindAt i = lengthAt width sub (k + i)
 
@@ -190,11 +190,11 @@ module _ (width gap held place : ℕ) (sub : List ℕ) (s : Slices)
     runTally n bytes = record { held = tally .held; frames = tally .frames + n; bytes = tally .bytes + bytes; dropped = tally .dropped }
 
     abbrev After : ℕ → ℕ → Type 0
-    After n bytes = Walking width gap held place sub s (runSlices n bytes) (runTally n bytes) (from + bytes) (k + n)
+    After n bytes = Walking most width gap held place sub s (runSlices n bytes) (runTally n bytes) (from + bytes) (k + n)
 
-    none-held : (j : ℕ) → 1 ≤ j → j < segmentCount sub → soFar width gap heldFirst sub j .held ≡ []
+    none-held : (j : ℕ) → 1 ≤ j → j < segmentCount sub → soFar most width gap heldFirst sub j .held ≡ []
     none-held zero l there = absurd (omega arith)
-    none-held (suc j) l there = so-far-ended width gap heldFirst sub passed held-few j there
+    none-held (suc j) l there = so-far-ended most width gap heldFirst sub passed held-few small j there
 
     run-none : After 0 (sumTo behindAt 0)
     unfolding upTo
@@ -205,7 +205,7 @@ module _ (width gap held place : ℕ) (sub : List ℕ) (s : Slices)
         let d : tally .bytes + 0 ≡ tally .bytes = omega arith in
         rw (sum-none behindAt, part-none sub from, put-nil (s′ .output) (tally .bytes), put-nil (s′ .lengths) (tally .frames), a, b, c, d) w
 
-    run-more : (n bytes : ℕ) → After n bytes → k + n < segmentCount sub → Whole (entryAt width sub (k + n)) → After (n + 1) (bytes + behindAt n)
+    run-more : (n bytes : ℕ) → After n bytes → k + n < segmentCount sub → Whole most (entryAt width sub (k + n)) → After (n + 1) (bytes + behindAt n)
     run-more n bytes u there whole =
         let size = behindAt n in
         let here : k < segmentCount sub = omega arith in
@@ -220,24 +220,24 @@ module _ (width gap held place : ℕ) (sub : List ℕ) (s : Slices)
         (sym (ap (λ (i : ℕ). put (put (s′ .output) (tally .bytes) (part sub from bytes)) (tally .bytes + i) (part sub (from + bytes) size)) (sym body)
         ∙ put-put (s′ .output) (tally .bytes) (part sub from bytes) (part sub (from + bytes) size) (rw body room))) in
         let lens = sym (written-more (s′ .lengths) (put (s′ .lengths) (tally .frames) (upTo behindAt n)) (tally .frames) behindAt n places refl) in
-        let q = whole-placed place (runTally n bytes) (runSlices n bytes) sub (from + bytes) (entryAt width sub (k + n)) whole none inside
+        let q = whole-placed most place (runTally n bytes) (runSlices n bytes) sub (from + bytes) (entryAt width sub (k + n)) whole none inside
         (runTally (n + 1) (bytes + size)) (runSlices (n + 1) (bytes + size)) refl out lens none (omega arith) (omega arith) refl in
         let turned = walk-turn u there (entryAt width sub (k + n)) size (runTally (n + 1) (bytes + size)) (runSlices (n + 1) (bytes + size)) refl refl q in
         let a : from + bytes + size ≡ from + (bytes + size) = omega arith in
         let b : k + n + 1 ≡ k + (n + 1) = omega arith in
         rw (← a, ← b) turned
 
-    run-at : (n : ℕ) → k + n ≤ segmentCount sub → ((i : ℕ) → i < n → Whole (entryAt width sub (k + i))) → After n (sumTo behindAt n)
+    run-at : (n : ℕ) → k + n ≤ segmentCount sub → ((i : ℕ) → i < n → Whole most (entryAt width sub (k + i))) → After n (sumTo behindAt n)
     run-at zero l each = run-none
     run-at (suc n) l each =
         rw (← add-one n, sum-more behindAt n)
         (run-more n (sumTo behindAt n) (run-at n (omega arith) (λ i h. each i (omega arith))) (omega arith) (each n (omega arith)))
 
-    pub walk-run : {lens′ : List ℕ} {frames bytes : ℕ} → k + frames ≤ segmentCount sub → Ran width sub k (tally .frames) (s′ .lengths) lens′ frames bytes →
-        Walking width gap held place sub s (asSlices (s′ .holding) (put (s′ .output) (tally .bytes) (part sub from bytes)) lens′) (runTally frames bytes) (from + bytes) (k + frames)
+    pub walk-run : {lens′ : List ℕ} {frames bytes : ℕ} → k + frames ≤ segmentCount sub → Ran most width sub k (tally .frames) (s′ .lengths) lens′ frames bytes →
+        Walking most width gap held place sub s (asSlices (s′ .holding) (put (s′ .output) (tally .bytes) (part sub from bytes)) lens′) (runTally frames bytes) (from + bytes) (k + frames)
     walk-run {lens′} {frames} {bytes} l r = rw (r .written, r .total) (run-at frames l (r .each))
 
     -- there is room for them
-    pub run-room : {lens′ : List ℕ} {frames bytes : ℕ} → k + frames ≤ segmentCount sub → Ran width sub k (tally .frames) (s′ .lengths) lens′ frames bytes →
+    pub run-room : {lens′ : List ℕ} {frames bytes : ℕ} → k + frames ≤ segmentCount sub → Ran most width sub k (tally .frames) (s′ .lengths) lens′ frames bytes →
         (tally .bytes + bytes ≤ length (s′ .output)) × (from + bytes ≤ length sub)
     run-room l r = (omega (arith, walk-within (walk-run l r) .bytes-few, walk-lengths w .1, roomy .output-long), walk-place (walk-run l r))

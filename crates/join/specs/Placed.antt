@@ -51,14 +51,14 @@ pub record Within (tally : Tally) : Type 0 where
   pub bytes-few : tally .held + tally .bytes + tally .dropped ≤ mostBytes
   pub frames-few : tally .frames ≤ mostFrames
 
--- an entry with B, E and a length of at most the longest frame's
-pub record Whole (entry : ℕ) : Type 0 where
+-- an entry with B, E and a length of at most the session's longest frame
+pub record Whole (most entry : ℕ) : Type 0 where
   pub begins : beginsIn entry ≡ true
   pub ends : endsIn entry ≡ true
-  pub short : lengthIn entry ≤ longest
+  pub short : lengthIn entry ≤ most
 
 -- so many whole frames from segment k on, so long together, and their lengths written from place `at` on
-pub record Ran (width : ℕ) (sub : List ℕ) (k at : ℕ) (lens lens′ : List ℕ) (frames bytes : ℕ) : Type 0 where
-  pub each : (i : ℕ) → i < frames → Whole (entryAt width sub (k + i))
+pub record Ran (most width : ℕ) (sub : List ℕ) (k at : ℕ) (lens lens′ : List ℕ) (frames bytes : ℕ) : Type 0 where
+  pub each : (i : ℕ) → i < frames → Whole most (entryAt width sub (k + i))
   pub total : bytes ≡ sumTo (λ i. lengthAt width sub (k + i)) frames
   pub written : lens′ ≡ put lens at (upTo (λ i. lengthAt width sub (k + i)) frames)

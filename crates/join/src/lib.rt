@@ -20,7 +20,6 @@ ghost use Rattle.packet.specs.Psp.{pspRefusals};
 ghost use Rattle.join.specs.Join.{settled, fate, pspFate};
 ghost use Rattle.join.specs.Slices.{asSlices, mostFrames, mostBytes};
 ghost use Rattle.join.specs.Placed.{nothingYet, begun, Placed, Roomy, Fits, Within, Whole, Ran};
-use flow::Flow;
 use packet::header;
 use packet::psp;
 
@@ -80,11 +79,12 @@ fn settle(
     from: usize,
     count: usize,
     ends: bool,
+    most: u16,
     tally: Tally,
 ) -> Tally
     requires { ⌜ Roomy place (asSlices (now holding) (now output) (now lengths)) ⌝ }
-    requires { ⌜ (from + count ≤ length (now sub)) × Fits count tally ⌝ }
-    ensures { λ r. ⌜ Placed (settled longest ends (part (now (holding .entry)) place (tally .held) ++ part (now (sub .entry)) from count))
+    requires { ⌜ (most ≤ longest) × (from + count ≤ length (now sub)) × Fits count tally ⌝ }
+    ensures { λ r. ⌜ Placed (settled most ends (part (now (holding .entry)) place (tally .held) ++ part (now (sub .entry)) from count))
         place tally (asSlices (now (holding .entry)) (now (output .entry)) (now (lengths .entry)))
         r (asSlices (now (holding .exit)) (now (output .exit)) (now (lengths .exit))) ⌝ }
 {
@@ -93,7 +93,7 @@ fn settle(
     let bytes = tally.bytes;
     let dropped = tally.dropped;
     let joined = held + count;
-    if (Flow::LONGEST as usize) < joined {
+    if (most as usize) < joined {
         let lost = dropped + joined;
         return Tally {
             held: 0, // nor is its tail held as a frame of its own
@@ -135,11 +135,12 @@ fn place_segment(
     sub: &[u8],
     from: usize,
     entry: u16,
+    most: u16,
     tally: Tally,
 ) -> Tally
     requires { ⌜ Roomy place (asSlices (now holding) (now output) (now lengths)) ⌝ }
-    requires { ⌜ (from + lengthIn entry ≤ length (now sub)) × Fits (lengthIn entry) tally ⌝ }
-    ensures { λ r. ⌜ Placed (fate longest (part (now (holding .entry)) place (tally .held))
+    requires { ⌜ (most ≤ longest) × (from + lengthIn entry ≤ length (now sub)) × Fits (lengthIn entry) tally ⌝ }
+    ensures { λ r. ⌜ Placed (fate most (part (now (holding .entry)) place (tally .held))
         (record { begins = beginsIn entry; ends = endsIn entry; body = part (now (sub .entry)) from (lengthIn entry) }))
         place tally (asSlices (now (holding .entry)) (now (output .entry)) (now (lengths .entry)))
         r (asSlices (now (holding .exit)) (now (output .exit)) (now (lengths .exit))) ⌝ }
@@ -166,15 +167,17 @@ fn place_segment(
         from,
         count,
         ends,
+        most,
         before,
     )
 }
 
 // Whether an entry is that of a whole frame which is not too long: it has B and E, and a length of at most 2,048.
-fn whole(entry: u16) -> bool
-    ensures { λ r. ⌜ (r ≡ true → Whole entry) ⌝ }
+fn whole(entry: u16, most: u16) -> bool
+    requires { ⌜ most ≤ longest ⌝ }
+    ensures { λ r. ⌜ (r ≡ true → Whole most entry) ⌝ }
 {
-    (psp::B_BIT + psp::E_BIT <= entry) & (entry <= psp::B_BIT + psp::E_BIT + Flow::LONGEST)
+    (psp::B_BIT + psp::E_BIT <= entry) & (entry <= psp::B_BIT + psp::E_BIT + most)
 }
 
 // Whole frames one behind the other: how many, and how long together.
@@ -191,17 +194,18 @@ fn write_lengths(
     width: usize,
     k: usize,
     count: usize,
+    most: u16,
 ) -> Run
     requires { ⌜ (2 ≤ width) × (headerLength + width * count ≤ length (now sub)) ⌝ }
-    requires { ⌜ (k ≤ count) × (count ≤ mostFrames) × (at + count ≤ length (now lengths) + k) ⌝ }
-    ensures { λ r. ⌜ Ran width (now (sub .entry)) k at (now (lengths .entry)) (now (lengths .exit)) (r .frames) (r .bytes) ⌝ }
+    requires { ⌜ (most ≤ longest) × (k ≤ count) × (count ≤ mostFrames) × (at + count ≤ length (now lengths) + k) ⌝ }
+    ensures { λ r. ⌜ Ran most width (now (sub .entry)) k at (now (lengths .entry)) (now (lengths .exit)) (r .frames) (r .bytes) ⌝ }
     ensures { λ r. ⌜ k + r .frames ≤ count ⌝ }
 {
     let mut frames: usize = 0;
     let mut bytes: usize = 0;
     while k + frames < count {
         let entry = psp::entry(sub, width, k + frames);
-        if !whole(entry) {
+        if !whole(entry, most) {
             return Run { frames, bytes };
         }
         let size = psp::length_of(entry);
@@ -221,13 +225,14 @@ pub fn walk(
     lengths: &mut [u16],
     sub: &[u8],
     width: usize,
+    most: u16,
     gap: u16,
     held: usize,
 ) -> Tally
     requires { ⌜ Roomy place (asSlices (now holding) (now output) (now lengths)) ⌝ }
-    requires { ⌜ (2 ≤ width) × (width ≤ 4) × (held ≤ longest)
+    requires { ⌜ (2 ≤ width) × (width ≤ 4) × (held ≤ most) × (most ≤ longest)
         × (idLength + length (now sub) ≤ longestPacket) × (first (pspRefusals width (now sub)) ≡ 0) ⌝ }
-    ensures { λ r. ⌜ Placed (pspFate longest gap (part (now (holding .entry)) place held) (segments width (now (sub .entry))))
+    ensures { λ r. ⌜ Placed (pspFate most gap (part (now (holding .entry)) place held) (segments width (now (sub .entry))))
         place nothingYet (asSlices (now (holding .entry)) (now (output .entry)) (now (lengths .entry)))
         r (asSlices (now (holding .exit)) (now (output .exit)) (now (lengths .exit))) ⌝ }
     ensures { λ r. ⌜ Within r ⌝ }
@@ -238,14 +243,26 @@ pub fn walk(
     let mut k: usize = 0;
     while k < count {
         let entry = psp::entry(sub, width, k);
-        let joined = place_segment(holding, place, output, lengths, sub, from, entry, tally);
+        let joined = place_segment(
+            holding,
+            place,
+            output,
+            lengths,
+            sub,
+            from,
+            entry,
+            most,
+            tally,
+        );
         let behind = from + psp::length_of(entry);
-        let run = write_lengths(lengths, joined.frames, sub, width, k + 1, count);
+        let run = write_lengths(lengths, joined.frames, sub, width, k + 1, count, most);
         octets::copy(output, joined.bytes, sub, behind, run.bytes);
+        let frames = joined.frames + run.frames;
+        let bytes = joined.bytes + run.bytes;
         tally = Tally {
             held: joined.held,
-            frames: joined.frames + run.frames,
-            bytes: joined.bytes + run.bytes,
+            frames,
+            bytes,
             dropped: joined.dropped,
         };
         from = behind + run.bytes;

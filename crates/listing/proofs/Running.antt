@@ -8,17 +8,22 @@ use lib.Dec.{eqb}
 use lib.ListN.{length}
 use borrow.Author.Tests.{eq-eqb, ne-eqb, eqb-true}
 use Rattle.octets.specs.Bytes.{be32At}
+use Rattle.packet.specs.Header.{ip}
 use Rattle.table.specs.declared.Table.{Table}
 use Rattle.table.specs.declared.Mode.{Mode}
+use Rattle.table.specs.declared.Request.{Request}
 use Rattle.table.specs.declared.Mode.the-variants as mode
 use Rattle.table.specs.Calls.{opened, closed}
 use Rattle.join.specs.Slices.{asSlices}
 use Rattle.card.specs.declared.Received.{Received}
 use Rattle.card.specs.Receive.{PermitsReceive}
-use Rattle.card.specs.History.{Call, opens, closes, hands, handed, answer, after}
+use Rattle.card.specs.History.{Arrival, Call, opens, closes, hands, handed, answer, after}
 use Rattle.capture.specs.File.{Entry, openPsp, openDmpt, closing, idBody, bodyIn, kinds, takesLength}
-use Rattle.listing.specs.Run.{Running, callOf, outputAfter, lengthsAfter, runOne}
+use Rattle.listing.specs.Run.{Running, asks, callOf, outputAfter, lengthsAfter, runOne}
 use Rattle.listing.specs.Walk.{asRunning, answered, Counts, RunsTo}
+
+abbrev asked-for : Mode → ℕ → Request
+asked-for asked id = record { id = id; mode = asked }
 
 abbrev entryOf : ℕ → List ℕ → Entry
 entryOf kind body = record { kind = kind; body = body }
@@ -42,15 +47,18 @@ module _ (t : Table) (holding output lens : List ℕ) (kind : ℕ) (body : List 
   abbrev before : Running
   before = asRunning t holding output lens
 
+  abbrev lent : Arrival
+  lent = record { packet = ip body; output = output; lengths = lens }
+
   -- an entry that opens, as PSP or as D-MPT
-  opened-as : (asked : Mode) (id : ℕ) (r : Received) → callOf before (entryOf kind body) ≡ opens asked (be32At body 0) → id ≡ be32At body 0 →
-      r ≡ answered (opened t id asked .code) 0 (opened t id asked .table) → RunsTo before (entryOf kind body) r holding output lens
+  opened-as : (asked : Mode) (id : ℕ) (r : Received) → callOf before (entryOf kind body) ≡ opens (asks asked (entryOf kind body)) → id ≡ be32At body 0 →
+      r ≡ answered (opened t (asked-for asked id) .code) 0 (opened t (asked-for asked id) .table) → RunsTo before (entryOf kind body) r holding output lens
   unfolding answer after
   opened-as asked id r x i e =
-      let e′ : r ≡ answered (opened t (be32At body 0) asked .code) 0 (opened t (be32At body 0) asked .table) =
-      e ∙ ap (λ (y : ℕ). answered (opened t y asked .code) 0 (opened t y asked .table)) i in
+      let e′ : r ≡ answered (opened t (asked-for asked (be32At body 0)) .code) 0 (opened t (asked-for asked (be32At body 0)) .table) =
+      e ∙ ap (λ (y : ℕ). answered (opened t (asked-for asked y) .code) 0 (opened t (asked-for asked y) .table)) i in
       subst (λ (y : Received). RunsTo before (entryOf kind body) y holding output lens) (sym e′)
-      (ran-as before (entryOf kind body) (opens asked (be32At body 0)) _ holding output lens x
+      (ran-as before (entryOf kind body) (opens (asks asked (entryOf kind body))) _ holding output lens x
       (record { its-code = refl; its-frames = refl; its-bytes = refl; its-dropped = refl; its-gap = refl }) refl)
 
   -- a body that has to be a session ID can be read as one
@@ -61,7 +69,7 @@ module _ (t : Table) (holding output lens : List ℕ) (kind : ℕ) (body : List 
     pub psp-body : takesLength (bodyIn kinds kind) (length body) ≡ true → 0 + 3 < length body
     psp-body = id-inside (rw (eq-eqb kind openPsp psp) refl)
 
-    pub opens-psp : (id : ℕ) (r : Received) → id ≡ be32At body 0 → r ≡ answered (opened t id mode.Psp .code) 0 (opened t id mode.Psp .table) →
+    pub opens-psp : (id : ℕ) (r : Received) → id ≡ be32At body 0 → r ≡ answered (opened t (asked-for mode.Psp id) .code) 0 (opened t (asked-for mode.Psp id) .table) →
         RunsTo before (entryOf kind body) r holding output lens
     opens-psp id r = opened-as mode.Psp id r (rw (eq-eqb kind openPsp psp) refl)
 
@@ -70,7 +78,7 @@ module _ (t : Table) (holding output lens : List ℕ) (kind : ℕ) (body : List 
       pub dmpt-body : takesLength (bodyIn kinds kind) (length body) ≡ true → 0 + 3 < length body
       dmpt-body = id-inside (rw (ne-eqb kind openPsp other, eq-eqb kind openDmpt dmpt) refl)
 
-      pub opens-dmpt : (id : ℕ) (r : Received) → id ≡ be32At body 0 → r ≡ answered (opened t id mode.Dmpt .code) 0 (opened t id mode.Dmpt .table) →
+      pub opens-dmpt : (id : ℕ) (r : Received) → id ≡ be32At body 0 → r ≡ answered (opened t (asked-for mode.Dmpt id) .code) 0 (opened t (asked-for mode.Dmpt id) .table) →
           RunsTo before (entryOf kind body) r holding output lens
       opens-dmpt id r = opened-as mode.Dmpt id r (rw (ne-eqb kind openPsp other, eq-eqb kind openDmpt dmpt) refl)
 
@@ -93,17 +101,17 @@ module _ (t : Table) (holding output lens : List ℕ) (kind : ℕ) (body : List 
             (record { its-code = refl; its-frames = refl; its-bytes = refl; its-dropped = refl; its-gap = refl }) refl)
 
       module _ (not-close : kind ≡ closing → ⊥) where
-        data-call : callOf before (entryOf kind body) ≡ hands body output lens
+        data-call : callOf before (entryOf kind body) ≡ hands lent
         data-call = rw (ne-eqb kind openPsp other, ne-eqb kind openDmpt not-dmpt, ne-eqb kind closing not-close) refl
 
         pub hands-packet : (r : Received) (holding′ output′ lens′ : List ℕ) →
-            PermitsReceive t body (asSlices holding output lens) (record { answer = r; slices = asSlices holding′ output′ lens′ }) →
+            PermitsReceive t (ip body) (asSlices holding output lens) (record { answer = r; slices = asSlices holding′ output′ lens′ }) →
             RunsTo before (entryOf kind body) r holding′ output′ lens′
         unfolding answer after
         hands-packet r holding′ output′ lens′ p =
-            ran-as before (entryOf kind body) (hands body output lens) r holding′ output′ lens′ data-call
+            ran-as before (entryOf kind body) (hands lent) r holding′ output′ lens′ data-call
             (record { its-code = p .its-number; its-frames = p .its-frames; its-bytes = p .its-bytes; its-dropped = p .its-dropped; its-gap = p .its-gap })
             (ap (λ (x : Table). asRunning x holding′ output′ lens′) (p .its-table)
-            ∙ ap (λ (x : List ℕ). asRunning (handed (before .card) body output lens .answer .table) x output′ lens′) (p .its-holding)
-            ∙ ap (λ (x : List ℕ). asRunning (handed (before .card) body output lens .answer .table) (handed (before .card) body output lens .slices .holding) x lens′) (p .its-output)
-            ∙ ap (asRunning (handed (before .card) body output lens .answer .table) (handed (before .card) body output lens .slices .holding) (handed (before .card) body output lens .slices .output)) (p .its-lengths))
+            ∙ ap (λ (x : List ℕ). asRunning (handed (before .card) lent .answer .table) x output′ lens′) (p .its-holding)
+            ∙ ap (λ (x : List ℕ). asRunning (handed (before .card) lent .answer .table) (handed (before .card) lent .slices .holding) x lens′) (p .its-output)
+            ∙ ap (asRunning (handed (before .card) lent .answer .table) (handed (before .card) lent .slices .holding) (handed (before .card) lent .slices .output)) (p .its-lengths))

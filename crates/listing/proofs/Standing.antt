@@ -8,8 +8,8 @@ use lib.Dec.{eqb}
 use Rattle.octets.specs.Bytes.{be32At, byteAt}
 use Rattle.octets.specs.Count.{sumTo}
 use Rattle.octets.proofs.Counts.{sum-none}
-use Rattle.packet.specs.Header.{overIp}
-use Rattle.table.specs.declared.Mode.{Mode}
+use Rattle.packet.specs.Header.{ip}
+use Rattle.table.specs.declared.Request.{Request}
 use Rattle.table.specs.declared.Mode.the-variants as mode
 use Rattle.table.specs.Broken.{broken}
 use Rattle.table.proofs.Keeping.{empty-unbroken, opened-keeps, closed-keeps}
@@ -20,18 +20,18 @@ use Rattle.card.proofs.Keeping.{received-keeps}
 use Rattle.card.proofs.Step.{none-found}
 use Rattle.card.proofs.Limits.{within-limits, lengths-add-up}
 use Rattle.capture.specs.File.{Entry, openPsp, openDmpt, closing, nthEntry}
-use Rattle.listing.specs.Run.{Running, callOf, outputAfter, lengthsAfter, answerTo, runOne, begin, standing, answerAt}
+use Rattle.listing.specs.Run.{Running, asks, callOf, outputAfter, lengthsAfter, answerTo, runOne, begin, standing, answerAt}
 
 -- what holds of every call that an entry may stand for holds of the call that it stands for
 either : (P : Call → Type 0) (b : Bool) {x y : Call} → P x → P y → P (cond b x y)
 either P true p q = p
 either P false p q = q
 
-by-call : (r : Running) (e : Entry) (P : Call → Type 0) → ((m : Mode) (id : ℕ) → P (opens m id)) → ((id : ℕ) → P (closes id)) →
-    P (hands (e .body) (r .output) (r .lengths)) → P (callOf r e)
+by-call : (r : Running) (e : Entry) (P : Call → Type 0) → ((q : Request) → P (opens q)) → ((id : ℕ) → P (closes id)) →
+    P (hands (record { packet = ip (e .body); output = r .output; lengths = r .lengths })) → P (callOf r e)
 by-call r e P on-open on-close on-data =
-    either P (eqb (e .kind) openPsp) (on-open mode.Psp (be32At (e .body) 0))
-    (either P (eqb (e .kind) openDmpt) (on-open mode.Dmpt (be32At (e .body) 0))
+    either P (eqb (e .kind) openPsp) (on-open (asks mode.Psp e))
+    (either P (eqb (e .kind) openDmpt) (on-open (asks mode.Dmpt e))
     (either P (eqb (e .kind) closing) (on-close (be32At (e .body) 0)) on-data))
 
 -- no entry breaks the table
@@ -39,9 +39,9 @@ run-keeps : (r : Running) (e : Entry) → broken (r .card .table) ≡ false → 
 unfolding runOne after
 run-keeps r e whole =
     by-call r e (λ (x : Call). broken (after (r .card) x .table) ≡ false)
-    (λ m id. opened-keeps (r .card .table) id m whole)
+    (λ q. opened-keeps (r .card .table) q whole)
     (λ id. closed-keeps (r .card .table) id whole)
-    (received-keeps overIp (r .card .table) (e .body) (asSlices (r .card .holding) (r .output) (r .lengths)) whole)
+    (received-keeps (r .card .table) (ip (e .body)) (asSlices (r .card .holding) (r .output) (r .lengths)) whole)
 
 pub never-broken : (file : List ℕ) (k : ℕ) → broken (standing file k .card .table) ≡ false
 unfolding standing begin
@@ -57,7 +57,7 @@ unfolding runOne answer
 frames-same r e =
     by-call r e
     (λ (x : Call). framesFound (answer (r .card) x .frames) (lengthsAfter x (r .lengths) (answer (r .card) x)) (outputAfter x (r .output) (answer (r .card) x)) ≡ framesOf (answer (r .card) x))
-    (λ m id. none-either (r .lengths) (r .output) [] [])
+    (λ q. none-either (r .lengths) (r .output) [] [])
     (λ id. none-either (r .lengths) (r .output) [] [])
     refl
 
@@ -76,8 +76,8 @@ pub frames-short : (r : Running) (e : Entry) → Short (answerTo r e .frames) (r
 unfolding runOne answer
 frames-short r e =
     let s = asSlices (r .card .holding) (r .output) (r .lengths) in
-    let few = within-limits overIp (r .card .table) (e .body) s in
+    let few = within-limits (r .card .table) (ip (e .body)) s in
     by-call r e (λ (x : Call). Short (answer (r .card) x .frames) (lengthsAfter x (r .lengths) (answer (r .card) x)))
-    (λ m id. none-short (r .lengths))
+    (λ q. none-short (r .lengths))
     (λ id. none-short (r .lengths))
-    (few .most-frames, omega (arith, few .most-bytes, lengths-add-up overIp (r .card .table) (e .body) s))
+    (few .most-frames, omega (arith, few .most-bytes, lengths-add-up (r .card .table) (ip (e .body)) s))

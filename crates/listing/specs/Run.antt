@@ -6,6 +6,9 @@ use mathlib.Core.List.{List}
 use lib.Dec.{eqb}
 use lib.ListN.{replicate}
 use Rattle.octets.specs.Bytes.{be32At}
+use Rattle.packet.specs.Header.{ip}
+use Rattle.table.specs.declared.Mode.{Mode}
+use Rattle.table.specs.declared.Request.{Request}
 use Rattle.table.specs.declared.Mode.the-variants as mode
 use Rattle.join.specs.Slices.{mostBytes, mostFrames}
 use Rattle.card.specs.Receive.{holdingSize}
@@ -17,24 +20,28 @@ pub record Running : Type 0 where
   pub output : List ℕ
   pub lengths : List ℕ
 
+-- what an entry asks to be opened: its session ID, as this
+abbrev pub asks : Mode → Entry → Request
+asks asked e = record { id = be32At (e .body) 0; mode = asked }
+
 -- the call that an entry stands for
 abbrev pub callOf : Running → Entry → Call
 callOf r e =
-    cond (eqb (e .kind) openPsp) (opens mode.Psp (be32At (e .body) 0))
-    (cond (eqb (e .kind) openDmpt) (opens mode.Dmpt (be32At (e .body) 0))
+    cond (eqb (e .kind) openPsp) (opens (asks mode.Psp e))
+    (cond (eqb (e .kind) openDmpt) (opens (asks mode.Dmpt e))
     (cond (eqb (e .kind) closing) (closes (be32At (e .body) 0))
-    (hands (e .body) (r .output) (r .lengths))))
+    (hands (record { packet = ip (e .body); output = r .output; lengths = r .lengths }))))
 
 -- the slices after a call: a data call leaves them as its answer has them, and the other calls are not lent any
 abbrev pub outputAfter : Call → List ℕ → Answer → List ℕ
-outputAfter (opens asked id) output a = output
+outputAfter (opens r) output a = output
 outputAfter (closes id) output a = output
-outputAfter (hands packet lent lens) output a = a .output
+outputAfter (hands x) output a = a .output
 
 abbrev pub lengthsAfter : Call → List ℕ → Answer → List ℕ
-lengthsAfter (opens asked id) lens a = lens
+lengthsAfter (opens r) lens a = lens
 lengthsAfter (closes id) lens a = lens
-lengthsAfter (hands packet lent lent-lengths) lens a = a .lengths
+lengthsAfter (hands x) lens a = a .lengths
 
 -- an entry: its answer, and how things stand afterwards
 abbrev pub answerTo : Running → Entry → Answer

@@ -7,6 +7,7 @@ ghost use Rattle.capture.specs.File.{bodyIn, kinds, takesLength};
 ghost use Rattle.listing.specs.Walk.{asRunning, answered, RunsTo};
 use card::Received;
 use table::Mode;
+use table::Request;
 use table::Table;
 
 // What a call answers that delivers nothing.
@@ -25,9 +26,10 @@ fn plain(code: u32, dropped: u32, table: Table) -> Received
 
 // Opens a session.
 fn open(table: Table, id: u32, mode: Mode) -> Received
-    ensures { λ r. ⌜ r ≡ answered ((opened table id mode) .code) 0 ((opened table id mode) .table) ⌝ }
+    ensures { λ r. ⌜ r ≡ answered ((opened table (record { id = id; mode = mode })) .code) 0 ((opened table (record { id = id; mode = mode })) .table) ⌝ }
 {
-    let opening = table::open(table, id, mode);
+    let request = Request { id, mode };
+    let opening = table::open(table, request);
     plain(opening.code, 0, opening.table)
 }
 

@@ -158,7 +158,8 @@ pub fn find_row(numbers: [u32; ROWS], number: u32) -> usize
 
 // --- the table that the numbers stand for, where one is wanted as a whole ---
 
-fn kind_in(kind: u32) -> Kind
+// The kind of a session by its number.
+pub fn kind_in(kind: u32) -> Kind
     ensures { λ r. ⌜ r ≡ kindIn kind ⌝ }
 {
     if kind == PSP {

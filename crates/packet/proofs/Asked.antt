@@ -7,7 +7,7 @@ use native.Mathlib.Omega.{arith}
 use lib.ListN.{length}
 use Rattle.octets.specs.Stretch.{part}
 use Rattle.octets.proofs.Stretches.{length-part, part-none, part-rest}
-use Rattle.packet.specs.Header.{overIp, idLength, headerLength, segmentCount, sub}
+use Rattle.packet.specs.Header.{Packet, ip, idLength, headerLength, segmentCount, sub}
 use Rattle.packet.specs.Segments.{entryWidth, lengthAt, bodyAt, segmentAt}
 use Rattle.packet.specs.declared.Extent.{Extent}
 use Rattle.packet.specs.Check.{segmentCause, extentBy, segmentExtent, segmentGiven}
@@ -17,64 +17,64 @@ use Rattle.packet.proofs.Passing.{EarlyPassed, PspPassed, entries-insid
 abbrev nothing : Extent
 nothing = record { start = 0; size = 0 }
 
-extent-refused-by : (c lead : ℕ) (packet : List ℕ) (k : ℕ) → (c ≡ 0 → ⊥) → extentBy c lead packet k ≡ nothing
-extent-refused-by zero lead packet k s = absurd (s refl)
-extent-refused-by (suc c) lead packet k s = refl
+extent-refused-by : (c : ℕ) (p : Packet) (k : ℕ) → (c ≡ 0 → ⊥) → extentBy c p k ≡ nothing
+extent-refused-by zero p k s = absurd (s refl)
+extent-refused-by (suc c) p k s = refl
 
-pub extent-refused : (lead : ℕ) (packet : List ℕ) (k : ℕ) → (segmentCause lead packet k ≡ 0 → ⊥) → segmentExtent lead packet k ≡ nothing
+pub extent-refused : (p : Packet) (k : ℕ) → (segmentCause p k ≡ 0 → ⊥) → segmentExtent p k ≡ nothing
 unfolding segmentExtent
-extent-refused lead packet k s = extent-refused-by (segmentCause lead packet k) lead packet k s
+extent-refused p k s = extent-refused-by (segmentCause p k) p k s
 
-module _ (lead : ℕ) (packet : List ℕ) (k : ℕ) (given : segmentCause lead packet k ≡ 0) where
-  pub extent-given : segmentExtent lead packet k
-      ≡ record { start = lead + idLength + bodyAt entryWidth (sub lead packet) k; size = lengthAt entryWidth (sub lead packet) k }
+module _ (p : Packet) (k : ℕ) (given : segmentCause p k ≡ 0) where
+  pub extent-given : segmentExtent p k
+      ≡ record { start = p .lead + idLength + bodyAt entryWidth (sub p) k; size = lengthAt entryWidth (sub p) k }
   unfolding segmentExtent
-  extent-given = ap (λ (c : ℕ). extentBy c lead packet k) given
+  extent-given = ap (λ (c : ℕ). extentBy c p k) given
 
-  pub early : EarlyPassed lead packet
-  early = check-passed lead packet (cause-passed lead packet k given .0) .0
+  pub early : EarlyPassed p
+  early = check-passed p (cause-passed p k given .0) .0
 
-  pub psp : PspPassed entryWidth (sub lead packet)
-  psp = check-passed lead packet (cause-passed lead packet k given .0) .1
+  pub psp : PspPassed entryWidth (sub p)
+  psp = check-passed p (cause-passed p k given .0) .1
 
-  pub there : k < segmentCount (sub lead packet)
-  there = cause-passed lead packet k given .1
+  pub there : k < segmentCount (sub p)
+  there = cause-passed p k given .1
 
   -- the stretch lies in the packet
-  pub given-inside : lead + idLength + (bodyAt entryWidth (sub lead packet) k + lengthAt entryWidth (sub lead packet) k) ≤ length packet
+  pub given-inside : p .lead + idLength + (bodyAt entryWidth (sub p) k + lengthAt entryWidth (sub p) k) ≤ length (p .bytes)
   given-inside =
-      omega (arith, body-inside entryWidth (sub lead packet) psp k there, sub-length lead packet (early .not-short))
+      omega (arith, body-inside entryWidth (sub p) psp k there, sub-length p (early .not-short))
 
   -- it is the segment that the data call will see
-  pub given-is-segment : segmentGiven lead packet k ≡ (segmentAt entryWidth (sub lead packet) k) .body
+  pub given-is-segment : segmentGiven p k ≡ (segmentAt entryWidth (sub p) k) .body
   unfolding segmentGiven segmentAt
   given-is-segment =
-      ap (λ (e : Extent). part packet (e .start) (e .size)) extent-given
-      ∙ sym (part-rest packet (lead + idLength) (bodyAt entryWidth (sub lead packet) k) (lengthAt entryWidth (sub lead packet) k))
+      ap (λ (e : Extent). part (p .bytes) (e .start) (e .size)) extent-given
+      ∙ sym (part-rest (p .bytes) (p .lead + idLength) (bodyAt entryWidth (sub p) k) (lengthAt entryWidth (sub p) k))
 
 -- Refused or not, the extent lies in the packet.
-inside-by : (lead : ℕ) (packet : List ℕ) (k c : ℕ) → segmentCause lead packet k ≡ c →
-    (extentBy c lead packet k) .start + (extentBy c lead packet k) .size ≤ length packet
-inside-by lead packet k zero given = omega (arith, given-inside lead packet k given)
-inside-by lead packet k (suc c) refused = omega arith
+inside-by : (p : Packet) (k c : ℕ) → segmentCause p k ≡ c →
+    (extentBy c p k) .start + (extentBy c p k) .size ≤ length (p .bytes)
+inside-by p k zero given = omega (arith, given-inside p k given)
+inside-by p k (suc c) refused = omega arith
 
-pub extent-inside : (lead : ℕ) (packet : List ℕ) (k : ℕ) →
-    (segmentExtent lead packet k) .start + (segmentExtent lead packet k) .size ≤ length packet
+pub extent-inside : (p : Packet) (k : ℕ) →
+    (segmentExtent p k) .start + (segmentExtent p k) .size ≤ length (p .bytes)
 unfolding segmentExtent
-extent-inside lead packet k = inside-by lead packet k (segmentCause lead packet k) refl
+extent-inside p k = inside-by p k (segmentCause p k) refl
 
 -- The law that ties the two calls: the stretch is empty exactly when the cause is not 0.
-pub given-some : (lead : ℕ) (packet : List ℕ) (k : ℕ) → segmentCause lead packet k ≡ 0 → segmentGiven lead packet k ≡ [] → ⊥
+pub given-some : (p : Packet) (k : ℕ) → segmentCause p k ≡ 0 → segmentGiven p k ≡ [] → ⊥
 unfolding segmentGiven
-given-some lead packet k given none =
-    let e = segmentExtent lead packet k in
-    body-some entryWidth (sub lead packet) (psp lead packet k given) k (there lead packet k given)
-    (ap (λ (x : Extent). x .size) (sym (extent-given lead packet k given)) ∙ sym (length-part packet (e .start) (e .size) (extent-inside lead packet k)) ∙ ap length none)
+given-some p k given none =
+    let e = segmentExtent p k in
+    body-some entryWidth (sub p) (psp p k given) k (there p k given)
+    (ap (λ (x : Extent). x .size) (sym (extent-given p k given)) ∙ sym (length-part (p .bytes) (e .start) (e .size) (extent-inside p k)) ∙ ap length none)
 
-pub given-none : (lead : ℕ) (packet : List ℕ) (k : ℕ) → (segmentCause lead packet k ≡ 0 → ⊥) → segmentGiven lead packet k ≡ []
+pub given-none : (p : Packet) (k : ℕ) → (segmentCause p k ≡ 0 → ⊥) → segmentGiven p k ≡ []
 unfolding segmentGiven
-given-none lead packet k refused =
-    ap (λ (e : Extent). part packet (e .start) (e .size)) (extent-refused lead packet k refused) ∙ part-none packet 0
+given-none p k refused =
+    ap (λ (e : Extent). part (p .bytes) (e .start) (e .size)) (extent-refused p k refused) ∙ part-none (p .bytes) 0
 
 -- What the code needs to know of a request that is not refused, of the slice that it has cut from the packet.
 pub record Given (packet s : List ℕ) (k : ℕ) : Type 0 where
@@ -84,24 +84,24 @@ pub record Given (packet s : List ℕ) (k : ℕ) : Type 0 where
   pub entry : headerLength + entryWidth * k + 1 < length s
   pub body : idLength + bodyAt entryWidth s k ≤ length packet
 
-pub given-facts : (packet s : List ℕ) (k : ℕ) → segmentCause overIp packet k ≡ 0 → s ≡ sub overIp packet → Given packet s k
+pub given-facts : (packet s : List ℕ) (k : ℕ) → segmentCause (ip packet) k ≡ 0 → s ≡ sub (ip packet) → Given packet s k
 given-facts packet s k given cut =
-    let entries = entries-inside entryWidth (sub overIp packet) (psp overIp packet k given) in
-    let there-is = there overIp packet k given in
-    let facts : Given packet (sub overIp packet) k =
+    let entries = entries-inside entryWidth (sub (ip packet)) (psp (ip packet) k given) in
+    let there-is = there (ip packet) k given in
+    let facts : Given packet (sub (ip packet)) k =
     record {
-      long = omega (arith, early overIp packet k given .not-short);
+      long = omega (arith, early (ip packet) k given .not-short);
       among = there-is;
       entries = entries;
-      entry = entry-within entryWidth k (segmentCount (sub overIp packet)) (length (sub overIp packet)) (omega arith) there-is entries;
-      body = omega (arith, given-inside overIp packet k given);
+      entry = entry-within entryWidth k (segmentCount (sub (ip packet))) (length (sub (ip packet))) (omega arith) there-is entries;
+      body = omega (arith, given-inside (ip packet) k given);
     } in
     rw (sym cut) at facts
 
 -- .. and that what it finds there is the extent
-pub extent-found : (packet s : List ℕ) (k : ℕ) → segmentCause overIp packet k ≡ 0 → s ≡ sub overIp packet → (place size : ℕ) →
-    place ≡ bodyAt entryWidth s k → size ≡ lengthAt entryWidth s k → record { start = idLength + place; size = size } ≡ segmentExtent overIp packet k
+pub extent-found : (packet s : List ℕ) (k : ℕ) → segmentCause (ip packet) k ≡ 0 → s ≡ sub (ip packet) → (place size : ℕ) →
+    place ≡ bodyAt entryWidth s k → size ≡ lengthAt entryWidth s k → record { start = idLength + place; size = size } ≡ segmentExtent (ip packet) k
 extent-found packet s k given cut place size at long =
-    let p : place ≡ bodyAt entryWidth (sub overIp packet) k = at ∙ ap (λ (l : List ℕ). bodyAt entryWidth l k) cut in
-    let z : size ≡ lengthAt entryWidth (sub overIp packet) k = long ∙ ap (λ (l : List ℕ). lengthAt entryWidth l k) cut in
-    rw (p, z) (sym (extent-given overIp packet k given))
+    let p : place ≡ bodyAt entryWidth (sub (ip packet)) k = at ∙ ap (λ (l : List ℕ). bodyAt entryWidth l k) cut in
+    let z : size ≡ lengthAt entryWidth (sub (ip packet)) k = long ∙ ap (λ (l : List ℕ). lengthAt entryWidth l k) cut in
+    rw (p, z) (sym (extent-given (ip packet) k given))

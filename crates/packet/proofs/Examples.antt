@@ -8,7 +8,8 @@ use lib.ListN.{length, take, set, replicate}
 use Rattle.octets.specs.Stretch.{part, rest}
 use Rattle.octets.specs.Count.{any, sumTo, upTo}
 use Rattle.flow.specs.Flow.{topFlow, flows}
-use Rattle.packet.specs.Header.{sub, overIp, mostLead, sessionId, sSet, flowId, segmentCount, number, idLength, headerLength, shortestPacket}
+use Rattle.packet.specs.declared.Extent.{Extent}
+use Rattle.packet.specs.Header.{Packet, ip, sub, mostLead, sessionId, sSet, flowId, segmentCount, number, idLength, headerLength, shortestPacket}
 use Rattle.packet.specs.Segments.{entryWidth, lengthIn, segments, segmentAt, bodyAt}
 use Rattle.packet.specs.Psp.{wanted}
 use Rattle.packet.specs.Dmpt.{mpegAt, mpegs, pid, nullPid}
@@ -20,16 +21,37 @@ A = 0x00 ∷ 0x00 ∷ 0x01 ∷ 0x01 ∷ 0x41 ∷ 0x02 ∷ 0xFF ∷ 0xFF ∷ 0xC0
 abbrev pub B : List ℕ
 B = 0x00 ∷ 0x00 ∷ 0x01 ∷ 0x01 ∷ 0x41 ∷ 0x01 ∷ 0x00 ∷ 0x00 ∷ 0x40 ∷ 0x07 ∷ 0x23 ∷ 0x24 ∷ 0x25 ∷ 0x26 ∷ 0x27 ∷ 0x28 ∷ 0x29 ∷ []
 
+abbrev checkIp : ℕ → List ℕ → ℕ
+checkIp kind bytes = check kind (ip bytes)
+
+abbrev led : List ℕ → Packet
+led bytes = record { lead = mostLead; bytes = bytes }
+
+abbrev checkLed : ℕ → List ℕ → ℕ
+checkLed kind bytes = check kind (led bytes)
+
+abbrev segmentGivenIp : List ℕ → ℕ → List ℕ
+segmentGivenIp bytes k = segmentGiven (ip bytes) k
+
+abbrev segmentExtentIp : List ℕ → ℕ → Extent
+segmentExtentIp bytes k = segmentExtent (ip bytes) k
+
+abbrev segmentExtentLed : List ℕ → ℕ → Extent
+segmentExtentLed bytes k = segmentExtent (led bytes) k
+
+abbrev segmentCauseIp : List ℕ → ℕ → ℕ
+segmentCauseIp bytes k = segmentCause (ip bytes) k
+
 -- limits that the paper says in two ways
 limits : (topFlow + 1 ≡ flows) × (idLength + headerLength ≡ shortestPacket)
 limits = (refl, refl)
 
-a-fields : (sessionId overIp A ≡ 0x101) × (flowId (sub overIp A) ≡ 1) × (sSet (sub overIp A) ≡ true)
-    × (segmentCount (sub overIp A) ≡ 2) × (number (sub overIp A) ≡ 0xFFFF)
+a-fields : (sessionId (ip A) ≡ 0x101) × (flowId (sub (ip A)) ≡ 1) × (sSet (sub (ip A)) ≡ true)
+    × (segmentCount (sub (ip A)) ≡ 2) × (number (sub (ip A)) ≡ 0xFFFF)
 unfolding rest
 a-fields = (refl, refl, refl, refl, refl)
 
-a-segments : segments entryWidth (sub overIp A)
+a-segments : segments entryWidth (sub (ip A))
     ≡ record { begins = true; ends = true; body = 0x11 ∷ 0x12 ∷ 0x13 ∷ 0x14 ∷ 0x15 ∷ 0x16 ∷ [] }
     ∷ record { begins = true; ends = false; body = 0x21 ∷ 0x22 ∷ [] }
     ∷ []
@@ -37,50 +59,50 @@ unfolding segments segmentAt bodyAt rest part sumTo upTo
 a-segments = refl
 
 -- the check of A, and of A as another kind; of 7 bytes, 8, 4,100 and 4,101; of no bytes
-lengths-judged : (check overIp 1 A ≡ 0) × (check overIp 0 A ≡ 24) × (check overIp 3 A ≡ 24) × (check overIp 1 (take 7 A) ≡ 2)
-    × (check overIp 1 (take 8 A) ≡ 10) × (check overIp 1 (A ++ replicate 4080 0) ≡ 10) × (check overIp 1 (A ++ replicate 4081 0) ≡ 3)
-    × (check overIp 1 [] ≡ 2) × (check overIp 2 [] ≡ 2) × (check overIp 3 [] ≡ 24)
+lengths-judged : (checkIp 1 A ≡ 0) × (checkIp 0 A ≡ 24) × (checkIp 3 A ≡ 24) × (checkIp 1 (take 7 A) ≡ 2)
+    × (checkIp 1 (take 8 A) ≡ 10) × (checkIp 1 (A ++ replicate 4080 0) ≡ 10) × (checkIp 1 (A ++ replicate 4081 0) ≡ 3)
+    × (checkIp 1 [] ≡ 2) × (checkIp 2 [] ≡ 2) × (checkIp 3 [] ≡ 24)
 unfolding check checkRefusals rest wanted bodyAt any sumTo
 lengths-judged = (refl, refl, refl, refl, refl, refl, refl, refl, refl, refl)
 
 -- a control message's ID is four zero bytes; any other byte makes it a session's
-ids-judged : (check overIp 1 (set (set A 2 0) 3 0) ≡ 4) × (check overIp 1 (set (set (set A 2 0) 3 0) 1 1) ≡ 0)
-    × (check overIp 1 (set (set (set A 2 0) 3 0) 0 1) ≡ 0) × (check overIp 1 (set A 3 0) ≡ 0) × (check overIp 1 (set A 2 0) ≡ 0)
+ids-judged : (checkIp 1 (set (set A 2 0) 3 0) ≡ 4) × (checkIp 1 (set (set (set A 2 0) 3 0) 1 1) ≡ 0)
+    × (checkIp 1 (set (set (set A 2 0) 3 0) 0 1) ≡ 0) × (checkIp 1 (set A 3 0) ≡ 0) × (checkIp 1 (set A 2 0) ≡ 0)
 unfolding check checkRefusals rest wanted bodyAt any sumTo
 ids-judged = (refl, refl, refl, refl, refl)
 
 -- V set; H 01, 10, 11; flow 3, 4 and 7; S clear; X and the reserved bit, which nobody reads; 6 before 7 before 8
-header-judged : (check overIp 1 (set A 4 0xC1) ≡ 6) × (check overIp 1 (set A 4 0x51) ≡ 6) × (check overIp 1 (set A 4 0x61) ≡ 6)
-    × (check overIp 1 (set A 4 0x71) ≡ 6) × (check overIp 1 (set A 4 0x43) ≡ 0) × (check overIp 1 (set A 4 0x44) ≡ 7) × (check overIp 1 (set A 4 0x47) ≡ 7)
-    × (check overIp 1 (set A 4 0x01) ≡ 8) × (check overIp 1 (set (set A 4 0x49) 5 0x82) ≡ 0) × (check overIp 1 (set A 4 0x97) ≡ 6)
-    × (check overIp 1 (set A 4 0x07) ≡ 7)
+header-judged : (checkIp 1 (set A 4 0xC1) ≡ 6) × (checkIp 1 (set A 4 0x51) ≡ 6) × (checkIp 1 (set A 4 0x61) ≡ 6)
+    × (checkIp 1 (set A 4 0x71) ≡ 6) × (checkIp 1 (set A 4 0x43) ≡ 0) × (checkIp 1 (set A 4 0x44) ≡ 7) × (checkIp 1 (set A 4 0x47) ≡ 7)
+    × (checkIp 1 (set A 4 0x01) ≡ 8) × (checkIp 1 (set (set A 4 0x49) 5 0x82) ≡ 0) × (checkIp 1 (set A 4 0x97) ≡ 6)
+    × (checkIp 1 (set A 4 0x07) ≡ 7)
 unfolding check checkRefusals rest wanted bodyAt any sumTo
 header-judged = (refl, refl, refl, refl, refl, refl, refl, refl, refl, refl, refl)
 
 -- M10: count 0, with the reserved bit too. M11: the last byte cut; one byte too many; entries cut, whole and in the middle; 8 before 9
-segments-judged : (check overIp 1 (set A 5 0) ≡ 9) × (check overIp 1 (set A 5 0x80) ≡ 9) × (check overIp 1 (take 19 A) ≡ 10)
-    × (check overIp 1 (A ++ (0 ∷ [])) ≡ 10) × (check overIp 1 (take 10 A) ≡ 10) × (check overIp 1 (take 11 A) ≡ 10)
-    × (check overIp 1 (set (set A 4 0x01) 5 0) ≡ 8)
+segments-judged : (checkIp 1 (set A 5 0) ≡ 9) × (checkIp 1 (set A 5 0x80) ≡ 9) × (checkIp 1 (take 19 A) ≡ 10)
+    × (checkIp 1 (A ++ (0 ∷ [])) ≡ 10) × (checkIp 1 (take 10 A) ≡ 10) × (checkIp 1 (take 11 A) ≡ 10)
+    × (checkIp 1 (set (set A 4 0x01) 5 0) ≡ 8)
 unfolding check checkRefusals rest wanted bodyAt any sumTo
 segments-judged = (refl, refl, refl, refl, refl, refl, refl)
 
 -- An empty segment, where the lengths add up and where they do not. B may be missing on the first only, E on the last only.
-marks-judged : (check overIp 1 (set (set A 9 8) 11 0) ≡ 11) × (check overIp 1 (set A 11 0) ≡ 10) × (check overIp 1 B ≡ 0)
-    × (check overIp 1 (set A 10 0x00) ≡ 11) × (check overIp 1 (set A 8 0x80) ≡ 11) × (check overIp 1 (set A 8 0x40) ≡ 0)
-    × (check overIp 1 (set A 10 0xC0) ≡ 0) × (check overIp 1 (set B 8 0x00) ≡ 0) × (check overIp 1 (set A 10 0x40) ≡ 11)
+marks-judged : (checkIp 1 (set (set A 9 8) 11 0) ≡ 11) × (checkIp 1 (set A 11 0) ≡ 10) × (checkIp 1 B ≡ 0)
+    × (checkIp 1 (set A 10 0x00) ≡ 11) × (checkIp 1 (set A 8 0x80) ≡ 11) × (checkIp 1 (set A 8 0x40) ≡ 0)
+    × (checkIp 1 (set A 10 0xC0) ≡ 0) × (checkIp 1 (set B 8 0x00) ≡ 0) × (checkIp 1 (set A 10 0x40) ≡ 11)
 unfolding check checkRefusals rest wanted bodyAt any sumTo
 marks-judged = (refl, refl, refl, refl, refl, refl, refl, refl, refl)
 
 -- the second segment of A, and one that it has not; of a packet that is refused, none
-a-second : (segmentGiven overIp A 1 ≡ 0x21 ∷ 0x22 ∷ []) × (segmentExtent overIp A 1 ≡ record { start = 18; size = 2 })
-    × (segmentCause overIp A 1 ≡ 0) × (segmentGiven overIp A 2 ≡ []) × (segmentCause overIp A 2 ≡ 14) × (segmentCause overIp (take 19 A) 1 ≡ 10)
-    × (segmentCause overIp (take 19 A) 2 ≡ 10) × (segmentExtent overIp (take 19 A) 1 ≡ record { start = 0; size = 0 })
+a-second : (segmentGivenIp A 1 ≡ 0x21 ∷ 0x22 ∷ []) × (segmentExtentIp A 1 ≡ record { start = 18; size = 2 })
+    × (segmentCauseIp A 1 ≡ 0) × (segmentGivenIp A 2 ≡ []) × (segmentCauseIp A 2 ≡ 14) × (segmentCauseIp (take 19 A) 1 ≡ 10)
+    × (segmentCauseIp (take 19 A) 2 ≡ 10) × (segmentExtentIp (take 19 A) 1 ≡ record { start = 0; size = 0 })
 unfolding segmentGiven segmentExtent segmentCause causeRefusals checkRefusals bodyAt part rest wanted any sumTo
 a-second = (refl, refl, refl, refl, refl, refl, refl, refl)
 
 -- two segments of equal bytes are two places
-twins : (segmentExtent overIp (0 ∷ 0 ∷ 1 ∷ 1 ∷ 0x41 ∷ 2 ∷ 0 ∷ 0 ∷ 0xC0 ∷ 1 ∷ 0xC0 ∷ 1 ∷ 0x33 ∷ 0x33 ∷ []) 0 ≡ record { start = 12; size = 1 })
-    × (segmentExtent overIp (0 ∷ 0 ∷ 1 ∷ 1 ∷ 0x41 ∷ 2 ∷ 0 ∷ 0 ∷ 0xC0 ∷ 1 ∷ 0xC0 ∷ 1 ∷ 0x33 ∷ 0x33 ∷ []) 1 ≡ record { start = 13; size = 1 })
+twins : (segmentExtentIp (0 ∷ 0 ∷ 1 ∷ 1 ∷ 0x41 ∷ 2 ∷ 0 ∷ 0 ∷ 0xC0 ∷ 1 ∷ 0xC0 ∷ 1 ∷ 0x33 ∷ 0x33 ∷ []) 0 ≡ record { start = 12; size = 1 })
+    × (segmentExtentIp (0 ∷ 0 ∷ 1 ∷ 1 ∷ 0x41 ∷ 2 ∷ 0 ∷ 0 ∷ 0xC0 ∷ 1 ∷ 0xC0 ∷ 1 ∷ 0x33 ∷ 0x33 ∷ []) 1 ≡ record { start = 13; size = 1 })
 unfolding segmentExtent segmentCause causeRefusals checkRefusals bodyAt rest wanted any sumTo
 twins = (refl, refl)
 
@@ -91,23 +113,23 @@ mpeg n = 0x47 ∷ 0x1F ∷ n ∷ replicate 185 0
 abbrev D : List ℕ
 D = 0x00 ∷ 0x00 ∷ 0x01 ∷ 0x02 ∷ 0x00 ∷ 0x7F ∷ 0x00 ∷ 0x00 ∷ (mpeg 0xFE ++ mpeg 0xFF)
 
-d-bodies : (mpegs (sub overIp D) ≡ mpeg 0xFE ∷ mpeg 0xFF ∷ []) × (pid (mpeg 0xFE) ≡ 0x1FFE) × (pid (set (mpeg 0xFF) 1 0xFF) ≡ 0x1FFF)
+d-bodies : (mpegs (sub (ip D)) ≡ mpeg 0xFE ∷ mpeg 0xFF ∷ []) × (pid (mpeg 0xFE) ≡ 0x1FFE) × (pid (set (mpeg 0xFF) 1 0xFF) ≡ 0x1FFF)
 unfolding rest mpegs mpegAt part upTo
 d-bodies = (refl, refl, refl)
 
 -- S clear and set; X; byte 5 anything; 7 bytes; session 0; V set; H 01; flow 1; X with flow 7; nothing carried; a byte too few, a byte too
 -- many; the second MPEG packet, and the first, not starting 0x47; one MPEG packet alone
-d-judged : (check overIp 2 D ≡ 0) × (check overIp 2 (set D 4 0x40) ≡ 0) × (check overIp 2 (set D 4 0x48) ≡ 0) × (check overIp 2 (set D 5 0) ≡ 0)
-    × (check overIp 2 (take 7 D) ≡ 2) × (check overIp 2 (set (set D 2 0) 3 0) ≡ 4) × (check overIp 2 (set D 4 0x80) ≡ 6) × (check overIp 2 (set D 4 0x10) ≡ 6)
-    × (check overIp 2 (set D 4 0x01) ≡ 7) × (check overIp 2 (set D 4 0x4F) ≡ 7) × (check overIp 2 (take 8 D) ≡ 9) × (check overIp 2 (take 383 D) ≡ 10)
-    × (check overIp 2 (D ++ (0x47 ∷ [])) ≡ 10) × (check overIp 2 (set D 196 0x46) ≡ 11) × (check overIp 2 (set D 8 0x46) ≡ 11) × (check overIp 2 (take 196 D) ≡ 0)
+d-judged : (checkIp 2 D ≡ 0) × (checkIp 2 (set D 4 0x40) ≡ 0) × (checkIp 2 (set D 4 0x48) ≡ 0) × (checkIp 2 (set D 5 0) ≡ 0)
+    × (checkIp 2 (take 7 D) ≡ 2) × (checkIp 2 (set (set D 2 0) 3 0) ≡ 4) × (checkIp 2 (set D 4 0x80) ≡ 6) × (checkIp 2 (set D 4 0x10) ≡ 6)
+    × (checkIp 2 (set D 4 0x01) ≡ 7) × (checkIp 2 (set D 4 0x4F) ≡ 7) × (checkIp 2 (take 8 D) ≡ 9) × (checkIp 2 (take 383 D) ≡ 10)
+    × (checkIp 2 (D ++ (0x47 ∷ [])) ≡ 10) × (checkIp 2 (set D 196 0x46) ≡ 11) × (checkIp 2 (set D 8 0x46) ≡ 11) × (checkIp 2 (take 196 D) ≡ 0)
 unfolding check checkRefusals rest any sumTo mpegAt part
 d-judged = (refl, refl, refl, refl, refl, refl, refl, refl, refl, refl, refl, refl, refl, refl, refl, refl)
 
 -- with four bytes before the session ID the limits are four higher, and the rest is read the same
-with-a-lead : (check mostLead 1 (0 ∷ 3 ∷ 0 ∷ 0 ∷ A) ≡ 0) × (check mostLead 1 (0 ∷ 3 ∷ 0 ∷ 0 ∷ take 7 A) ≡ 2)
-    × (check mostLead 1 (0 ∷ 3 ∷ 0 ∷ 0 ∷ (A ++ replicate 4080 0)) ≡ 10) × (check mostLead 1 (0 ∷ 3 ∷ 0 ∷ 0 ∷ (A ++ replicate 4081 0)) ≡ 3)
-    × (segmentExtent mostLead (0 ∷ 3 ∷ 0 ∷ 0 ∷ A) 1 ≡ record { start = 22; size = 2 })
+with-a-lead : (checkLed 1 (0 ∷ 3 ∷ 0 ∷ 0 ∷ A) ≡ 0) × (checkLed 1 (0 ∷ 3 ∷ 0 ∷ 0 ∷ take 7 A) ≡ 2)
+    × (checkLed 1 (0 ∷ 3 ∷ 0 ∷ 0 ∷ (A ++ replicate 4080 0)) ≡ 10) × (checkLed 1 (0 ∷ 3 ∷ 0 ∷ 0 ∷ (A ++ replicate 4081 0)) ≡ 3)
+    × (segmentExtentLed (0 ∷ 3 ∷ 0 ∷ 0 ∷ A) 1 ≡ record { start = 22; size = 2 })
 unfolding check checkRefusals segmentExtent segmentCause causeRefusals rest wanted bodyAt any sumTo
 with-a-lead = (refl, refl, refl, refl, refl)
 
@@ -117,14 +139,14 @@ fields : (number (0x41 ∷ 0x02 ∷ 0x12 ∷ 0x34 ∷ []) ≡ 0x1234) × (sSet (
 fields = (refl, refl, refl, refl, refl, refl)
 
 -- PSP on flow 0
-flow-0 : check overIp 1 (set A 4 0x40) ≡ 0
+flow-0 : checkIp 1 (set A 4 0x40) ≡ 0
 unfolding check checkRefusals rest wanted bodyAt any sumTo
 flow-0 = refl
 
 -- Orders that nothing above tells apart: 3 before 4, 4 before 6; for D-MPT 6 before 7, 7 before 9, 10 for less than one MPEG packet, 10 before 11
-orders : (check overIp 1 (set (set (A ++ replicate 4081 0) 2 0) 3 0) ≡ 3) × (check overIp 1 (set (set (set A 2 0) 3 0) 4 0xC1) ≡ 4)
-    × (check overIp 2 (set D 4 0x81) ≡ 6) × (check overIp 2 (set (take 8 D) 4 0x01) ≡ 7) × (check overIp 2 (take 9 D) ≡ 10)
-    × (check overIp 2 (take 383 (set D 8 0x46)) ≡ 10)
+orders : (checkIp 1 (set (set (A ++ replicate 4081 0) 2 0) 3 0) ≡ 3) × (checkIp 1 (set (set (set A 2 0) 3 0) 4 0xC1) ≡ 4)
+    × (checkIp 2 (set D 4 0x81) ≡ 6) × (checkIp 2 (set (take 8 D) 4 0x01) ≡ 7) × (checkIp 2 (take 9 D) ≡ 10)
+    × (checkIp 2 (take 383 (set D 8 0x46)) ≡ 10)
 unfolding check checkRefusals rest wanted bodyAt any sumTo mpegAt part
 orders = (refl, refl, refl, refl, refl, refl)
 
@@ -132,18 +154,18 @@ orders = (refl, refl, refl, refl, refl, refl)
 abbrev three : ℕ → ℕ → ℕ → List ℕ
 three a b c = 0 ∷ 0 ∷ 1 ∷ 1 ∷ 0x41 ∷ 3 ∷ 0 ∷ 0 ∷ a ∷ 1 ∷ b ∷ 1 ∷ c ∷ 1 ∷ 0x11 ∷ 0x22 ∷ 0x33 ∷ []
 
-middles : (check overIp 1 (three 0x40 0xC0 0x80) ≡ 0) × (check overIp 1 (three 0xC0 0x40 0xC0) ≡ 11) × (check overIp 1 (three 0xC0 0xC0 0x40) ≡ 11)
-    × (check overIp 1 (three 0x80 0xC0 0xC0) ≡ 11) × (check overIp 1 (three 0xC0 0x80 0xC0) ≡ 11)
+middles : (checkIp 1 (three 0x40 0xC0 0x80) ≡ 0) × (checkIp 1 (three 0xC0 0x40 0xC0) ≡ 11) × (checkIp 1 (three 0xC0 0xC0 0x40) ≡ 11)
+    × (checkIp 1 (three 0x80 0xC0 0xC0) ≡ 11) × (checkIp 1 (three 0xC0 0x80 0xC0) ≡ 11)
 unfolding check checkRefusals rest wanted bodyAt any sumTo
 middles = (refl, refl, refl, refl, refl)
 
 -- as many as there are: three segments, one MPEG packet
-as-many : (length (segments entryWidth (sub overIp (three 0xC0 0xC0 0xC0))) ≡ 3) × (mpegs (sub overIp (take 196 D)) ≡ mpeg 0xFE ∷ [])
+as-many : (length (segments entryWidth (sub (ip (three 0xC0 0xC0 0xC0)))) ≡ 3) × (mpegs (sub (ip (take 196 D))) ≡ mpeg 0xFE ∷ [])
 unfolding segments segmentAt bodyAt rest part sumTo upTo mpegs mpegAt
 as-many = (refl, refl)
 
 -- with a lead the session ID stands behind it, whatever the lead says
-lead-id : (check mostLead 1 (0 ∷ 3 ∷ 0 ∷ 0 ∷ set (set A 2 0) 3 0) ≡ 4) × (check mostLead 1 (0 ∷ 0 ∷ 0 ∷ 0 ∷ A) ≡ 0)
+lead-id : (checkLed 1 (0 ∷ 3 ∷ 0 ∷ 0 ∷ set (set A 2 0) 3 0) ≡ 4) × (checkLed 1 (0 ∷ 0 ∷ 0 ∷ 0 ∷ A) ≡ 0)
 unfolding check checkRefusals rest wanted bodyAt any sumTo
 lead-id = (refl, refl)
 

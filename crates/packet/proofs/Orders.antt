@@ -11,7 +11,7 @@ use borrow.Author.Tests.{eq-eqb, ne-eqb, le-leb, lt-leb}
 use Rattle.refusal.specs.Refusal.{_when_, first}
 use Rattle.refusal.proofs.Laws.{first-passed, first-stopped}
 use Rattle.octets.specs.Count.{any, sumTo}
-use Rattle.packet.specs.Header.{sub, headerLength, segmentCount, beforeSession}
+use Rattle.packet.specs.Header.{Packet, sub, headerLength, segmentCount, beforeSession}
 use Rattle.packet.specs.Segments.{entryWidth, lengthAt, bodyAt}
 use Rattle.packet.specs.Psp.{wanted, badAt, segmentRefusals, pspRefusals}
 use Rattle.packet.specs.Dmpt.{dmptRefusals}
@@ -55,50 +55,50 @@ module _ (width : ℕ) (sub : List ℕ) (count : ℕ) (counted : count ≡ segme
         segments-passed e = sym (ap (λ (b : Bool). cond b 11 0) e) ∙ by-faults
 
 -- The packet check. `early` is what refusals 2 to 4 answered.
-module _ (lead kind : ℕ) (packet : List ℕ) where
-  pub check-unknown : kindUnknown kind ≡ true → 24 ≡ check lead kind packet
+module _ (kind : ℕ) (p : Packet) where
+  pub check-unknown : kindUnknown kind ≡ true → 24 ≡ check kind p
   unfolding check checkRefusals
   check-unknown u = simp u
 
-  module _ (known : kindUnknown kind ≡ false) (early : ℕ) (judged : early ≡ first (beforeSession lead packet)) where
-    pub check-early : (early ≡ 0 → ⊥) → early ≡ check lead kind packet
+  module _ (known : kindUnknown kind ≡ false) (early : ℕ) (judged : early ≡ first (beforeSession p)) where
+    pub check-early : (early ≡ 0 → ⊥) → early ≡ check kind p
     unfolding check checkRefusals
     check-early s =
         simp known
         (judged
-        ∙ sym (first-stopped (beforeSession lead packet)
-        (cond (eqb kind kindPsp) (pspRefusals entryWidth (sub lead packet)) (dmptRefusals (sub lead packet)))
+        ∙ sym (first-stopped (beforeSession p)
+        (cond (eqb kind kindPsp) (pspRefusals entryWidth (sub p)) (dmptRefusals (sub p)))
         (λ z. s (judged ∙ z))))
 
-    late-part : early ≡ 0 → check lead kind packet ≡ first (cond (eqb kind kindPsp) (pspRefusals entryWidth (sub lead packet)) (dmptRefusals (sub lead packet)))
+    late-part : early ≡ 0 → check kind p ≡ first (cond (eqb kind kindPsp) (pspRefusals entryWidth (sub p)) (dmptRefusals (sub p)))
     unfolding check checkRefusals
     late-part z =
         simp known
-        (first-passed (beforeSession lead packet)
-        (cond (eqb kind kindPsp) (pspRefusals entryWidth (sub lead packet)) (dmptRefusals (sub lead packet)))
+        (first-passed (beforeSession p)
+        (cond (eqb kind kindPsp) (pspRefusals entryWidth (sub p)) (dmptRefusals (sub p)))
         refl (sym judged ∙ z))
 
-    pub check-psp : early ≡ 0 → kind ≡ kindPsp → (r : ℕ) → r ≡ first (pspRefusals entryWidth (sub lead packet)) → r ≡ check lead kind packet
+    pub check-psp : early ≡ 0 → kind ≡ kindPsp → (r : ℕ) → r ≡ first (pspRefusals entryWidth (sub p)) → r ≡ check kind p
     check-psp z e r h = h ∙ sym (late-part z ∙ simp (eq-eqb kind kindPsp e))
 
-    pub check-dmpt : early ≡ 0 → (kind ≡ kindPsp → ⊥) → (r : ℕ) → r ≡ first (dmptRefusals (sub lead packet)) → r ≡ check lead kind packet
+    pub check-dmpt : early ≡ 0 → (kind ≡ kindPsp → ⊥) → (r : ℕ) → r ≡ first (dmptRefusals (sub p)) → r ≡ check kind p
     check-dmpt z e r h = h ∙ sym (late-part z ∙ simp (ne-eqb kind kindPsp e))
 
 -- The cause of a segment's refusal. `refused` is what the PSP check answered.
-module _ (lead : ℕ) (packet : List ℕ) (k refused : ℕ) (judged : refused ≡ check lead kindPsp packet) where
-  pub cause-stopped : (refused ≡ 0 → ⊥) → refused ≡ segmentCause lead packet k
+module _ (p : Packet) (k refused : ℕ) (judged : refused ≡ check kindPsp p) where
+  pub cause-stopped : (refused ≡ 0 → ⊥) → refused ≡ segmentCause p k
   unfolding segmentCause causeRefusals check
   cause-stopped s =
       judged
-      ∙ sym (first-stopped (checkRefusals lead kindPsp packet) (14 when leb (segmentCount (sub lead packet)) k ∷ []) (λ z. s (judged ∙ z)))
+      ∙ sym (first-stopped (checkRefusals kindPsp p) (14 when leb (segmentCount (sub p)) k ∷ []) (λ z. s (judged ∙ z)))
 
   module _ (passed : refused ≡ 0) where
-    last-line : segmentCause lead packet k ≡ cond (leb (segmentCount (sub lead packet)) k) 14 0
+    last-line : segmentCause p k ≡ cond (leb (segmentCount (sub p)) k) 14 0
     unfolding segmentCause causeRefusals check checkRefusals
-    last-line = first-passed (checkRefusals lead kindPsp packet) (14 when leb (segmentCount (sub lead packet)) k ∷ []) refl (sym judged ∙ passed)
+    last-line = first-passed (checkRefusals kindPsp p) (14 when leb (segmentCount (sub p)) k ∷ []) refl (sym judged ∙ passed)
 
-    pub cause-outside : segmentCount (sub lead packet) ≤ k → 14 ≡ segmentCause lead packet k
-    cause-outside h = sym (last-line ∙ simp (le-leb (segmentCount (sub lead packet)) k h))
+    pub cause-outside : segmentCount (sub p) ≤ k → 14 ≡ segmentCause p k
+    cause-outside h = sym (last-line ∙ simp (le-leb (segmentCount (sub p)) k h))
 
-    pub cause-none : k < segmentCount (sub lead packet) → 0 ≡ segmentCause lead packet k
-    cause-none h = sym (last-line ∙ simp (lt-leb (segmentCount (sub lead packet)) k h))
+    pub cause-none : k < segmentCount (sub p) → 0 ≡ segmentCause p k
+    cause-none h = sym (last-line ∙ simp (lt-leb (segmentCount (sub p)) k h))

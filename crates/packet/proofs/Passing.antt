@@ -16,31 +16,31 @@ use Rattle.octets.specs.Count.{any}
 use Rattle.octets.proofs.Counts.{none-at, or-false-left, or-false-right, sum-within}
 use Rattle.octets.proofs.Stretches.{length-rest}
 use Rattle.flow.specs.Flow.{topFlow}
-use Rattle.packet.specs.Header.{idLength, sessionId, sub, headerLength, sSet, flowId, segmentCount, notPlain, shortestPacket, longestPacket, beforeSession}
+use Rattle.packet.specs.Header.{Packet, idLength, sessionId, sub, headerLength, sSet, flowId, segmentCount, notPlain, shortestPacket, longestPacket, beforeSession}
 use Rattle.packet.specs.Segments.{entryWidth, entryAt, beginsIn, endsIn, lengthIn, lengthAt, bodyAt}
 use Rattle.packet.specs.Psp.{wanted, badAt, pspRefusals}
 use Rattle.packet.specs.Dmpt.{mpegLength, syncByte, carried, mpegCount, mpegAt, dmptRefusals}
 use Rattle.packet.specs.Check.{kindPsp, checkRefusals, check, causeRefusals, segmentCause}
 
 -- Refusals 2, 3 and 4 passed.
-pub record EarlyPassed (lead : ℕ) (packet : List ℕ) : Type 0 where
-  pub not-short : lead + shortestPacket ≤ length packet
-  pub not-long : length packet ≤ lead + longestPacket
-  pub no-control : sessionId lead packet ≡ 0 → ⊥
+pub record EarlyPassed (p : Packet) : Type 0 where
+  pub not-short : p .lead + shortestPacket ≤ length (p .bytes)
+  pub not-long : length (p .bytes) ≤ p .lead + longestPacket
+  pub no-control : sessionId p ≡ 0 → ⊥
 
-early-of : (lead : ℕ) (packet : List ℕ) → NoneApplies (beforeSession lead packet) → EarlyPassed lead packet
-early-of lead packet n =
+early-of : (p : Packet) → NoneApplies (beforeSession p) → EarlyPassed p
+early-of p n =
     record { not-short = ltb-false _ _ (n .0); not-long = ltb-false _ _ (n .1 .0); no-control = eqb-false _ _ (n .1 .1 .0) }
 
-pub early-passed : (lead : ℕ) (packet : List ℕ) → first (beforeSession lead packet) ≡ 0 → EarlyPassed lead packet
-early-passed lead packet z = early-of lead packet (none-applies (beforeSession lead packet) refl z)
+pub early-passed : (p : Packet) → first (beforeSession p) ≡ 0 → EarlyPassed p
+early-passed p z = early-of p (none-applies (beforeSession p) refl z)
 
 -- what follows the session ID then has a whole header
-pub sub-length : (lead : ℕ) (packet : List ℕ) → lead + shortestPacket ≤ length packet → length (sub lead packet) + (lead + idLength) ≡ length packet
-sub-length lead packet h = omega (arith, length-rest packet (lead + idLength))
+pub sub-length : (p : Packet) → p .lead + shortestPacket ≤ length (p .bytes) → length (sub p) + (p .lead + idLength) ≡ length (p .bytes)
+sub-length p h = omega (arith, length-rest (p .bytes) (p .lead + idLength))
 
-pub sub-whole : (lead : ℕ) (packet : List ℕ) → lead + shortestPacket ≤ length packet → headerLength ≤ length (sub lead packet)
-sub-whole lead packet h = omega (arith, sub-length lead packet h)
+pub sub-whole : (p : Packet) → p .lead + shortestPacket ≤ length (p .bytes) → headerLength ≤ length (sub p)
+sub-whole p h = omega (arith, sub-length p h)
 
 -- Refusals 6 to 11 passed, PSP.
 pub record PspPassed (width : ℕ) (sub : List ℕ) : Type 0 where
@@ -122,20 +122,20 @@ pub mpegs-fill : (sub : List ℕ) → headerLength ≤ length sub → DmptPassed
 mpegs-fill sub header p = omega (arith, p .whole)
 
 -- The PSP check passed, and segment k asked for and given.
-pub check-passed : (lead : ℕ) (packet : List ℕ) → check lead kindPsp packet ≡ 0 → EarlyPassed lead packet × PspPassed entryWidth (sub lead packet)
+pub check-passed : (p : Packet) → check kindPsp p ≡ 0 → EarlyPassed p × PspPassed entryWidth (sub p)
 unfolding check checkRefusals
-check-passed lead packet z =
-    let n = none-applies (checkRefusals lead kindPsp packet) refl z in
-    let both = none-apart (beforeSession lead packet) (pspRefusals entryWidth (sub lead packet)) (n .1) in
-    (early-of lead packet (both .0), psp-of entryWidth (sub lead packet) (both .1))
+check-passed p z =
+    let n = none-applies (checkRefusals kindPsp p) refl z in
+    let both = none-apart (beforeSession p) (pspRefusals entryWidth (sub p)) (n .1) in
+    (early-of p (both .0), psp-of entryWidth (sub p) (both .1))
 
-pub cause-passed : (lead : ℕ) (packet : List ℕ) (k : ℕ) → segmentCause lead packet k ≡ 0 →
-    (check lead kindPsp packet ≡ 0) × (k < segmentCount (sub lead packet))
+pub cause-passed : (p : Packet) (k : ℕ) → segmentCause p k ≡ 0 →
+    (check kindPsp p ≡ 0) × (k < segmentCount (sub p))
 unfolding segmentCause causeRefusals check checkRefusals
-cause-passed lead packet k z =
-    let n = none-applies (causeRefusals lead packet k) refl z in
-    let both = none-apart (checkRefusals lead kindPsp packet) (14 when leb (segmentCount (sub lead packet)) k ∷ []) n in
-    (none-first (checkRefusals lead kindPsp packet) (both .0), leb-false _ _ (both .1 .0))
+cause-passed p k z =
+    let n = none-applies (causeRefusals p k) refl z in
+    let both = none-apart (checkRefusals kindPsp p) (14 when leb (segmentCount (sub p)) k ∷ []) n in
+    (none-first (checkRefusals kindPsp p) (both .0), leb-false _ _ (both .1 .0))
 
 -- A table of 127 entries at most, each of 4 bytes at most, is small.
 pub table-small : (width count : ℕ) → width ≤ 4 → count < 128 → width * count ≤ 512

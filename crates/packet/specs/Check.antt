@@ -11,7 +11,7 @@ use denote.Ref.{RefT}
 use Rattle.refusal.specs.Refusal.{Refusal, _when_, first}
 use Rattle.octets.specs.Stretch.{part}
 use Rattle.packet.specs.declared.Extent.{Extent}
-use Rattle.packet.specs.Header.{overIp, idLength, sub, beforeSession, segmentCount}
+use Rattle.packet.specs.Header.{Packet, ip, idLength, sub, beforeSession, segmentCount}
 use Rattle.packet.specs.Segments.{entryWidth, bodyAt, lengthAt}
 use Rattle.packet.specs.Psp.{pspRefusals}
 use Rattle.packet.specs.Dmpt.{dmptRefusals}
@@ -26,53 +26,53 @@ kindDmpt = 2
 abbrev pub kindUnknown : ℕ → Bool
 kindUnknown kind = not (eqb kind kindPsp) && not (eqb kind kindDmpt)
 
-unfoldable pub checkRefusals : ℕ → ℕ → List ℕ → List Refusal
-checkRefusals lead kind packet =
+unfoldable pub checkRefusals : ℕ → Packet → List Refusal
+checkRefusals kind p =
     24 when kindUnknown kind
-    ∷ beforeSession lead packet
-    ++ cond (eqb kind kindPsp) (pspRefusals entryWidth (sub lead packet)) (dmptRefusals (sub lead packet))
+    ∷ beforeSession p
+    ++ cond (eqb kind kindPsp) (pspRefusals entryWidth (sub p)) (dmptRefusals (sub p))
 
-unfoldable pub check : ℕ → ℕ → List ℕ → ℕ
-check lead kind packet = first (checkRefusals lead kind packet)
+unfoldable pub check : ℕ → Packet → ℕ
+check kind p = first (checkRefusals kind p)
 
-unfoldable pub causeRefusals : ℕ → List ℕ → ℕ → List Refusal
-causeRefusals lead packet k =
-    checkRefusals lead kindPsp packet
-    ++ (14 when leb (segmentCount (sub lead packet)) k ∷ [])
+unfoldable pub causeRefusals : Packet → ℕ → List Refusal
+causeRefusals p k =
+    checkRefusals kindPsp p
+    ++ (14 when leb (segmentCount (sub p)) k ∷ [])
 
-unfoldable pub segmentCause : ℕ → List ℕ → ℕ → ℕ
-segmentCause lead packet k = first (causeRefusals lead packet k)
+unfoldable pub segmentCause : Packet → ℕ → ℕ
+segmentCause p k = first (causeRefusals p k)
 
 -- Where segment k lies in the packet: its first place, counted from the packet's first byte, and its length. A refused request is given
 -- an empty stretch, and that at the packet's start, so that there is one answer. By the number of the first refusal that applies:
-abbrev pub extentBy : ℕ → ℕ → List ℕ → ℕ → Extent
-extentBy zero lead packet k =
+abbrev pub extentBy : ℕ → Packet → ℕ → Extent
+extentBy zero p k =
     record {
-      start = lead + idLength + bodyAt entryWidth (sub lead packet) k;
-      size = lengthAt entryWidth (sub lead packet) k;
+      start = p .lead + idLength + bodyAt entryWidth (sub p) k;
+      size = lengthAt entryWidth (sub p) k;
     }
-extentBy (suc c) lead packet k = record { start = 0; size = 0 }
+extentBy (suc c) p k = record { start = 0; size = 0 }
 
-unfoldable pub segmentExtent : ℕ → List ℕ → ℕ → Extent
-segmentExtent lead packet k = extentBy (segmentCause lead packet k) lead packet k
+unfoldable pub segmentExtent : Packet → ℕ → Extent
+segmentExtent p k = extentBy (segmentCause p k) p k
 
 -- the bytes given for segment k
-unfoldable pub segmentGiven : ℕ → List ℕ → ℕ → List ℕ
-segmentGiven lead packet k = part packet ((segmentExtent lead packet k) .start) ((segmentExtent lead packet k) .size)
+unfoldable pub segmentGiven : Packet → ℕ → List ℕ
+segmentGiven p k = part (p .bytes) ((segmentExtent p k) .start) ((segmentExtent p k) .size)
 
 -- What the calls permit, whole. A slice that is given back is a reference: `ptr` says where it points, as a block of memory and a place
 -- in that block, and `now` the bytes there. So it is not enough to give back equal bytes from elsewhere in the packet, or a copy.
 -- The extent is for callers that cannot be given a reference.
 abbrev pub PermitsCheck : ℕ → List ℕ → ℕ → Type 0
-PermitsCheck kind packet answer = answer ≡ check overIp kind packet
+PermitsCheck kind packet answer = answer ≡ check kind (ip packet)
 
 abbrev pub PermitsSegmentCause : List ℕ → ℕ → ℕ → Type 0
-PermitsSegmentCause packet k answer = answer ≡ segmentCause overIp packet k
+PermitsSegmentCause packet k answer = answer ≡ segmentCause (ip packet) k
 
 abbrev pub PermitsSegmentExtent : List ℕ → ℕ → Extent → Type 0
-PermitsSegmentExtent packet k answer = answer ≡ segmentExtent overIp packet k
+PermitsSegmentExtent packet k answer = answer ≡ segmentExtent (ip packet) k
 
 pub record PermitsSegment (packet : RefT (List ℕ)) (k : ℕ) (answer : RefT (List ℕ)) : Type 0 where
   pub in-the-packet : answer .ptr .0 ≡ packet .ptr .0
-  pub at-its-place : answer .ptr .1 ≡ packet .ptr .1 + (segmentExtent overIp (packet .now) k) .start
-  pub its-bytes : answer .now ≡ segmentGiven overIp (packet .now) k
+  pub at-its-place : answer .ptr .1 ≡ packet .ptr .1 + (segmentExtent (ip (packet .now)) k) .start
+  pub its-bytes : answer .now ≡ segmentGiven (ip (packet .now)) k

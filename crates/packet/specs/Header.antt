@@ -1,7 +1,6 @@
 -- The fixed part of a data packet (document 01, "Packet layout"; DEPI I05, sections 8.1.3, 8.2 and 8.3). First comes the session ID, of four
 -- bytes; 0 marks a control message. What follows it is called `sub`: the sub-layer header and all behind that. Places are counted
--- from the start of `sub`, so the paper's byte 4 is byte 0 here, its byte 5 is byte 1 and its bytes 6-7 are bytes 2-3. How many bytes
--- stand before the session ID is a parameter of everything that looks at a whole packet, `lead`: none over IP.
+-- from the start of `sub`, so the paper's byte 4 is byte 0 here, its byte 5 is byte 1 and its bytes 6-7 are bytes 2-3.
 --
 -- Byte 0 of `sub`, from the top bit: V (1), S (1), H (2), X (1), flow ID (3). Byte 1: a reserved bit, segment count (7). Bytes
 -- 2-3: sequence number. X and the reserved bit are read by nobody.
@@ -14,8 +13,13 @@ use Rattle.refusal.specs.Refusal.{Refusal, _when_}
 use Rattle.octets.specs.Bytes.{byteAt, be16At, be32At}
 use Rattle.octets.specs.Stretch.{rest}
 
-abbrev pub overIp : ℕ
-overIp = 0
+-- A packet as it comes in: its bytes, and how many of them stand before the session ID. Over IP none do.
+pub record Packet : Type 0 where
+  pub lead : ℕ
+  pub bytes : List ℕ
+
+abbrev pub ip : List ℕ → Packet
+ip bytes = record { lead = 0; bytes = bytes }
 
 -- no transport of L2TPv3 has more before the session ID (RFC 3931, section 4.1.2.1)
 abbrev pub mostLead : ℕ
@@ -24,11 +28,11 @@ mostLead = 4
 abbrev pub idLength : ℕ
 idLength = 4
 
-abbrev pub sessionId : ℕ → List ℕ → ℕ
-sessionId lead packet = be32At packet lead
+abbrev pub sessionId : Packet → ℕ
+sessionId p = be32At (p .bytes) (p .lead)
 
-abbrev pub sub : ℕ → List ℕ → List ℕ
-sub lead packet = rest packet (lead + idLength)
+abbrev pub sub : Packet → List ℕ
+sub p = rest (p .bytes) (p .lead + idLength)
 
 -- the sub-layer header: its length, and its fields
 abbrev pub headerLength : ℕ
@@ -67,10 +71,16 @@ shortestPacket = 8
 abbrev pub longestPacket : ℕ
 longestPacket = 4100
 
+abbrev pub tooShort : Packet → Bool
+tooShort p = ltb (length (p .bytes)) (p .lead + shortestPacket)
+
+abbrev pub tooLong : Packet → Bool
+tooLong p = ltb (p .lead + longestPacket) (length (p .bytes))
+
 -- what is judged before anything is known of the session, for PSP and D-MPT alike
-abbrev pub beforeSession : ℕ → List ℕ → List Refusal
-beforeSession lead packet =
-    2 when ltb (length packet) (lead + shortestPacket)
-    ∷ 3 when ltb (lead + longestPacket) (length packet)
-    ∷ 4 when eqb (sessionId lead packet) 0
+abbrev pub beforeSession : Packet → List Refusal
+beforeSession p =
+    2 when tooShort p
+    ∷ 3 when tooLong p
+    ∷ 4 when eqb (sessionId p) 0
     ∷ []

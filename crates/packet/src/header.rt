@@ -3,7 +3,7 @@ ghost use mathlib.Core.Path.{_≡_};
 ghost use Prim.Native.Nat.{_+_, _<_, _≤_};
 ghost use lib.ListN.{length};
 ghost use Rattle.refusal.specs.Refusal.{first};
-ghost use Rattle.packet.specs.Header.{mostLead, idLength, sessionId, sub, headerLength, vSet, sSet, hBits, flowId, segmentCount, number, notPlain, beforeSession};
+ghost use Rattle.packet.specs.Header.{Packet, mostLead, idLength, sessionId, sub, headerLength, vSet, sSet, hBits, flowId, segmentCount, number, notPlain, beforeSession};
 
 // How many bytes stand before the session ID over IP.
 pub const OVER_IP: usize = 0;
@@ -30,7 +30,7 @@ pub fn wide(byte: u8) -> usize
 // The session ID; 0 marks a control message.
 pub fn session_id(packet: &[u8], lead: usize) -> u32
     requires { ⌜ lead + idLength ≤ length (now packet) ⌝ }
-    ensures { λ r. ⌜ r ≡ sessionId lead (now (packet .entry)) ⌝ }
+    ensures { λ r. ⌜ r ≡ sessionId (record { lead = lead; bytes = now (packet .entry) }) ⌝ }
 {
     octets::read_u32(packet, lead)
 }
@@ -38,7 +38,7 @@ pub fn session_id(packet: &[u8], lead: usize) -> u32
 // What follows the session ID.
 pub fn sub_of(packet: &[u8], lead: usize) -> &[u8]
     requires { ⌜ lead + idLength ≤ length (now packet) ⌝ }
-    ensures { λ r. ⌜ now r ≡ sub lead (now (packet .entry)) ⌝ }
+    ensures { λ r. ⌜ now r ≡ sub (record { lead = lead; bytes = now (packet .entry) }) ⌝ }
 {
     let from = lead + ID_LENGTH;
     &packet[from..]
@@ -99,7 +99,7 @@ pub fn not_plain(sub: &[u8]) -> bool
 // Refusals 2 to 4, which need no session; or 0, and then the packet has a whole header.
 pub fn refuse_before_session(packet: &[u8], lead: usize) -> u32
     requires { ⌜ lead ≤ mostLead ⌝ }
-    ensures { λ r. ⌜ r ≡ first (beforeSession lead (now (packet .entry))) ⌝ }
+    ensures { λ r. ⌜ r ≡ first (beforeSession (record { lead = lead; bytes = now (packet .entry) })) ⌝ }
 {
     if packet.len() < lead + SHORTEST_PACKET {
         return refusal::PACKET_TOO_SHORT;

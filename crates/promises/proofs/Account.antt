@@ -9,15 +9,14 @@ use lib.Dec.{eqb}
 use lib.ListN.{length}
 use Rattle.refusal.specs.Refusal.{first}
 use Rattle.octets.specs.Stretch.{joined}
-use Rattle.packet.specs.Header.{overIp, sub}
+use Rattle.packet.specs.Header.{Packet, sub}
 use Rattle.table.specs.declared.Table.{Table}
 use Rattle.table.specs.Rows.{rowAt, find, heldIn, empty}
 use Rattle.table.specs.Calls.{closeRefusals, closedBy, closed}
 use Rattle.join.specs.Join.{Fate}
-use Rattle.join.specs.Slices.{asSlices}
-use Rattle.card.specs.Receive.{Outcome, rowOf, heardBy, refused, received}
+use Rattle.card.specs.Receive.{Outcome, rowOf, heardBy, refused}
 use Rattle.table.proofs.Keeping.{closes as closes-there}
-use Rattle.card.specs.History.{Card, Call, opens, closes, hands, answer, afterAll, emptyCard}
+use Rattle.card.specs.History.{Card, Arrival, Call, opens, closes, hands, lentWith, handed, answer, afterAll, emptyCard}
 use Rattle.card.proofs.Accepted.{received-refused}
 use Rattle.card.proofs.Step.{framesIn, one-flow-step}
 use Rattle.promises.specs.Account.{Lent, cardFor, tableAfter, tableAfterAll, countedBy, bytesTaken, bytesDelivered, bytesDropped, heldInAll, deliveredBy, droppedBy, ByteAccount}
@@ -34,25 +33,28 @@ close-counts zero t id = refl
 close-counts (suc n) t id = sym (when-refused (suc n) (λ e. omega arith) (heldIn (rowAt t (find t id))) 0)
 
 -- .. and of a packet
-module _ (c : Card) (packet out lens : List ℕ) (good : Good c) where
+module _ (c : Card) (a : Arrival) (good : Good c) where
+  abbrev packet : Packet
+  packet = a .packet
+
   abbrev outcome : Outcome
-  outcome = received overIp (c .table) packet (asSlices (c .holding) out lens)
+  outcome = handed c a
 
   abbrev fate : Fate
-  fate = heardBy (c .table) (rowOf overIp (c .table) packet) (sub overIp packet) (asSlices (c .holding) out lens) .fate
+  fate = heardBy (c .table) (rowOf (c .table) packet) (sub packet) (lentWith c a) .fate
 
   packet-counts : (n : ℕ) → outcome .answer .code ≡ n →
       (outcome .answer .bytes ≡ length (joined (framesIn outcome)))
       × (outcome .answer .dropped ≡ length (cond (eqb (outcome .answer .code) 0) (fate .dropped) []))
   unfolding refused
   packet-counts zero e =
-      let step = one-flow-step overIp (c .table) packet (asSlices (c .holding) out lens) (good .shaped) e in (
+      let step = one-flow-step (c .table) packet (lentWith c a) (good .shaped) e in (
         step .bytes-are ∙ sym (ap (λ (l : List (List ℕ)). length (joined l)) (step .frames-found)),
         step .dropped-are ∙ sym (ap (λ (l : List ℕ). length l) (when-accepted (outcome .answer .code) e (fate .dropped) [])),
       )
   packet-counts (suc n) e =
-      rw (received-refused overIp (c .table) packet (asSlices (c .holding) out lens) n e) (
-        sym (ap (λ (l : List ℕ). length l) (no-frames lens out)),
+      rw (received-refused (c .table) packet (lentWith c a) n e) (
+        sym (ap (λ (l : List ℕ). length l) (no-frames (a .lengths) (a .output))),
         sym (ap (λ (l : List ℕ). length l) (when-refused (suc n) (λ z. omega arith) (fate .dropped) [])),
       )
 
@@ -60,10 +62,10 @@ module _ (c : Card) (packet out lens : List ℕ) (good : Good c) where
 counts-told : (c : Card) (x : Call) → Good c →
     (bytesDelivered c x ≡ length (deliveredBy c x)) × (bytesDropped c x ≡ droppedIn length inTable c x)
 unfolding answer closed
-counts-told c (opens asked id) good = (sym (ap (λ (l : List ℕ). length l) (no-frames [] [])), refl)
+counts-told c (opens q) good = (sym (ap (λ (l : List ℕ). length l) (no-frames [] [])), refl)
 counts-told c (closes id) good =
     (sym (ap (λ (l : List ℕ). length l) (no-frames [] [])), close-counts (first (closeRefusals (c .table) id)) (c .table) id)
-counts-told c (hands packet out lens) good = packet-counts c packet out lens good _ refl
+counts-told c (hands a) good = packet-counts c a good _ refl
 
 -- Only the table goes from one call to the next, and `Good` looks at nothing else.
 abbrev GoodTable : Table → Type 0
@@ -93,7 +95,7 @@ history-told t (l ∷ more) good =
 -- Call by call: what a row is said to hold stands in its places, so a close drops as many bytes as it answers.
 dropped-as-told : (c : Card) (x : Call) → keptInAll missing c ≡ 0 → droppedIn length inTable c x ≡ length (droppedBy c x)
 unfolding answer closed
-dropped-as-told c (opens asked id) none = refl
+dropped-as-told c (opens q) none = refl
 dropped-as-told c (closes id) none =
     by (first (closeRefusals (c .table) id)) refl
     ∙ sym (dropped-measured length by-length c (closes id))
@@ -103,7 +105,7 @@ dropped-as-told c (closes id) none =
         ≡ cond (eqb (closedBy n (c .table) id .code) 0) (keptInRow (inPlaces length) c (find (c .table) id)) 0
     by zero e = sym (row-holds c (find (c .table) id) (closes-there (c .table) id e .there) none)
     by (suc n) e = when-refused (suc n) (λ z. omega arith) _ 0 ∙ sym (when-refused (suc n) (λ z. omega arith) _ 0)
-dropped-as-told c (hands packet out lens) none = refl
+dropped-as-told c (hands a) none = refl
 
 answered : (holding : List ℕ) (calls : List Call) (x : Call) →
     let c = afterAll (emptyCard holding) calls in

@@ -8,7 +8,8 @@ use lib.ListN.{length, take, drop, getD, replicate, take-append-drop}
 use Rattle.octets.specs.Stretch.{part, joined}
 use Rattle.octets.specs.Each.{Each}
 use Rattle.octets.proofs.Elements.{each-both, each-front, each-back}
-use Rattle.sender.specs.Rules.{Pieces, segmentsOf}
+use Rattle.packet.specs.Header.{Packet, ip, sub, segmentCount}
+use Rattle.sender.specs.Rules.{Pieces, packetAt}
 use Rattle.promises.specs.Arrivals.{WithinBound, Window, InTime, placesFrom, carriers, Whole, Kept, no-more, kept, lost}
 use Rattle.promises.proofs.Survivors.{first-left, others-left}
 
@@ -27,13 +28,13 @@ at-in-a-row from (suc n) zero l = omega arith
 at-in-a-row from (suc n) (suc i) l = omega (arith, at-in-a-row (suc from) n i (omega arith))
 
 -- the packets at these places, from place i on
-packets-from : (packets : List (List ℕ)) (i : ℕ) (more : List (List ℕ)) → drop i packets ≡ more →
-    map (λ x. getD packets x []) (inARow i (length more)) ≡ more
+packets-from : (packets : List Packet) (i : ℕ) (more : List Packet) → drop i packets ≡ more →
+    map (packetAt packets) (inARow i (length more)) ≡ more
 packets-from packets i [] e = refl
 packets-from packets i (p ∷ more) e =
-    rw (first-left p more [] packets i e) (ap (λ (l : List (List ℕ)). p ∷ l) (packets-from packets (suc i) more (others-left p more [] packets i e)))
+    rw (first-left p more (ip []) packets i e) (ap (λ (l : List Packet). p ∷ l) (packets-from packets (suc i) more (others-left p more (ip []) packets i e)))
 
-pub all-packets : (packets : List (List ℕ)) → map (λ x. getD packets x []) (inARow 0 (length packets)) ≡ packets
+pub all-packets : (packets : List Packet) → map (packetAt packets) (inARow 0 (length packets)) ≡ packets
 all-packets packets = packets-from packets 0 packets refl
 
 -- each arrival is the place expected next
@@ -69,18 +70,18 @@ module _ (P : ℕ → Type 0) where
       let back : Each P (drop from l) = each-back P (take from l) (drop from l) (subst (Each P) (sym (take-append-drop from l)) p) in
       each-front P (take n (drop from l)) (drop n (drop from l)) (subst (Each P) (sym (take-append-drop n (drop from l))) back)
 
-  each-place : (n : ℕ) (packets : List (List ℕ)) → ((k : ℕ) → k < n + length packets → P k) → Each P (placesFrom n packets)
+  each-place : (n : ℕ) (packets : List Packet) → ((k : ℕ) → k < n + length packets → P k) → Each P (placesFrom n packets)
   unfolding placesFrom
   each-place n [] p = tt
   each-place n (q ∷ packets) p =
-      each-both P (replicate (length (segmentsOf q)) n) (placesFrom (suc n) packets) (each-replicate (length (segmentsOf q)) n (p n (omega arith)))
+      each-both P (replicate (segmentCount (sub q)) n) (placesFrom (suc n) packets) (each-replicate (segmentCount (sub q)) n (p n (omega arith)))
       (each-place (suc n) packets (λ k l. p k (omega arith)))
 
-  pub each-carrier : (frames : List Pieces) (packets : List (List ℕ)) (i : ℕ) → ((k : ℕ) → k < length packets → P k) → Each P (carriers frames packets i)
+  pub each-carrier : (frames : List Pieces) (packets : List Packet) (i : ℕ) → ((k : ℕ) → k < length packets → P k) → Each P (carriers frames packets i)
   unfolding carriers
   each-carrier frames packets i p = each-part (placesFrom 0 packets) _ _ (each-place 0 packets (λ k l. p k (omega arith)))
 
-pub all-whole : (frames : List Pieces) (packets : List (List ℕ)) (i : ℕ) → Whole (inARow 0 (length packets)) frames packets i
+pub all-whole : (frames : List Pieces) (packets : List Packet) (i : ℕ) → Whole (inARow 0 (length packets)) frames packets i
 all-whole frames packets i = each-carrier (InTime (inARow 0 (length packets))) frames packets i (in-its-turn (length packets))
 
 -- Where every frame is whole, every frame is kept.

@@ -1,23 +1,30 @@
 -- One flow by itself: what is read off it, and so the frames that come out of it, when it hears these packets one after another. There is no table here and
 -- no place; a late packet is passed over, and any other is heard. Between the calls on a card and demand 3 stands this.
 use Prim.Native.Nat.{ℕ}
-use mathlib.Core.Bool.{false, cond}
+use mathlib.Core.Bool.{cond}
 use mathlib.Core.List.{List, [], _∷_, _++_}
 use Rattle.flow.specs.declared.Flow.{Flow}
-use Rattle.packet.specs.Header.{overIp, sub}
+use Rattle.flow.specs.Flow.{longest}
+use Rattle.packet.specs.Header.{Packet, sub}
+use Rattle.table.specs.declared.Kind.the-variants as kind
+use Rattle.table.specs.declared.Terms.{Terms}
 use Rattle.card.specs.Hear.{Heard, judgedOf, hear, recordAfter}
 use Rattle.promises.proofs.Readings.{Reading, framesRead}
 
--- what a PSP flow makes of a packet
-abbrev pub heardAlone : Flow → List ℕ → List ℕ → Heard
-heardAlone f held packet = hear false f held (sub overIp packet)
+-- the terms of a session opened as PSP
+abbrev pub pspTerms : Terms
+pspTerms = record { kind = kind.Psp; longest = longest }
 
-unfoldable pub readAlone : {A : Type 0} → Reading A → Flow → List ℕ → List (List ℕ) → List A
+-- what a PSP flow makes of a packet
+abbrev pub heardAlone : Flow → List ℕ → Packet → Heard
+heardAlone f held p = hear pspTerms f held (sub p)
+
+unfoldable pub readAlone : {A : Type 0} → Reading A → Flow → List ℕ → List Packet → List A
 readAlone w f held [] = []
 readAlone w f held (p ∷ more) =
     let h = heardAlone f held p in
-    cond ((judgedOf f (sub overIp p)) .late) (w .of-late ++ readAlone w f held more)
+    cond ((judgedOf f (sub p)) .late) (w .of-late ++ readAlone w f held more)
     (w .of-heard h ++ readAlone w (recordAfter h) (h .fate .held) more)
 
-abbrev pub framesAlone : Flow → List ℕ → List (List ℕ) → List (List ℕ)
+abbrev pub framesAlone : Flow → List ℕ → List Packet → List (List ℕ)
 framesAlone f held packets = readAlone framesRead f held packets

@@ -6,7 +6,7 @@ use mathlib.Core.Bool.{Bool, true, false}
 use mathlib.Core.List.{List, [], _∷_, _++_, map}
 use native.Mathlib.Omega.{arith}
 use native.Mathlib.Numerals.{add-one}
-use lib.ListN.{length, drop, getD, length-drop}
+use lib.ListN.{length, drop, length-drop}
 use lib.Seq.{getD-drop, drop-drop}
 use lib.Dec.{leb}
 use borrow.Author.Tests.{leb-true, leb-false}
@@ -16,10 +16,10 @@ use Rattle.flow.specs.Numbers.{next, numberAt}
 use Rattle.flow.specs.Flow.{fresh, judge}
 use Rattle.flow.proofs.Numbers.{numberAt-next}
 use Rattle.flow.proofs.Judging.{judge-forward, judge-behind}
-use Rattle.packet.specs.Header.{overIp, sub}
-use Rattle.packet.specs.Segments.{Segment}
+use Rattle.packet.specs.Header.{Packet, ip, sub}
+use Rattle.packet.specs.Segments.{Segment, entryWidth}
 use Rattle.card.specs.Hear.{judgedOf}
-use Rattle.sender.specs.Rules.{segmentsOf}
+use Rattle.sender.specs.Rules.{segmentsOf, packetAt}
 use Rattle.promises.specs.Arrivals.{WithinBound, Window, inTime}
 use Rattle.promises.proofs.Readings.{framesRead}
 use Rattle.promises.proofs.Alone.{readAlone, framesAlone}
@@ -37,28 +37,28 @@ leaves true held segs = left held segs
 leaves false held segs = []
 
 -- along the packets, the first of which has place n
-abbrev pub along : (ℕ → Bool) → ℕ → List ℕ → List (List ℕ) → List (List ℕ)
+abbrev pub along : (ℕ → Bool) → ℕ → List ℕ → List Packet → List (List ℕ)
 along came n held [] = []
-along came n held (p ∷ ps) = gives (came n) held (segmentsOf p) ++ along came (suc n) (leaves (came n) held (segmentsOf p)) ps
+along came n held (p ∷ ps) = gives (came n) held (segmentsOf entryWidth p) ++ along came (suc n) (leaves (came n) held (segmentsOf entryWidth p)) ps
 
 -- tests that agree from place n on give the same
-same-from : (a b : ℕ → Bool) (n : ℕ) (held : List ℕ) (ps : List (List ℕ)) → ((k : ℕ) → n ≤ k → a k ≡ b k) → along a n held ps ≡ along b n held ps
+same-from : (a b : ℕ → Bool) (n : ℕ) (held : List ℕ) (ps : List Packet) → ((k : ℕ) → n ≤ k → a k ≡ b k) → along a n held ps ≡ along b n held ps
 same-from a b n held [] agree = refl
 same-from a b n held (p ∷ ps) agree =
     rw (agree n (omega arith))
-    (ap (λ r. gives (b n) held (segmentsOf p) ++ r) (same-from a b (suc n) (leaves (b n) held (segmentsOf p)) ps (λ k l. agree k (omega arith))))
+    (ap (λ r. gives (b n) held (segmentsOf entryWidth p) ++ r) (same-from a b (suc n) (leaves (b n) held (segmentsOf entryWidth p)) ps (λ k l. agree k (omega arith))))
 
 -- where none came, nothing is given
-none-from : (a : ℕ → Bool) (n : ℕ) (held : List ℕ) (ps : List (List ℕ)) → ((k : ℕ) → a k ≡ false) → along a n held ps ≡ []
+none-from : (a : ℕ → Bool) (n : ℕ) (held : List ℕ) (ps : List Packet) → ((k : ℕ) → a k ≡ false) → along a n held ps ≡ []
 none-from a n held [] none = refl
 none-from a n held (p ∷ ps) none = rw (none n) (none-from a (suc n) [] ps none)
 
 -- the packets at the `gap` places from n on are missing, and that at the next place, x, came
-passed-over : (a : ℕ → Bool) (gap n x : ℕ) (held : List ℕ) (ps : List (List ℕ)) → gap < length ps → x ≡ n + gap →
+passed-over : (a : ℕ → Bool) (gap n x : ℕ) (held : List ℕ) (ps : List Packet) → gap < length ps → x ≡ n + gap →
     ((k : ℕ) → k < x → a k ≡ false) → a x ≡ true →
     along a n held ps
-    ≡ given (behind gap held) (segmentsOf (getD ps gap []))
-    ++ along a (suc x) (left (behind gap held) (segmentsOf (getD ps gap []))) (drop (suc gap) ps)
+    ≡ given (behind gap held) (segmentsOf entryWidth (packetAt ps gap))
+    ++ along a (suc x) (left (behind gap held) (segmentsOf entryWidth (packetAt ps gap))) (drop (suc gap) ps)
 passed-over a gap n x held [] there e missing came = absurd (omega arith)
 passed-over a zero n x held (p ∷ ps) there e missing came =
     let e′ : x ≡ n = omega arith in
@@ -69,27 +69,27 @@ passed-over a (suc gap) n x held (p ∷ ps) there e missing came =
     (rw (behind-nothing gap) at (passed-over a gap (suc n) x [] ps (omega arith) (omega arith) missing came))
 
 -- one more arrival, at the expected place or ahead of it
-ahead : (packets : List (List ℕ)) (n x : ℕ) (held : List ℕ) (xs : List ℕ) → n ≤ x → x < length packets →
+ahead : (packets : List Packet) (n x : ℕ) (held : List ℕ) (xs : List ℕ) → n ≤ x → x < length packets →
     along (inTime (x ∷ xs)) n held (drop n packets)
-    ≡ given (behind (x - n) held) (segmentsOf (getD packets x []))
-    ++ along (inTime xs) (suc x) (left (behind (x - n) held) (segmentsOf (getD packets x []))) (drop (suc x) packets)
+    ≡ given (behind (x - n) held) (segmentsOf entryWidth (packetAt packets x))
+    ++ along (inTime xs) (suc x) (left (behind (x - n) held) (segmentsOf entryWidth (packetAt packets x))) (drop (suc x) packets)
 ahead packets n x held xs from there =
     let a : n + (x - n) ≡ x = omega arith in
     let c : n + suc (x - n) ≡ suc x = omega arith in
     passed-over (inTime (x ∷ xs)) (x - n) n x held (drop n packets) (omega (arith, length-drop n packets)) (omega arith)
     (λ k l. in-time-before x xs k l) (in-time-at x xs)
-    ∙ rw (getD-drop n packets (x - n) [], a, drop-drop (suc (x - n)) n packets, c)
-    (ap (λ r. given (behind (x - n) held) (segmentsOf (getD packets x [])) ++ r)
-    (same-from (inTime (x ∷ xs)) (inTime xs) (suc x) (left (behind (x - n) held) (segmentsOf (getD packets x []))) (drop (suc x) packets)
+    ∙ rw (getD-drop n packets (x - n) (ip []), a, drop-drop (suc (x - n)) n packets, c)
+    (ap (λ r. given (behind (x - n) held) (segmentsOf entryWidth (packetAt packets x)) ++ r)
+    (same-from (inTime (x ∷ xs)) (inTime xs) (suc x) (left (behind (x - n) held) (segmentsOf entryWidth (packetAt packets x))) (drop (suc x) packets)
     (λ k l. in-time-after x xs k l)))
 
 -- a flow that accepted the number of a place expects that of the next place
 pub next-place : (start x : ℕ) → next (numberAt start x) ≡ numberAt start (suc x)
 next-place start x = numberAt-next start x ∙ ap (numberAt start) (add-one x)
 
-module _ (start : ℕ) (packets : List (List ℕ)) (by-place : (f : Flow) (x : ℕ) → x < length packets → judgedOf f (sub overIp (getD packets x [])) ≡ judge f (numberAt start x)) where
-  abbrev those : List ℕ → List (List ℕ)
-  those xs = map (λ x. getD packets x []) xs
+module _ (start : ℕ) (packets : List Packet) (by-place : (f : Flow) (x : ℕ) → x < length packets → judgedOf f (sub (packetAt packets x)) ≡ judge f (numberAt start x)) where
+  abbrev those : List ℕ → List Packet
+  those xs = map (packetAt packets) xs
 
   -- `expected` is the place that the flow waits for
   arrivals-along : (f : Flow) (expected : ℕ) (held : List ℕ) (xs : List ℕ) → f .heard ≡ true → f .expected ≡ numberAt start expected →
@@ -108,16 +108,16 @@ module _ (start : ℕ) (packets : List (List ℕ)) (by-place : (f : Flow) (x : �
       pick on stay true e =
           let l : expected ≤ x = leb-true expected x e in
           let m : max expected (suc x) ≡ suc x = omega arith in
-          let rest : List ℕ = left (behind (x - expected) held) (segmentsOf (getD packets x [])) in
-          frames-heard f held (getD packets x []) (those xs) (numberAt start x) (x - expected)
+          let rest : List ℕ = left (behind (x - expected) held) (segmentsOf entryWidth (packetAt packets x)) in
+          frames-heard f held (packetAt packets x) (those xs) (numberAt start x) (x - expected)
           (by-place f x (sent .0) ∙ judge-forward f start expected hears waits x l (within .0))
-          ∙ ap (λ r. given (behind (x - expected) held) (segmentsOf (getD packets x [])) ++ r)
+          ∙ ap (λ r. given (behind (x - expected) held) (segmentsOf entryWidth (packetAt packets x)) ++ r)
           (on (listening (numberAt start x) rest) rest refl (next-place start x) (rw m at (within .2)))
           ∙ sym (ahead packets expected x held xs l (sent .0))
       pick on stay false e =
           let l : x < expected = leb-false expected x e in
           let m : max expected (suc x) ≡ expected = omega arith in
-          alone-late framesRead f held (getD packets x []) (those xs) (by-place f x (sent .0) ∙ judge-behind f start expected hears waits x l (within .1))
+          alone-late framesRead f held (packetAt packets x) (those xs) (by-place f x (sent .0) ∙ judge-behind f start expected hears waits x l (within .1))
           ∙ stay (rw m at (within .2))
           ∙ sym (same-from (inTime (x ∷ xs)) (inTime xs) expected held (drop expected packets) (λ k i. in-time-after x xs k (omega arith)))
 
@@ -126,8 +126,8 @@ module _ (start : ℕ) (packets : List (List ℕ)) (by-place : (f : Flow) (x : �
   unfolding readAlone
   window-along [] sent window = sym (none-from (inTime []) 0 [] packets in-time-none)
   window-along (x ∷ xs) sent window =
-      let rest : List ℕ = left [] (segmentsOf (getD packets x [])) in
-      frames-heard fresh [] (getD packets x []) (those xs) (numberAt start x) 0 (by-place fresh x (sent .0))
-      ∙ ap (λ r. given [] (segmentsOf (getD packets x [])) ++ r)
+      let rest : List ℕ = left [] (segmentsOf entryWidth (packetAt packets x)) in
+      frames-heard fresh [] (packetAt packets x) (those xs) (numberAt start x) 0 (by-place fresh x (sent .0))
+      ∙ ap (λ r. given [] (segmentsOf entryWidth (packetAt packets x)) ++ r)
       (arrivals-along (listening (numberAt start x) rest) (suc x) rest xs refl (next-place start x) (sent .1) window)
       ∙ sym (rw (behind-nothing (x - 0)) at (ahead packets 0 x [] xs (omega arith) (sent .0)))

@@ -32,9 +32,9 @@ module _ (m : List ℕ → ℕ) (is : Measure m) where
   dropped-by false c i = is .none
 
   pub dropped-measured : (c : Card) (x : Call) → m (droppedBy c x) ≡ droppedIn m (inPlaces m) c x
-  dropped-measured c (opens asked id) = is .none
+  dropped-measured c (opens q) = is .none
   dropped-measured c (closes id) = dropped-by (eqb ((answer c (closes id)) .code) 0) c (find (c .table) id)
-  dropped-measured c (hands packet out lens) = refl
+  dropped-measured c (hands a) = refl
 
   history-measured : (c : Card) (calls : List Call) → Good c →
       m (gathered takenBy c calls) + m (bytesHeld c)

@@ -1,5 +1,7 @@
 -- A closed instance of demand 3, of what the gaps tell, and of one lost fewer: the premises are met, and the conclusion is computed. It cites definitions
 -- alone, so that it can be held against wrong ones.
+use Rattle.table.specs.declared.Kind.the-variants as kind
+use Rattle.promises.specs.Marked.{asking}
 use Prim.Native.Nat.{ℕ, zero, suc, _<_, _≤_}
 use mathlib.Core.Path.{_≡_, refl, sym}
 use mathlib.Core.Bool.{Bool, true, false, true≢false}
@@ -12,7 +14,7 @@ use Rattle.flow.specs.Numbers.{ahead, next, numberAt}
 use Rattle.packet.specs.Segments.{bodyAt, segmentAt, segments}
 use Rattle.packet.specs.Psp.{wanted}
 use Rattle.packet.specs.Check.{checkRefusals, check}
-use Rattle.packet.specs.Header.{overIp, sub, number}
+use Rattle.packet.specs.Header.{Packet, ip, sub, number}
 use Rattle.table.specs.declared.Mode.the-variants as mode
 use Rattle.table.specs.Broken.{broken}
 use Rattle.table.specs.Calls.{opened, closed}
@@ -20,7 +22,7 @@ use Rattle.join.specs.Join.{settledBy, settled, fateBy, fate, atGap, inOrder, p
 use Rattle.card.specs.Hear.{hear}
 use Rattle.card.specs.Receive.{carriedOut, refused, receivedBy, received}
 use Rattle.card.specs.History.{Call, opens, closes, hands, answer, after, afterAll, emptyCard}
-use Rattle.sender.specs.Rules.{Pieces, wholeFrame, begunFrame, inTurn, allSegments, KeepsRules}
+use Rattle.sender.specs.Rules.{Pieces, packetAt, wholeFrame, begunFrame, inTurn, allSegments, KeepsRules}
 use Rattle.promises.specs.Words.{packetsTo, framesOut, LongEnough}
 use Rattle.promises.specs.Arrivals.{inTime, placesFrom, carriers}
 use Rattle.promises.specs.Demand.{Sending, Run, openedCard, comesOut}
@@ -55,10 +57,10 @@ packet2 = to-101 (0x41 ∷ 0x01 ∷ 0x00 ∷ 0x00 ∷ 0x40 ∷ 0x02 ∷ 0x32 ∷
 abbrev pub packet3 : List ℕ
 packet3 = to-101 (0x41 ∷ 0x02 ∷ 0x00 ∷ 0x01 ∷ 0xC0 ∷ 0x02 ∷ 0x80 ∷ 0x01 ∷ 0x41 ∷ 0x42 ∷ 0x51 ∷ [])
 
-abbrev pub packets : List (List ℕ)
-packets = packet0 ∷ packet1 ∷ packet2 ∷ packet3 ∷ []
+abbrev pub packets : List Packet
+packets = ip packet0 ∷ ip packet1 ∷ ip packet2 ∷ ip packet3 ∷ []
 
-pub keeps : KeepsRules 0x101 1 0xFFFE frames ((0x51 ∷ []) ∷ []) packets
+pub keeps : KeepsRules (record { session = 0x101; flow = 1; start = 0xFFFE }) frames ((0x51 ∷ []) ∷ []) packets
 unfolding part rest joined any sumTo upTo bodyAt segmentAt segments wanted check checkRefusals numberAt wholeFrame begunFrame inTurn allSegments
 keeps =
     record {
@@ -69,7 +71,7 @@ keeps =
       in-order = refl;
     }
   where
-    counts : (i : ℕ) → i < 4 → number (sub overIp (getD packets i [])) ≡ numberAt 0xFFFE i
+    counts : (i : ℕ) → i < 4 → number (sub (packetAt packets i)) ≡ numberAt 0xFFFE i
     counts zero l = refl
     counts (suc zero) l = refl
     counts (suc (suc zero)) l = refl
@@ -79,9 +81,7 @@ keeps =
 abbrev pub sending : Sending
 sending =
     record {
-      session = 0x101;
-      flow = 1;
-      start = 0xFFFE;
+      line = record { session = 0x101; flow = 1; start = 0xFFFE };
       frames = frames;
       unfinished = (0x51 ∷ []) ∷ [];
       packets = packets;
@@ -92,7 +92,7 @@ sending =
 -- before, holds half a frame in its own flow 1, begins another and is closed; an open of 0x101 is refused; a scrap of five bytes is refused; flow 2 of 0x101 begins
 -- a frame of its own.
 abbrev pub hand : List ℕ → Call
-hand packet = hands packet (replicate 6144 0) (replicate 127 0)
+hand packet = hands (record { packet = ip packet; output = replicate 6144 0; lengths = replicate 127 0 })
 
 abbrev pub others-half : List ℕ
 others-half = to-102 (0x41 ∷ 0x01 ∷ 0x12 ∷ 0x34 ∷ 0x80 ∷ 0x03 ∷ 0x61 ∷ 0x62 ∷ 0x63 ∷ [])
@@ -109,8 +109,8 @@ overtaken-calls =
     ∷ hand others-next
     ∷ hand packet1
     ∷ closes 0x102
-    ∷ opens mode.Dmpt 0x101
-    ∷ hands (to-101 (0x41 ∷ [])) [] []
+    ∷ opens (asking mode.Dmpt 0x101)
+    ∷ hands (record { packet = ip (to-101 (0x41 ∷ [])); output = []; lengths = [] })
     ∷ hand flow-2-half
     ∷ hand packet3
     ∷ hand packet2
@@ -121,20 +121,20 @@ pub long-slices : (mine : Bool) → mine ≡ true → (6144 ≤ length {A = ℕ}
 long-slices mine e = (omega (arith, length-replicate {A = ℕ} 6144 0), omega (arith, length-replicate {A = ℕ} 127 0))
 
 abbrev pub before : List Call
-before = opens mode.Psp 0x102 ∷ hand others-half ∷ []
+before = opens (asking mode.Psp 0x102) ∷ hand others-half ∷ []
 
-pub opens-101 : (answer (afterAll (emptyCard (replicate 49152 0)) before) (opens mode.Psp 0x101)) .code ≡ 0
+pub opens-101 : (answer (afterAll (emptyCard (replicate 49152 0)) before) (opens (asking mode.Psp 0x101))) .code ≡ 0
 unfolding part rest put joined lengths any least sumTo upTo ahead next bodyAt segmentAt segments wanted broken opened settledBy settled fateBy fate atGap inOrder pspFate hear carriedOut refused receivedBy received answer after afterAll
 opens-101 = refl
 
-pub overtaken-long : LongEnough 0x101 1 (replicate 49152 0) overtaken-calls
+pub overtaken-long : LongEnough kind.Psp 0x101 1 (replicate 49152 0) overtaken-calls
 unfolding rest
 overtaken-long = (
   omega (arith, length-replicate {A = ℕ} 49152 0),
   (long-slices true, (long-slices false, (long-slices true, ((λ e. tt), ((λ e. tt), ((λ e. absurd (true≢false (sym e))), (long-slices false, (long-slices true, (long-slices true, (long-slices true, tt)))))))))),
 )
 
-pub overtaken-only : packetsTo 0x101 1 overtaken-calls ≡ map (λ x. getD packets x []) (0 ∷ 1 ∷ 3 ∷ 2 ∷ 3 ∷ [])
+pub overtaken-only : packetsTo kind.Psp 0x101 1 overtaken-calls ≡ map (packetAt packets) (0 ∷ 1 ∷ 3 ∷ 2 ∷ 3 ∷ [])
 unfolding rest packetsTo
 overtaken-only = refl
 
@@ -175,7 +175,7 @@ overtaken-verdicts =
     ∷ record { code = 12; gap = 0 }
     ∷ []
 
-pub gaps-instance : verdictsOut 0x101 1 (openedCard sending overtaken) overtaken-calls ≡ overtaken-verdicts
+pub gaps-instance : verdictsOut kind.Psp 0x101 1 (openedCard sending overtaken) overtaken-calls ≡ overtaken-verdicts
 unfolding part rest put joined lengths cutBy any least sumTo upTo ahead next bodyAt segmentAt segments wanted broken opened closed settledBy settled fateBy fate atGap inOrder pspFate hear carriedOut refused receivedBy received answer after afterAll verdictsOut
 gaps-instance = refl
 
@@ -191,19 +191,19 @@ worse-calls = hand packet0 ∷ hand packet1 ∷ hand packet3 ∷ []
 abbrev pub better-calls : List Call
 better-calls = hand packet0 ∷ hand packet1 ∷ hand packet2 ∷ hand packet3 ∷ []
 
-pub worse-only : packetsTo 0x101 1 worse-calls ≡ map (λ x. getD packets x []) (0 ∷ 1 ∷ 3 ∷ [])
+pub worse-only : packetsTo kind.Psp 0x101 1 worse-calls ≡ map (packetAt packets) (0 ∷ 1 ∷ 3 ∷ [])
 unfolding rest packetsTo
 worse-only = refl
 
-pub better-only : packetsTo 0x101 1 better-calls ≡ map (λ x. getD packets x []) (0 ∷ 1 ∷ 2 ∷ 3 ∷ [])
+pub better-only : packetsTo kind.Psp 0x101 1 better-calls ≡ map (packetAt packets) (0 ∷ 1 ∷ 2 ∷ 3 ∷ [])
 unfolding rest packetsTo
 better-only = refl
 
-pub worse-long : LongEnough 0x101 1 (replicate 49152 0) worse-calls
+pub worse-long : LongEnough kind.Psp 0x101 1 (replicate 49152 0) worse-calls
 unfolding rest
 worse-long = (omega (arith, length-replicate {A = ℕ} 49152 0), (long-slices true, (long-slices true, (long-slices true, tt))))
 
-pub better-long : LongEnough 0x101 1 (replicate 49152 0) better-calls
+pub better-long : LongEnough kind.Psp 0x101 1 (replicate 49152 0) better-calls
 unfolding rest
 better-long = (omega (arith, length-replicate {A = ℕ} 49152 0), (long-slices true, (long-slices true, (long-slices true, (long-slices true, tt)))))
 

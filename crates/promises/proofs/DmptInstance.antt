@@ -8,21 +8,21 @@ use Rattle.octets.specs.Stretch.{part, rest, put, joined, lengths, cutBy}
 use Rattle.octets.specs.Count.{any, least, sumTo, upTo}
 use Rattle.flow.specs.Numbers.{ahead, next}
 use Rattle.flow.specs.Flow.{fresh}
-use Rattle.packet.specs.Header.{overIp, sub}
+use Rattle.packet.specs.Header.{ip, sub}
 use Rattle.packet.specs.Segments.{bodyAt, segmentAt, segments}
 use Rattle.packet.specs.Psp.{wanted}
 use Rattle.packet.specs.Dmpt.{mpegAt, mpegs}
 use Rattle.table.specs.declared.Kind.the-variants as kind
 use Rattle.table.specs.declared.Mode.the-variants as mode
-use Rattle.table.specs.Rows.{closedRow}
+use Rattle.table.specs.Rows.{isDmpt, rowAt, closedRow}
 use Rattle.table.specs.Broken.{broken}
 use Rattle.table.specs.Calls.{opened}
 use Rattle.join.specs.Join.{settledBy, settled, fateBy, fate, atGap, mpegFate, inOrder, pspFate, dmptFate}
 use Rattle.card.specs.Hear.{hear}
-use Rattle.card.specs.Receive.{rowOf, toDmpt, carriedOut, refused, receivedBy, received}
+use Rattle.card.specs.Receive.{rowOf, carriedOut, refused, receivedBy, received}
 use Rattle.card.specs.History.{Card, opens, framesOf, answer, after, afterAll, emptyCard}
 use Rattle.promises.specs.Dmpt.{carrying, nulls}
-use Rattle.promises.specs.Marked.{hand}
+use Rattle.promises.specs.Marked.{asking, hand}
 
 -- Session 0x103 is open as D-MPT beside 0x101 and 0x102, which holds half a frame. Its packet has S clear, and yet some number; and it has
 -- two MPEG packets, the first of PID 0x1FFE and the second of PID 0x1FFF, with a bit set above that is none of the PID's.
@@ -39,7 +39,7 @@ abbrev pub dmpt-packet : List ℕ
 dmpt-packet = 0x00 ∷ 0x00 ∷ 0x01 ∷ 0x03 ∷ 0x00 ∷ 0x05 ∷ 0x12 ∷ 0x34 ∷ (mpeg-some ++ mpeg-null)
 
 abbrev pub dmpt-card : Card
-dmpt-card = afterAll (emptyCard (replicate 49152 0)) (opens mode.Psp 0x102 ∷ hand others-half ∷ opens mode.Dmpt 0x103 ∷ opens mode.Psp 0x101 ∷ [])
+dmpt-card = afterAll (emptyCard (replicate 49152 0)) (opens (asking mode.Psp 0x102) ∷ hand others-half ∷ opens (asking mode.Dmpt 0x103) ∷ opens (asking mode.Psp 0x101) ∷ [])
 
 -- This card, told: 0x102 has heard its packet and holds 3 bytes in the place of its flow 1, and the others are fresh.
 abbrev pub dmpt-told : Card
@@ -59,7 +59,7 @@ dmpt-told =
     }
 
 -- The packet is for a D-MPT session ..
-pub dmpt-goes : (dmpt-card ≡ dmpt-told) × (toDmpt (dmpt-card .table) (rowOf overIp (dmpt-card .table) dmpt-packet) ≡ true)
+pub dmpt-goes : (dmpt-card ≡ dmpt-told) × (isDmpt (rowAt (dmpt-card .table) (rowOf (dmpt-card .table) (ip dmpt-packet)) .kind) ≡ true)
 unfolding part rest put joined lengths any least sumTo upTo ahead next bodyAt segmentAt segments wanted broken opened settledBy settled fateBy fate atGap inOrder pspFate hear carriedOut refused receivedBy received after afterAll
 dmpt-goes = (refl, refl)
 
@@ -72,6 +72,6 @@ pub dmpt-instance : ((answer dmpt-card (hand dmpt-packet)) .code ≡ 0)
 unfolding part rest put joined lengths cutBy any least sumTo upTo ahead next bodyAt segmentAt segments wanted mpegAt mpegs broken opened settledBy settled fateBy fate atGap mpegFate inOrder pspFate dmptFate hear carriedOut refused receivedBy received answer after afterAll
 dmpt-instance = (refl, refl, refl, refl, refl)
 
-pub dmpt-carries : (carrying (mpegs (sub overIp dmpt-packet)) ≡ mpeg-some ∷ []) × (nulls (mpegs (sub overIp dmpt-packet)) ≡ mpeg-null ∷ [])
+pub dmpt-carries : (carrying (mpegs (sub (ip dmpt-packet))) ≡ mpeg-some ∷ []) × (nulls (mpegs (sub (ip dmpt-packet))) ≡ mpeg-null ∷ [])
 unfolding part rest upTo mpegAt mpegs carrying nulls
 dmpt-carries = (refl, refl)

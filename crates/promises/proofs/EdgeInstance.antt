@@ -27,7 +27,7 @@ use Rattle.sender.specs.Series.{Job, startOfFrame, seriesPackets}
 use Rattle.promises.specs.Account.{times}
 use Rattle.promises.specs.Arrivals.{Window}
 use Rattle.promises.specs.Isolation.{Told, told, cardAfter}
-use Rattle.promises.specs.Marked.{A, B, hand, whole3, of6, of9, of3, limit16}
+use Rattle.promises.specs.Marked.{asking, A, B, hand, whole3, of6, of9, of3, limit16}
 
 -- A value is counted as often as it stands there, and another is not.
 each-value : (times 0x21 (0x21 ∷ 0x22 ∷ 0x21 ∷ []) ≡ 2) × (times 0x23 (0x21 ∷ 0x22 ∷ []) ≡ 0)
@@ -47,7 +47,7 @@ one-frame size dropped gap frame =
     record { code = 0; frames = 1; bytes = size; dropped = dropped; gap = gap; output = frame; lengths = size ∷ [] }
 
 abbrev fresh-101 : Card
-fresh-101 = after (cardAfter (replicate 49152 0) []) (opens mode.Psp 0x101)
+fresh-101 = after (cardAfter (replicate 49152 0) []) (opens (asking mode.Psp 0x101))
 
 -- A, and then number 4: four are missing before it, and what A left is dropped.
 gap-is-told : told 0x101 fresh-101 (hand A ∷ hand (whole3 4) ∷ []) ≡ one-frame 6 0 0 of6 ∷ one-frame 3 2 4 of3 ∷ []
@@ -56,7 +56,7 @@ gap-is-told = refl
 
 -- Between A and B another session is closed, and a packet with number 3 is refused, whose last byte is cut: B finds what A left, and the number is expected.
 abbrev half-there : List Call
-half-there = opens mode.Psp 0x102 ∷ hand A ∷ closes 0x102 ∷ hand (take 12 (whole3 3)) ∷ hand B ∷ []
+half-there = opens (asking mode.Psp 0x102) ∷ hand A ∷ closes 0x102 ∷ hand (take 12 (whole3 3)) ∷ hand B ∷ []
 
 abbrev cut-short : Told
 cut-short = record { code = 10; frames = 0; bytes = 0; dropped = 0; gap = 0; output = []; lengths = [] }
@@ -81,10 +81,10 @@ flow-3-dropped = refl
 abbrev six-then-one : Card
 six-then-one =
     cardAfter (replicate 49152 0)
-    (opens mode.Psp 1 ∷ opens mode.Psp 0x101 ∷ opens mode.Psp 3 ∷ opens mode.Psp 4 ∷ opens mode.Psp 5 ∷ opens mode.Psp 6 ∷ closes 0x101 ∷ [])
+    (opens (asking mode.Psp 1) ∷ opens (asking mode.Psp 0x101) ∷ opens (asking mode.Psp 3) ∷ opens (asking mode.Psp 4) ∷ opens (asking mode.Psp 5) ∷ opens (asking mode.Psp 6) ∷ closes 0x101 ∷ [])
 
-free-row : (answer six-then-one (opens mode.Psp 7) .code ≡ 0)
-    × (find (after six-then-one (opens mode.Psp 7) .table) 7 ≡ 1)
+free-row : (answer six-then-one (opens (asking mode.Psp 7)) .code ≡ 0)
+    × (find (after six-then-one (opens (asking mode.Psp 7)) .table) 7 ≡ 1)
     × (answer six-then-one (hand A) .code ≡ 5)
 unfolding part rest put joined lengths any least sumTo upTo ahead next bodyAt segmentAt segments wanted broken opened closed settledBy settled fateBy fate atGap inOrder pspFate hear carriedOut refused receivedBy received answer after afterAll
 free-row = (refl, refl, refl)
@@ -99,7 +99,7 @@ numbered low = 0x00 ∷ 0x00 ∷ 0x01 ∷ 0x03 ∷ 0x40 ∷ 0x00 ∷ 0x12 ∷ lo
 abbrev too-late : Told
 too-late = record { code = 12; frames = 0; bytes = 0; dropped = 0; gap = 0; output = []; lengths = [] }
 
-dmpt-numbered : told 0x103 (after (cardAfter (replicate 49152 0) []) (opens mode.Dmpt 0x103)) (hand (numbered 0x34) ∷ hand (numbered 0x39) ∷ hand (numbered 0x39) ∷ [])
+dmpt-numbered : told 0x103 (after (cardAfter (replicate 49152 0) []) (opens (asking mode.Dmpt 0x103))) (hand (numbered 0x34) ∷ hand (numbered 0x39) ∷ hand (numbered 0x39) ∷ [])
     ≡ one-frame 188 0 0 mpeg ∷ one-frame 188 0 4 mpeg ∷ too-late ∷ []
 unfolding part rest put joined lengths any least sumTo upTo ahead next mpegAt mpegs broken opened mpegFate inOrder dmptFate hear carriedOut refused receivedBy received answer after afterAll told
 dmpt-numbered = refl

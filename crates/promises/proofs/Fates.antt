@@ -10,11 +10,12 @@ use lib.ListN.{length}
 use borrow.Author.Tests.{eqb-true}
 use Rattle.octets.specs.Stretch.{joined}
 use Rattle.flow.specs.declared.Flow.{Flow}
-use Rattle.flow.specs.Flow.{longest}
-use Rattle.packet.specs.Segments.{Segment, entryWidth, segments}
+use Rattle.packet.specs.Segments.{Segment, segments}
 use Rattle.packet.specs.Dmpt.{pid, nullPid, mpegs}
+use Rattle.table.specs.declared.Terms.{Terms}
+use Rattle.table.specs.Rows.{isDmpt}
 use Rattle.join.specs.Join.{Fate, delivering, dropping, keeping, andThen, settledBy, settled, fateBy, fate, atGap, mpegFate, inOrder, pspFate, dmptFate}
-use Rattle.card.specs.Hear.{judgedOf, hear}
+use Rattle.card.specs.Hear.{widthIn, judgedOf, hear}
 use Rattle.promises.specs.Account.{packetBody}
 use Rattle.promises.proofs.Measures.{Measure, measure-joined}
 
@@ -81,11 +82,11 @@ module _ (m : List ℕ → ℕ) (is : Measure m) where
           is .both (body x) (joined (map body xs)),
         )
 
-  psp-tells : (gap : ℕ) (held : List ℕ) (segs : List Segment) →
-      tells m (pspFate longest gap held segs) ≡ m held + m (joined (map (λ (s : Segment). s .body) segs))
+  psp-tells : (most gap : ℕ) (held : List ℕ) (segs : List Segment) →
+      tells m (pspFate most gap held segs) ≡ m held + m (joined (map (λ (s : Segment). s .body) segs))
   unfolding pspFate
-  psp-tells gap held segs =
-      in-order-tells (fate longest) (λ (s : Segment). s .body) (λ held. Unit {0}) (λ held s fine. (fate-tells longest held s, tt)) (atGap gap held) segs tt
+  psp-tells most gap held segs =
+      in-order-tells (fate most) (λ (s : Segment). s .body) (λ held. Unit {0}) (λ held s fine. (fate-tells most held s, tt)) (atGap gap held) segs tt
       ∙ ap (λ (n : ℕ). n + m (joined (map (λ (s : Segment). s .body) segs))) (gap-tells gap held)
 
   -- a D-MPT flow holds nothing, before or after
@@ -101,8 +102,13 @@ module _ (m : List ℕ → ℕ) (is : Measure m) where
           (omega (arith, one .0, is .none, ap m none), one .1)
 
   -- The packet.
-  pub heard-tells : (dmpt : Bool) (f : Flow) (held sub : List ℕ) → (dmpt ≡ true → held ≡ []) →
-      tells m (hear dmpt f held sub .fate) ≡ m held + m (packetBody dmpt sub)
+  told-by : (d : Bool) (most width gap : ℕ) (held sub : List ℕ) → (d ≡ true → held ≡ []) →
+      tells m (cond d (dmptFate held (mpegs sub)) (pspFate most gap held (segments width sub)))
+      ≡ m held + m (cond d (joined (mpegs sub)) (joined (map (λ (s : Segment). s .body) (segments width sub))))
+  told-by true most width gap held sub bare = rw (bare refl) (dmpt-tells (mpegs sub))
+  told-by false most width gap held sub bare = psp-tells most gap held (segments width sub)
+
+  pub heard-tells : (terms : Terms) (f : Flow) (held sub : List ℕ) → (isDmpt (terms .kind) ≡ true → held ≡ []) →
+      tells m (hear terms f held sub .fate) ≡ m held + m (packetBody (terms .kind) sub)
   unfolding hear
-  heard-tells true f held sub bare = rw (bare refl) (dmpt-tells (mpegs sub))
-  heard-tells false f held sub bare = psp-tells (judgedOf f sub .gap) held (segments entryWidth sub)
+  heard-tells terms f held sub bare = told-by (isDmpt (terms .kind)) (terms .longest) (widthIn (terms .kind)) (judgedOf f sub .gap) held sub bare

@@ -8,6 +8,7 @@ use native.Mathlib.Omega.{arith}
 use lib.Dec.{ltb, eqb}
 use borrow.Author.Tests.{lt-ltb, le-ltb, eq-eqb, eqb-true}
 use Rattle.octets.proofs.Elements.{each-too}
+use Rattle.packet.specs.Header.{Packet}
 use Rattle.sender.specs.Rules.{Pieces}
 use Rattle.promises.specs.Arrivals.{InTime, inTime, carriers, Whole}
 use Rattle.promises.specs.Demand.{Sending, Run, comesOut, WholeIn, Demand3, Rising, ComeOut, FewerLost}
@@ -44,7 +45,7 @@ only-lost {xs} {ys} q among k t =
     in-time-is-meant ys k .0 (arrives-in-time 0 ys k q (arrives-too among k (in-time-arrives xs k (in-time-is-meant xs k .1 t))))
 
 -- and so a frame that is whole among fewer arrivals is whole among more
-pub whole-too : {xs ys : List ℕ} → Rising 0 ys → Sublistᴰ xs ys → (frames : List Pieces) (packets : List (List ℕ)) (i : ℕ) →
+pub whole-too : {xs ys : List ℕ} → Rising 0 ys → Sublistᴰ xs ys → (frames : List Pieces) (packets : List Packet) (i : ℕ) →
     Whole xs frames packets i → Whole ys frames packets i
 whole-too {xs} {ys} q among frames packets i w = each-too (InTime xs) (InTime ys) (carriers frames packets i) (only-lost q among) w
 

@@ -5,7 +5,7 @@ use mathlib.Core.Path.{_≡_, refl, ap, _∙_}
 use mathlib.Core.Bool.{Bool, true, false, cond}
 use mathlib.Core.List.{List, [], _∷_, _++_, map}
 use native.Mathlib.Omega.{arith}
-use lib.ListN.{length, getD}
+use lib.ListN.{length}
 use lib.Dec.{leb}
 use borrow.Author.Tests.{leb-true, leb-false}
 use Rattle.octets.specs.Each.{Each}
@@ -13,9 +13,12 @@ use Rattle.flow.specs.declared.Flow.{Flow}
 use Rattle.flow.specs.Numbers.{numberAt}
 use Rattle.flow.specs.Flow.{fresh, judge}
 use Rattle.flow.proofs.Judging.{judge-forward, judge-behind}
-use Rattle.packet.specs.Header.{overIp, sub}
+use Rattle.packet.specs.Header.{Packet, sub}
+use Rattle.table.specs.declared.Kind.{Kind}
+use Rattle.table.specs.declared.Kind.the-variants as psp
 use Rattle.card.specs.Hear.{judgedOf}
 use Rattle.card.specs.History.{Card, Call, answer, after}
+use Rattle.sender.specs.Rules.{packetAt}
 use Rattle.promises.specs.Words.{handsTo}
 use Rattle.promises.specs.Arrivals.{WithinBound, Window}
 use Rattle.promises.specs.Gaps.{Verdict, verdictsOut, verdictsFrom, verdictsOf, GapsAreTold}
@@ -37,15 +40,15 @@ verdictsRead =
       when-heard = λ a h code frames gap. rw (code, gap) refl;
     }
 
-verdicts-read : (session flow : ℕ) (c : Card) (calls : List Call) → verdictsOut session flow c calls ≡ readOut verdictsRead session flow c calls
+verdicts-read : (kind : Kind) (session flow : ℕ) (c : Card) (calls : List Call) → verdictsOut kind session flow c calls ≡ readOut verdictsRead kind session flow c calls
 unfolding verdictsOut readOut
-verdicts-read session flow c [] = refl
-verdicts-read session flow c (x ∷ more) =
-    ap (λ (l : List Verdict). cond (handsTo session flow x) (record { code = (answer c x) .code; gap = (answer c x) .gap } ∷ []) [] ++ l) (verdicts-read session flow (after c x) more)
+verdicts-read kind session flow c [] = refl
+verdicts-read kind session flow c (x ∷ more) =
+    ap (λ (l : List Verdict). cond (handsTo kind session flow x) (record { code = (answer c x) .code; gap = (answer c x) .gap } ∷ []) [] ++ l) (verdicts-read kind session flow (after c x) more)
 
-module _ (start : ℕ) (packets : List (List ℕ)) (by-place : (f : Flow) (x : ℕ) → x < length packets → judgedOf f (sub overIp (getD packets x [])) ≡ judge f (numberAt start x)) where
+module _ (start : ℕ) (packets : List Packet) (by-place : (f : Flow) (x : ℕ) → x < length packets → judgedOf f (sub (packetAt packets x)) ≡ judge f (numberAt start x)) where
   abbrev verdictsAlone : Flow → List ℕ → List ℕ → List Verdict
-  verdictsAlone f held xs = readAlone verdictsRead f held (map (λ x. getD packets x []) xs)
+  verdictsAlone f held xs = readAlone verdictsRead f held (map (packetAt packets) xs)
 
   -- `expected` is the place that the flow waits for
   verdicts-along : (f : Flow) (expected : ℕ) (held : List ℕ) (xs : List ℕ) → f .heard ≡ true → f .expected ≡ numberAt start expected →
@@ -64,13 +67,13 @@ module _ (start : ℕ) (packets : List (List ℕ)) (by-place : (f : Flow) (x : �
       pick on stay true e =
           let l : expected ≤ x = leb-true expected x e in
           let m : max expected (suc x) ≡ suc x = omega arith in
-          alone-heard verdictsRead f held (getD packets x []) (map (λ y. getD packets y []) xs) (numberAt start x) (x - expected)
+          alone-heard verdictsRead f held (packetAt packets x) (map (packetAt packets) xs) (numberAt start x) (x - expected)
           (by-place f x (sent .0) ∙ judge-forward f start expected hears waits x l (within .0))
           ∙ ap (λ (r : List Verdict). record { code = 0; gap = x - expected } ∷ r) (on _ _ refl (next-place start x) (rw m at (within .2)))
       pick on stay false e =
           let l : x < expected = leb-false expected x e in
           let m : max expected (suc x) ≡ expected = omega arith in
-          alone-late verdictsRead f held (getD packets x []) (map (λ y. getD packets y []) xs)
+          alone-late verdictsRead f held (packetAt packets x) (map (packetAt packets) xs)
           (by-place f x (sent .0) ∙ judge-behind f start expected hears waits x l (within .1))
           ∙ ap (λ (r : List Verdict). record { code = 12; gap = 0 } ∷ r) (stay (rw m at (within .2)))
 
@@ -79,13 +82,13 @@ module _ (start : ℕ) (packets : List (List ℕ)) (by-place : (f : Flow) (x : �
   unfolding readAlone verdictsOf
   window-verdicts [] sent window = refl
   window-verdicts (x ∷ xs) sent window =
-      alone-heard verdictsRead fresh [] (getD packets x []) (map (λ y. getD packets y []) xs) (numberAt start x) 0 (by-place fresh x (sent .0))
+      alone-heard verdictsRead fresh [] (packetAt packets x) (map (packetAt packets) xs) (numberAt start x) 0 (by-place fresh x (sent .0))
       ∙ ap (λ (r : List Verdict). record { code = 0; gap = 0 } ∷ r)
       (verdicts-along _ (suc x) _ xs refl (next-place start x) (sent .1) window)
 
 pub gaps-are-told : GapsAreTold
 gaps-are-told s r =
-    verdicts-read (s .session) (s .flow) _ (r .calls)
+    verdicts-read psp.Psp (s .line .session) (s .line .flow) _ (r .calls)
     ∙ run-read s r verdictsRead
-    ∙ window-verdicts (s .start) (s .packets)
-    (judged-by-place (s .session) (s .flow) (s .start) (s .frames) (s .unfinished) (s .packets) (s .keeps-rules)) (r .arrivals) (all-sent s r) (r .in-window)
+    ∙ window-verdicts (s .line .start) (s .packets)
+    (judged-by-place (s .line) (s .frames) (s .unfinished) (s .packets) (s .keeps-rules)) (r .arrivals) (all-sent s r) (r .in-window)

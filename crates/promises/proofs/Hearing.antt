@@ -2,18 +2,19 @@
 -- the next number.
 use Prim.Native.Nat.{ℕ}
 use mathlib.Core.Path.{_≡_, ap, _∙_}
-use mathlib.Core.Bool.{true, false, cond}
+use mathlib.Core.Bool.{true, cond}
 use mathlib.Core.List.{List, _∷_, _++_}
 use lib.ListN.{length}
 use Rattle.flow.specs.declared.Flow.{Flow}
 use Rattle.flow.specs.declared.Judged.{Judged}
 use Rattle.flow.specs.Numbers.{next}
 use Rattle.flow.specs.Flow.{accepted, tooLate}
-use Rattle.packet.specs.Header.{overIp, sub}
+use Rattle.packet.specs.Header.{Packet, sub}
+use Rattle.packet.specs.Segments.{entryWidth}
 use Rattle.card.specs.Hear.{Heard, judgedOf, fateOf, hear, recordAfter}
 use Rattle.sender.specs.Rules.{segmentsOf}
 use Rattle.promises.proofs.Readings.{Reading, framesRead}
-use Rattle.promises.proofs.Alone.{readAlone, framesAlone}
+use Rattle.promises.proofs.Alone.{pspTerms, readAlone, framesAlone}
 use Rattle.promises.proofs.FromTheFront.{given, left, behind, packet-gives, packet-leaves}
 
 -- the record of a flow that accepted number n and holds these bytes
@@ -21,29 +22,29 @@ abbrev pub listening : ℕ → List ℕ → Flow
 listening n held = record { heard = true; expected = next n; held = length held }
 
 -- what is heard, by the judgement of the packet
-abbrev pub heardAs : List ℕ → List ℕ → Judged → Heard
-heardAs held packet j = record { judged = j; fate = fateOf false (j .gap) held (sub overIp packet) }
+abbrev pub heardAs : List ℕ → Packet → Judged → Heard
+heardAs held packet j = record { judged = j; fate = fateOf pspTerms (j .gap) held (sub packet) }
 
-module _ {A : Type 0} (w : Reading A) (f : Flow) (held packet : List ℕ) (more : List (List ℕ)) where
+module _ {A : Type 0} (w : Reading A) (f : Flow) (held : List ℕ) (packet : Packet) (more : List Packet) where
   abbrev by : Judged → List A
   by j =
       let h = heardAs held packet j in
       cond (j .late) (w .of-late ++ readAlone w f held more) (w .of-heard h ++ readAlone w (recordAfter h) (h .fate .held) more)
 
-  pub alone-late : judgedOf f (sub overIp packet) ≡ tooLate f → readAlone w f held (packet ∷ more) ≡ w .of-late ++ readAlone w f held more
+  pub alone-late : judgedOf f (sub packet) ≡ tooLate f → readAlone w f held (packet ∷ more) ≡ w .of-late ++ readAlone w f held more
   unfolding readAlone hear
   alone-late e = ap by e
 
-  pub alone-heard : (n gap : ℕ) → judgedOf f (sub overIp packet) ≡ accepted f n gap →
+  pub alone-heard : (n gap : ℕ) → judgedOf f (sub packet) ≡ accepted f n gap →
       let h = heardAs held packet (accepted f n gap) in
       readAlone w f held (packet ∷ more) ≡ w .of-heard h ++ readAlone w (recordAfter h) (h .fate .held) more
   unfolding readAlone hear
   alone-heard n gap e = ap by e
 
 -- the frames of one that is accepted
-pub frames-heard : (f : Flow) (held packet : List ℕ) (more : List (List ℕ)) (n gap : ℕ) → judgedOf f (sub overIp packet) ≡ accepted f n gap →
+pub frames-heard : (f : Flow) (held : List ℕ) (packet : Packet) (more : List Packet) (n gap : ℕ) → judgedOf f (sub packet) ≡ accepted f n gap →
     framesAlone f held (packet ∷ more)
-    ≡ given (behind gap held) (segmentsOf packet)
-    ++ framesAlone (listening n (left (behind gap held) (segmentsOf packet))) (left (behind gap held) (segmentsOf packet)) more
+    ≡ given (behind gap held) (segmentsOf entryWidth packet)
+    ++ framesAlone (listening n (left (behind gap held) (segmentsOf entryWidth packet))) (left (behind gap held) (segmentsOf entryWidth packet)) more
 frames-heard f held packet more n gap e =
-    alone-heard framesRead f held packet more n gap e ∙ rw (packet-gives gap held (segmentsOf packet), packet-leaves gap held (segmentsOf packet))
+    alone-heard framesRead f held packet more n gap e ∙ rw (packet-gives gap held (segmentsOf entryWidth packet), packet-leaves gap held (segmentsOf entryWidth packet))

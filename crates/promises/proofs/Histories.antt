@@ -12,7 +12,7 @@ use Rattle.refusal.proofs.Laws.{none-applies, none-first, none-apart}
 use Rattle.octets.specs.Each.{Each}
 use Rattle.flow.specs.declared.Flow.{Flow}
 use Rattle.flow.specs.Flow.{flows}
-use Rattle.packet.specs.Header.{overIp, sub, beforeSession}
+use Rattle.packet.specs.Header.{Packet, sub, beforeSession}
 use Rattle.packet.specs.Segments.{entryWidth}
 use Rattle.packet.specs.Psp.{pspRefusals}
 use Rattle.packet.specs.Check.{kindPsp, checkRefusals, check}
@@ -20,23 +20,23 @@ use Rattle.table.specs.declared.Kind.the-variants as kind
 use Rattle.join.specs.Slices.{mostFrames, mostBytes, asSlices}
 use Rattle.card.specs.Hear.{judgedOf, recordAfter}
 use Rattle.card.specs.Receive.{holdingSize, tooSmall}
-use Rattle.card.specs.History.{Card, Call, opens, closes, hands, answer, after}
+use Rattle.card.specs.History.{Card, Arrival, Call, opens, closes, hands, lentWith, answer, after}
 use Rattle.card.proofs.Step.{none-found}
 use Rattle.promises.specs.Words.{ofFlow, handsTo, closesIt, packetsTo, Room, StaysOpen}
 use Rattle.promises.proofs.Readings.{Reading, readOut}
-use Rattle.promises.proofs.Alone.{heardAlone, readAlone}
+use Rattle.promises.proofs.Alone.{pspTerms, heardAlone, readAlone}
 use Rattle.promises.proofs.Good.{Good, good-after, holding-kept, refused-stays}
 use Rattle.promises.proofs.Refusals.{refusals-change-nothing}
 use Rattle.promises.proofs.Standing.{Stands}
 use Rattle.promises.proofs.Steps.{stands-stay, stands-heard, hands-code}
 
 -- the two stretches of the PSP check
-psp-check : (packet : List ℕ) → check overIp kindPsp packet ≡ 0 → (first (beforeSession overIp packet) ≡ 0) × (first (pspRefusals entryWidth (sub overIp packet)) ≡ 0)
+psp-check : (packet : Packet) → check kindPsp packet ≡ 0 → (first (beforeSession packet) ≡ 0) × (first (pspRefusals entryWidth (sub packet)) ≡ 0)
 unfolding check checkRefusals
 psp-check packet z =
-    let n = none-applies (checkRefusals overIp kindPsp packet) refl z in
-    let both = none-apart (beforeSession overIp packet) (pspRefusals entryWidth (sub overIp packet)) (n .1) in
-    (none-first (beforeSession overIp packet) (both .0), none-first (pspRefusals entryWidth (sub overIp packet)) (both .1))
+    let n = none-applies (checkRefusals kindPsp packet) refl z in
+    let both = none-apart (beforeSession packet) (pspRefusals entryWidth (sub packet)) (n .1) in
+    (none-first (beforeSession packet) (both .0), none-first (pspRefusals entryWidth (sub packet)) (both .1))
 
 enough : (holding out lens : List ℕ) → holdingSize ≤ length holding → mostBytes ≤ length out → mostFrames ≤ length lens → tooSmall (asSlices holding out lens) ≡ false
 enough holding out lens h o l =
@@ -47,31 +47,34 @@ module _ (session flow : ℕ) (inside : flow < flows) where
   record Hears (c : Card) (f : Flow) (held : List ℕ) : Type 0 where
     good : Good c
     large : holdingSize ≤ length (c .holding)
-    stands : Stands c session flow kind.Psp f held
+    stands : Stands c session flow pspTerms f held
 
   -- a call for others leaves it so
-  stays : (c : Card) (x : Call) (f : Flow) (held : List ℕ) → Hears c f held → handsTo session flow x ≡ false → closesIt session x ≡ false → Hears (after c x) f held
+  stays : (c : Card) (x : Call) (f : Flow) (held : List ℕ) → Hears c f held → handsTo kind.Psp session flow x ≡ false → closesIt session x ≡ false → Hears (after c x) f held
   stays c x f held h other live =
       record {
         good = good-after c x (h .good);
         large = omega (arith, h .large, holding-kept c x (h .good));
-        stands = stands-stay c x session flow kind.Psp f held (h .good) inside (h .stands) other live;
+        stands = stands-stay c x session flow pspTerms f held (h .good) inside (h .stands) other live;
       }
 
   -- its own packet: late, and passed over; or heard
-  module _ (c : Card) (packet out lens : List ℕ) (f : Flow) (held : List ℕ) (h : Hears c f held) (of-it : ofFlow session flow packet ≡ true)
-      (room : Room (hands packet out lens)) (passes : check overIp kindPsp packet ≡ 0) where
-    abbrev x : Call
-    x = hands packet out lens
+  module _ (c : Card) (a : Arrival) (f : Flow) (held : List ℕ) (h : Hears c f held) (of-it : ofFlow kind.Psp session flow (a .packet) ≡ true)
+      (room : Room (hands a)) (passes : check kindPsp (a .packet) ≡ 0) where
+    abbrev packet : Packet
+    packet = a .packet
 
-    its-code : (answer c x) .code ≡ cond ((judgedOf f (sub overIp packet)) .late) 12 0
+    abbrev x : Call
+    x = hands a
+
+    its-code : (answer c x) .code ≡ cond ((judgedOf f (sub packet)) .late) 12 0
     its-code =
         let p = psp-check packet passes in
-        hands-code c packet out lens session flow kind.Psp f held (h .good) (h .stands) of-it (enough (c .holding) out lens (h .large) (room .0) (room .1)) (p .0) (p .1)
+        hands-code c a session flow pspTerms f held (h .good) (h .stands) of-it (enough (c .holding) (a .output) (a .lengths) (h .large) (room .0) (room .1)) (p .0) (p .1)
 
     -- what is read off a late packet, and off one that is heard
     module _ {A : Type 0} (w : Reading A) where
-      read-late : (judgedOf f (sub overIp packet)) .late ≡ true → (after c x ≡ c) × (w .of-answer (answer c x) ≡ w .of-late)
+      read-late : (judgedOf f (sub packet)) .late ≡ true → (after c x ≡ c) × (w .of-answer (answer c x) ≡ w .of-late)
       read-late late =
           let by : ((answer c x) .code ≡ 12) = its-code ∙ ap (λ (b : Bool). cond b 12 0) late in
           let refused : ((answer c x) .code ≡ 0 → ⊥) = λ z. twelve (sym z ∙ by) in
@@ -83,12 +86,12 @@ module _ (session flow : ℕ) (inside : flow < flows) where
           twelve : _≡_ {A = ℕ} 0 12 → ⊥
           twelve e = omega arith
 
-      read-heard : (judgedOf f (sub overIp packet)) .late ≡ false →
+      read-heard : (judgedOf f (sub packet)) .late ≡ false →
           Hears (after c x) (recordAfter (heardAlone f held packet)) ((heardAlone f held packet) .fate .held)
           × (w .of-answer (answer c x) ≡ w .of-heard (heardAlone f held packet))
       read-heard in-time =
           let by : ((answer c x) .code ≡ 0) = its-code ∙ ap (λ (b : Bool). cond b 12 0) in-time in
-          let heard = stands-heard c packet out lens session flow kind.Psp f held (h .good) inside (h .stands) of-it by in (
+          let heard = stands-heard c a session flow pspTerms f held (h .good) inside (h .stands) of-it by in (
             record {
               good = good-after c x (h .good);
               large = omega (arith, h .large, holding-kept c x (h .good));
@@ -99,50 +102,50 @@ module _ (session flow : ℕ) (inside : flow < flows) where
 
   module _ {A : Type 0} (w : Reading A) where
     abbrev Goes : List Call → Type 0
-    Goes calls = (c : Card) (f : Flow) (held : List ℕ) → Hears c f held → readOut w session flow c calls ≡ readAlone w f held (packetsTo session flow calls)
+    Goes calls = (c : Card) (f : Flow) (held : List ℕ) → Hears c f held → readOut w kind.Psp session flow c calls ≡ readAlone w f held (packetsTo kind.Psp session flow calls)
 
-    hands-goes : (packet out lens : List ℕ) (more : List Call) → (handsTo session flow (hands packet out lens) ≡ true → Room (hands packet out lens)) →
-        Goes more → (t : Bool) → ofFlow session flow packet ≡ t → Each (λ p. check overIp kindPsp p ≡ 0) (cond t (packet ∷ packetsTo session flow more) (packetsTo session flow more)) →
+    hands-goes : (a : Arrival) (more : List Call) → (handsTo kind.Psp session flow (hands a) ≡ true → Room (hands a)) →
+        Goes more → (t : Bool) → ofFlow kind.Psp session flow (a .packet) ≡ t → Each (λ p. check kindPsp p ≡ 0) (cond t ((a .packet) ∷ packetsTo kind.Psp session flow more) (packetsTo kind.Psp session flow more)) →
         (c : Card) (f : Flow) (held : List ℕ) → Hears c f held →
-        cond t (w .of-answer (answer c (hands packet out lens))) [] ++ readOut w session flow (after c (hands packet out lens)) more
-        ≡ readAlone w f held (cond t (packet ∷ packetsTo session flow more) (packetsTo session flow more))
+        cond t (w .of-answer (answer c (hands a))) [] ++ readOut w kind.Psp session flow (after c (hands a)) more
+        ≡ readAlone w f held (cond t ((a .packet) ∷ packetsTo kind.Psp session flow more) (packetsTo kind.Psp session flow more))
     unfolding readAlone
-    hands-goes packet out lens more room goes false e passing c f held h =
-        goes (after c (hands packet out lens)) f held (stays c (hands packet out lens) f held h e refl)
-    hands-goes packet out lens more room goes true e passing c f held h = judged ((judgedOf f (sub overIp packet)) .late) refl
+    hands-goes a more room goes false e passing c f held h =
+        goes (after c (hands a)) f held (stays c (hands a) f held h e refl)
+    hands-goes a more room goes true e passing c f held h = judged ((judgedOf f (sub (a .packet))) .late) refl
       where
-        judged : (late : Bool) → (judgedOf f (sub overIp packet)) .late ≡ late →
-            w .of-answer (answer c (hands packet out lens)) ++ readOut w session flow (after c (hands packet out lens)) more
-            ≡ cond late (w .of-late ++ readAlone w f held (packetsTo session flow more))
-            (w .of-heard (heardAlone f held packet) ++ readAlone w (recordAfter (heardAlone f held packet)) ((heardAlone f held packet) .fate .held) (packetsTo session flow more))
+        judged : (late : Bool) → (judgedOf f (sub (a .packet))) .late ≡ late →
+            w .of-answer (answer c (hands a)) ++ readOut w kind.Psp session flow (after c (hands a)) more
+            ≡ cond late (w .of-late ++ readAlone w f held (packetsTo kind.Psp session flow more))
+            (w .of-heard (heardAlone f held (a .packet)) ++ readAlone w (recordAfter (heardAlone f held (a .packet))) ((heardAlone f held (a .packet)) .fate .held) (packetsTo kind.Psp session flow more))
         judged true late =
-            let none = read-late c packet out lens f held h e (room e) (passing .0) w late in
+            let none = read-late c a f held h e (room e) (passing .0) w late in
             rw (none .0, none .1) (ap (λ (l : List A). w .of-late ++ l) (goes c f held h))
         judged false late =
-            let heard = read-heard c packet out lens f held h e (room e) (passing .0) w late in
-            rw (heard .1) (ap (λ (l : List A). w .of-heard (heardAlone f held packet) ++ l) (goes (after c (hands packet out lens)) (recordAfter (heardAlone f held packet)) ((heardAlone f held packet) .fate .held) (heard .0)))
+            let heard = read-heard c a f held h e (room e) (passing .0) w late in
+            rw (heard .1) (ap (λ (l : List A). w .of-heard (heardAlone f held (a .packet)) ++ l) (goes (after c (hands a)) (recordAfter (heardAlone f held (a .packet))) ((heardAlone f held (a .packet)) .fate .held) (heard .0)))
 
-    goes-all : (calls : List Call) → StaysOpen session calls → Each (λ x. handsTo session flow x ≡ true → Room x) calls →
-        Each (λ p. check overIp kindPsp p ≡ 0) (packetsTo session flow calls) → Goes calls
+    goes-all : (calls : List Call) → StaysOpen session calls → Each (λ x. handsTo kind.Psp session flow x ≡ true → Room x) calls →
+        Each (λ p. check kindPsp p ≡ 0) (packetsTo kind.Psp session flow calls) → Goes calls
     unfolding readOut packetsTo readAlone
     goes-all [] live room passing c f held h = refl
-    goes-all (opens asked id ∷ more) live room passing c f held h =
-        goes-all more (live .1) (room .1) passing (after c (opens asked id)) f held (stays c (opens asked id) f held h refl refl)
+    goes-all (opens q ∷ more) live room passing c f held h =
+        goes-all more (live .1) (room .1) passing (after c (opens q)) f held (stays c (opens q) f held h refl refl)
     goes-all (closes id ∷ more) live room passing c f held h =
         goes-all more (live .1) (room .1) passing (after c (closes id)) f held (stays c (closes id) f held h refl (live .0))
-    goes-all (hands packet out lens ∷ more) live room passing c f held h =
-        hands-goes packet out lens more (room .0) (λ c′ f′ held′ h′. goes-all more (live .1) (room .1) (rest-passing (ofFlow session flow packet) passing) c′ f′ held′ h′)
-        (ofFlow session flow packet) refl passing c f held h
+    goes-all (hands a ∷ more) live room passing c f held h =
+        hands-goes a more (room .0) (λ c′ f′ held′ h′. goes-all more (live .1) (room .1) (rest-passing (ofFlow kind.Psp session flow (a .packet)) passing) c′ f′ held′ h′)
+        (ofFlow kind.Psp session flow (a .packet)) refl passing c f held h
       where
-        rest-passing : (t : Bool) → Each (λ p. check overIp kindPsp p ≡ 0) (cond t (packet ∷ packetsTo session flow more) (packetsTo session flow more)) →
-            Each (λ p. check overIp kindPsp p ≡ 0) (packetsTo session flow more)
+        rest-passing : (t : Bool) → Each (λ p. check kindPsp p ≡ 0) (cond t ((a .packet) ∷ packetsTo kind.Psp session flow more) (packetsTo kind.Psp session flow more)) →
+            Each (λ p. check kindPsp p ≡ 0) (packetsTo kind.Psp session flow more)
         rest-passing true p = p .1
         rest-passing false p = p
 
 -- The whole history.
 pub history-read : {A : Type 0} (w : Reading A) (session flow : ℕ) (c : Card) (calls : List Call) (f : Flow) (held : List ℕ) → flow < flows → Good c →
-    holdingSize ≤ length (c .holding) → Stands c session flow kind.Psp f held → StaysOpen session calls → Each (λ x. handsTo session flow x ≡ true → Room x) calls →
-    Each (λ p. check overIp kindPsp p ≡ 0) (packetsTo session flow calls) →
-    readOut w session flow c calls ≡ readAlone w f held (packetsTo session flow calls)
+    holdingSize ≤ length (c .holding) → Stands c session flow pspTerms f held → StaysOpen session calls → Each (λ x. handsTo kind.Psp session flow x ≡ true → Room x) calls →
+    Each (λ p. check kindPsp p ≡ 0) (packetsTo kind.Psp session flow calls) →
+    readOut w kind.Psp session flow c calls ≡ readAlone w f held (packetsTo kind.Psp session flow calls)
 history-read w session flow c calls f held inside good large stands live room passing =
     goes-all session flow inside w calls live room passing c f held (record { good = good; large = large; stands = stands })

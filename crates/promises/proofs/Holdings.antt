@@ -12,9 +12,8 @@ use Rattle.octets.proofs.Stretches.{length-part, part-none}
 use Rattle.octets.proofs.Counts.{sum-agree, sum-zero, sum-but-one}
 use Rattle.flow.specs.declared.Flow.{Flow}
 use Rattle.flow.specs.Flow.{flows, fresh}
-use Rattle.table.specs.declared.Kind.the-variants as kind
 use Rattle.table.specs.declared.Row.{Row}
-use Rattle.table.specs.Rows.{rows, rowAt, flowAt, closedRow, withRow}
+use Rattle.table.specs.Rows.{rows, noRow, rowAt, flowAt, closedRow, withRow}
 use Rattle.card.specs.Receive.{placeOf}
 use Rattle.card.specs.History.{Card, emptyCard}
 use Rattle.card.proofs.Step.{Shaped}
@@ -106,16 +105,15 @@ module _ {m : List ℕ → ℕ} {kept : List ℕ → ℕ → Flow → ℕ} (w : 
   pub row-replaced : (c : Card) (r : ℕ) (row : Row) → Shaped (c .table) → r < rows → Bare row →
       keptInAll kept (record { table = withRow (c .table) r row; holding = c .holding }) + keptInRow kept c r ≡ keptInAll kept c
   row-replaced c r row shaped there bare =
-      let past : Row = record { id = 0; kind = kind.Closed; flows = [] } in
       let new : Card = record { table = withRow (c .table) r row; holding = c .holding } in
-      let now : rowAt (new .table) r ≡ row = getD-set-same (c .table .rows) r row past (omega (arith, shaped .six)) in
+      let now : rowAt (new .table) r ≡ row = getD-set-same (c .table .rows) r row noRow (omega (arith, shaped .six)) in
       let none : keptInRow kept new r ≡ 0 = bare-row new r (rw now bare) in
       omega (
         arith,
         none,
         sum-but-one (keptInRow kept c) (keptInRow kept new) r rows there
             (λ i l other.
-            ap (λ (x : Row). sumTo (λ k. kept (c .holding) (placeOf i k) (flowAt x k)) flows) (getD-set-other (c .table .rows) r i row past other)),
+            ap (λ (x : Row). sumTo (λ k. kept (c .holding) (placeOf i k) (flowAt x k)) flows) (getD-set-other (c .table .rows) r i row noRow other)),
       )
 
 -- an empty table keeps nothing
@@ -124,4 +122,4 @@ empty-keeps {m} {kept} w holding =
     sum-zero (keptInRow kept (emptyCard holding)) rows
     (λ i l.
     bare-row w (emptyCard holding) i
-    (rw (getD-replicate rows i closedRow (record { id = 0; kind = kind.Closed; flows = [] }) l) fresh-bare))
+    (rw (getD-replicate rows i closedRow noRow l) fresh-bare))

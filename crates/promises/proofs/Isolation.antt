@@ -13,8 +13,8 @@ use Rattle.octets.proofs.Counts.{sum-agree}
 use Rattle.refusal.specs.Refusal.{first}
 use Rattle.flow.specs.declared.Flow.{Flow}
 use Rattle.flow.specs.Flow.{flows}
-use Rattle.packet.specs.Header.{overIp, sub}
-use Rattle.table.specs.declared.Mode.{Mode}
+use Rattle.packet.specs.Header.{sub}
+use Rattle.table.specs.declared.Request.{Request}
 use Rattle.table.specs.Rows.{rows, rowAt, find, heldIn}
 use Rattle.table.specs.Calls.{closeRefusals, closed}
 use Rattle.table.proofs.Keeping as table
@@ -43,8 +43,8 @@ module _ (session : ℕ) (named : eqb session 0 ≡ false) where
       told session c calls ≡ toldAlone size a (own session calls)
   unfolding told own toldAlone
   told-by-itself [] c a size long g v = refl
-  told-by-itself (opens asked id ∷ more) c a size long g v =
-      let x = opens asked id in
+  told-by-itself (opens q ∷ more) c a size long g v =
+      let x = opens q in
       told-by-itself more (after c x) a size (holding-kept c x g ∙ long) (good-after c x g) (shown-still c x session a g v (λ k. refl) refl)
   told-by-itself (closes id ∷ more) c a size long g v =
       pick (λ d long′ g′ v′. told-by-itself more d a size long′ g′ v′) (eqb id session) refl
@@ -57,57 +57,57 @@ module _ (session : ℕ) (named : eqb session 0 ≡ false) where
       pick later false e =
           let x = closes id in
           later (after c x) (holding-kept c x g ∙ long) (good-after c x g) (shown-still c x session a g v (λ k. refl) e)
-  told-by-itself (hands packet out lens ∷ more) c a size long g v =
-      pick (λ d b long′ g′ v′. told-by-itself more d b size long′ g′ v′) (ofSession session packet) refl
+  told-by-itself (hands y ∷ more) c a size long g v =
+      pick (λ d b long′ g′ v′. told-by-itself more d b size long′ g′ v′) (ofSession session (y .packet)) refl
     where
       pick : ((d : Card) (b : Session) → length (d .holding) ≡ size → Good d → Shows d session b →
           told session d more ≡ toldAlone size b (own session more)) →
-          (b : Bool) → ofSession session packet ≡ b →
-          cond b (toldBy (answer c (hands packet out lens)) ∷ told session (after c (hands packet out lens)) more)
-          (told session (after c (hands packet out lens)) more)
-          ≡ toldAlone size a (cond b (gets packet (length out) (length lens) ∷ own session more) (own session more))
+          (b : Bool) → ofSession session (y .packet) ≡ b →
+          cond b (toldBy (answer c (hands y)) ∷ told session (after c (hands y)) more)
+          (told session (after c (hands y)) more)
+          ≡ toldAlone size a (cond b (gets (y .packet) (length (y .output)) (length (y .lengths)) ∷ own session more) (own session more))
       pick later true e =
-          let x = hands packet out lens in
-          let n = refusal size a packet (length out) (length lens) in
+          let x = hands y in
+          let n = refusal size a (y .packet) (length (y .output)) (length (y .lengths)) in
           let code : (answer c x) .code ≡ n =
-          code-alone c packet out lens session a g v e ∙ ap (λ (m : ℕ). refusal m a packet (length out) (length lens)) long in
-          let rest : told session (after c x) more ≡ toldAlone size (sessionAt n a (sub overIp packet)) (own session more) =
-          later (after c x) (sessionAt n a (sub overIp packet)) (holding-kept c x g ∙ long) (good-after c x g)
-          (shown-at c packet out lens session a g v e n code) in
-          rw (told-at c packet out lens session a g v e n code, rest) refl
+          code-alone c y session a g v e ∙ ap (λ (m : ℕ). refusal m a (y .packet) (length (y .output)) (length (y .lengths))) long in
+          let rest : told session (after c x) more ≡ toldAlone size (sessionAt n a (sub (y .packet))) (own session more) =
+          later (after c x) (sessionAt n a (sub (y .packet))) (holding-kept c x g ∙ long) (good-after c x g)
+          (shown-at c y session a g v e n code) in
+          rw (told-at c y session a g v e n code, rest) refl
       pick later false e =
-          let x = hands packet out lens in
+          let x = hands y in
           later (after c x) a (holding-kept c x g ∙ long) (good-after c x g) (shown-still c x session a g v (λ k. rw e refl) refl)
 
 -- From the open on: the session begins the same way in any card.
-module _ (session : ℕ) (asked : Mode) (holding : List ℕ) (before : List Call)
-    (z : (answer (cardAfter holding before) (opens asked session)) .code ≡ 0) where
+module _ (q : Request) (holding : List ℕ) (before : List Call)
+    (z : (answer (cardAfter holding before) (opens q)) .code ≡ 0) where
   good : Good (cardAfter holding before)
   good = good-all (emptyCard holding) before (good-empty holding)
 
-  named : eqb session 0 ≡ false
+  named : eqb (q .id) 0 ≡ false
   unfolding answer
-  named = table.opens ((cardAfter holding before) .table) session (sym (table.opened-code ((cardAfter holding before) .table) session asked) ∙ z) .named
+  named = table.opens ((cardAfter holding before) .table) q (sym (table.opened-code ((cardAfter holding before) .table) q) ∙ z) .named
 
   told-since : (calls : List Call) →
-      told session (after (cardAfter holding before) (opens asked session)) calls ≡ toldAlone (length holding) (begun asked) (own session calls)
+      told (q .id) (after (cardAfter holding before) (opens q)) calls ≡ toldAlone (length holding) (begun q) (own (q .id) calls)
   told-since calls =
-      let x = opens asked session in
-      told-by-itself session named calls (after (cardAfter holding before) x) (begun asked) (length holding)
+      let x = opens q in
+      told-by-itself (q .id) named calls (after (cardAfter holding before) x) (begun q) (length holding)
       (holding-kept (cardAfter holding before) x good ∙ holding-kept-all (emptyCard holding) before (good-empty holding))
-      (good-after (cardAfter holding before) x good) (shown-begun (cardAfter holding before) session asked good z)
+      (good-after (cardAfter holding before) x good) (shown-begun (cardAfter holding before) q good z)
 
 pub isolation : Isolation
-isolation session asked holding holding′ before before′ calls calls′ long z z′ same =
-    let since : toldAlone (length holding) (begun asked) (own session calls) ≡ toldAlone (length holding′) (begun asked) (own session calls′) =
+isolation q holding holding′ before before′ calls calls′ long z z′ same =
+    let since : toldAlone (length holding) (begun q) (own (q .id) calls) ≡ toldAlone (length holding′) (begun q) (own (q .id) calls′) =
     rw (long, same) refl in
-    told-since session asked holding before z calls ∙ since ∙ sym (told-since session asked holding′ before′ z′ calls′)
+    told-since q holding before z calls ∙ since ∙ sym (told-since q holding′ before′ z′ calls′)
 
 -- An open: no card that calls can have come to is broken, and so the open IDs decide.
 pub open-by-ids : OpenByIds
 unfolding answer
-open-by-ids session asked holding holding′ before before′ same =
+open-by-ids q holding holding′ before before′ same =
     let g = good-all (emptyCard holding) before (good-empty holding) in
     let g′ = good-all (emptyCard holding′) before′ (good-empty holding′) in
-    opens-by-ids ((cardAfter holding before) .table) ((cardAfter holding′ before′) .table) session asked
+    opens-by-ids ((cardAfter holding before) .table) ((cardAfter holding′ before′) .table) q
     (g .shaped .six) (g′ .shaped .six) (g .whole) (g′ .whole) same

@@ -8,12 +8,13 @@ use lib.ListN.{length}
 use Rattle.octets.specs.Each.{Each}
 use Rattle.octets.specs.Stretch.{part, rest, put, joined, lengths, cutBy}
 use Rattle.octets.proofs.Stretches.{length-lengths, part-none, part-put, put-front, cut-joined}
-use Rattle.packet.specs.Header.{overIp, sub}
+use Rattle.packet.specs.Header.{Packet, sub}
 use Rattle.table.specs.declared.Table.{Table}
-use Rattle.join.specs.Slices.{Slices, asSlices}
+use Rattle.table.specs.Rows.{termsAt}
+use Rattle.join.specs.Slices.{Slices}
 use Rattle.card.specs.Hear.{hear, judgedOf}
-use Rattle.card.specs.Receive.{rowOf, toDmpt, flowOf, heldBy, heardBy, carriedOut, refused, received, framesFound}
-use Rattle.card.specs.History.{opens, closes, hands, answer}
+use Rattle.card.specs.Receive.{rowOf, flowOf, heldBy, heardBy, carriedOut, refused, received, framesFound}
+use Rattle.card.specs.History.{opens, closes, hands, lentWith, answer}
 use Rattle.card.proofs.Hearing.{large-enough}
 use Rattle.card.proofs.Accepted.{accepted, received-accepted, received-refused}
 use Rattle.card.proofs.Limits as card-limits
@@ -37,37 +38,36 @@ unfolding cutBy
 none-found lens out = rw (part-none lens 0) refl
 
 -- The frames that the caller of the data call finds.
-sized-by : (c lead : ℕ) (t : Table) (packet : List ℕ) (s : Slices) → received lead t packet s .answer .code ≡ c →
-    Each Sized (framesIn (received lead t packet s))
+sized-by : (c : ℕ) (t : Table) (packet : Packet) (s : Slices) → received t packet s .answer .code ≡ c →
+    Each Sized (framesIn (received t packet s))
 unfolding carriedOut refused hear
-sized-by zero lead t packet s e =
-    let a = accepted lead t packet s e in
-    let b = card-limits.accepted-bounded lead t packet s a in
-    let r = rowOf lead t packet in
-    let after = sub lead packet in
+sized-by zero t packet s e =
+    let a = accepted t packet s e in
+    let b = card-limits.accepted-bounded t packet s a in
+    let r = rowOf t packet in
+    let after = sub packet in
     let frames = heardBy t r after s .fate .delivered in
     let found : framesFound (length frames) (put (s .lengths) 0 (lengths frames)) (put (s .output) 0 (joined frames)) ≡ frames =
     frames-back frames (s .lengths) (s .output) (omega (arith, b .frames-few, large-enough s (a .large) .lengths-enough)) in
-    rw (received-accepted lead t packet s e, found)
-    (packet-sized (toDmpt t r) (judgedOf (flowOf t r after) after .gap) (heldBy t r after s) after (a .passed))
-sized-by (suc c) lead t packet s e = rw (received-refused lead t packet s c e, none-found (s .lengths) (s .output)) tt
+    rw (received-accepted t packet s e, found)
+    (packet-sized (termsAt t r) (judgedOf (flowOf t r after) after .gap) (heldBy t r after s) after (omega arith) (a .passed))
+sized-by (suc c) t packet s e = rw (received-refused t packet s c e, none-found (s .lengths) (s .output)) tt
 
-pub found-sized : (lead : ℕ) (t : Table) (packet : List ℕ) (s : Slices) → Each Sized (framesIn (received lead t packet s))
-found-sized lead t packet s = sized-by (received lead t packet s .answer .code) lead t packet s refl
+pub found-sized : (t : Table) (packet : Packet) (s : Slices) → Each Sized (framesIn (received t packet s))
+found-sized t packet s = sized-by (received t packet s .answer .code) t packet s refl
 
 -- Every call. An open and a close deliver nothing.
 pub within-limits : WithinLimits
 unfolding answer
-within-limits c (opens asked id) =
+within-limits c (opens q) =
     record { frames-few = omega arith; bytes-few = omega arith; gap-small = omega arith; frames-sized = rw (none-found [] []) tt }
 within-limits c (closes id) =
     record { frames-few = omega arith; bytes-few = omega arith; gap-small = omega arith; frames-sized = rw (none-found [] []) tt }
-within-limits c (hands packet out lens) =
-    let s = asSlices (c .holding) out lens in
-    let l = card-limits.within-limits overIp (c .table) packet s in
+within-limits c (hands a) =
+    let l = card-limits.within-limits (c .table) (a .packet) (lentWith c a) in
     record {
       frames-few = l .most-frames;
       bytes-few = l .most-bytes;
       gap-small = l .most-gap;
-      frames-sized = found-sized overIp (c .table) packet s;
+      frames-sized = found-sized (c .table) (a .packet) (lentWith c a);
     }

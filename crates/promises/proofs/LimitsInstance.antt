@@ -1,5 +1,6 @@
 -- Closed instances of the limits and of refusals: a call that delivers 127 frames, one that delivers the longest frame and more, and refused calls. It cites definitions
 -- alone, so that it can be held against wrong ones.
+use Rattle.packet.specs.Header.{ip}
 use Prim.Native.Nat.{ℕ, zero, suc}
 use mathlib.Core.Path.{_≡_, refl}
 use mathlib.Core.List.{List, [], _∷_, _++_}
@@ -16,7 +17,7 @@ use Rattle.join.specs.Join.{settledBy, settled, fateBy, fate, atGap, inOrder, p
 use Rattle.card.specs.Hear.{hear}
 use Rattle.card.specs.Receive.{carriedOut, refused, receivedBy, received}
 use Rattle.card.specs.History.{Call, opens, closes, hands, framesOf, answer, after}
-use Rattle.promises.specs.Marked.{A, B, beginning, hand, handed-card, opened-card}
+use Rattle.promises.specs.Marked.{asking, A, B, beginning, hand, handed-card, opened-card}
 
 -- 127 whole frames of one byte in one packet, which is all that the count can say
 abbrev entries : ℕ → List ℕ
@@ -40,14 +41,14 @@ within-limits-instance = (refl, refl, refl, refl)
 
 -- a packet that comes again, one for a session that is not open, an open of an open session, a close of a closed one: the slices are as they were lent
 abbrev lent : List ℕ → Call
-lent packet = hands packet (replicate 6144 6) (replicate 127 7)
+lent packet = hands (record { packet = ip packet; output = replicate 6144 6; lengths = replicate 127 7 })
 
 refusals-instance : ((answer (handed-card opened-card (A ∷ B ∷ [])) (lent B)) .code ≡ 12)
     × ((answer (handed-card opened-card (A ∷ B ∷ [])) (lent B)) .output ≡ replicate 6144 6)
     × ((answer (handed-card opened-card (A ∷ B ∷ [])) (lent B)) .lengths ≡ replicate 127 7)
-    × ((answer opened-card (opens mode.Psp 0x101)) .code ≡ 22)
+    × ((answer opened-card (opens (asking mode.Psp 0x101))) .code ≡ 22)
     × ((answer opened-card (closes 0x102)) .code ≡ 25)
-    × ((after opened-card (opens mode.Psp 0x101)) .table ≡ opened-card .table)
+    × ((after opened-card (opens (asking mode.Psp 0x101))) .table ≡ opened-card .table)
     × ((after opened-card (closes 0x102)) .table ≡ opened-card .table)
 unfolding part rest put joined lengths cutBy any least sumTo upTo ahead next bodyAt segmentAt segments wanted broken opened closed settledBy settled fateBy fate atGap inOrder pspFate hear carriedOut refused receivedBy received answer after handed-card
 refusals-instance = (refl, refl, refl, refl, refl, refl, refl)

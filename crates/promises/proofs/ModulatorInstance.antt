@@ -1,5 +1,7 @@
 -- A closed instance of `core-to-modulator`: the premises are met, and the conclusion is computed. It cites definitions alone, so that it can be held
 -- against wrong ones.
+use Rattle.table.specs.declared.Kind.the-variants as kind
+use Rattle.promises.specs.Marked.{asking}
 use Prim.Native.Nat.{ℕ, zero, suc, _+_, _<_, _≤_}
 use mathlib.Core.Path.{_≡_, refl, subst}
 use mathlib.Core.Bool.{true, false}
@@ -14,7 +16,7 @@ use Rattle.flow.specs.Numbers.{ahead, next, numberAt}
 use Rattle.packet.specs.Segments.{bodyAt, segmentAt, segments}
 use Rattle.packet.specs.Psp.{wanted}
 use Rattle.packet.specs.Check.{checkRefusals, check}
-use Rattle.packet.specs.Header.{overIp, sub, number}
+use Rattle.packet.specs.Header.{Packet, ip, sub, number}
 use Rattle.table.specs.declared.Mode.the-variants as mode
 use Rattle.table.specs.Broken.{broken}
 use Rattle.table.specs.Calls.{opened, closed}
@@ -22,7 +24,7 @@ use Rattle.join.specs.Join.{settledBy, settled, fateBy, fate, atGap, inOrder, p
 use Rattle.card.specs.Hear.{hear}
 use Rattle.card.specs.Receive.{carriedOut, refused, receivedBy, received}
 use Rattle.card.specs.History.{Call, opens, hands, answer, after, afterAll, emptyCard}
-use Rattle.sender.specs.Rules.{Pieces, wholeFrame, begunFrame, inTurn, allSegments, KeepsRules}
+use Rattle.sender.specs.Rules.{Pieces, packetAt, wholeFrame, begunFrame, inTurn, allSegments, KeepsRules}
 use Rattle.mpeg.specs.Packet.{nullPacket, same, allFill, none}
 use Rattle.mpeg.specs.Frame.{good, mayBegin, Good}
 use Rattle.mpeg.specs.Write.{leftAt, packetOf, carried, countAfter}
@@ -36,8 +38,8 @@ use Rattle.promises.specs.Modulator.{Modulation, leaves, MayTravel}
 abbrev to-101 : List ℕ → List ℕ
 to-101 behind = 0x00 ∷ 0x00 ∷ 0x01 ∷ 0x01 ∷ behind
 
-abbrev hand : List ℕ → Call
-hand packet = hands packet (replicate 6144 0) (replicate 127 0)
+abbrev hand : Packet → Call
+hand packet = hands (record { packet = packet; output = replicate 6144 0; lengths = replicate 127 0 })
 
 room : (6144 ≤ length {A = ℕ} (replicate 6144 0)) × (127 ≤ length {A = ℕ} (replicate 127 0))
 room = (omega (arith, length-replicate {A = ℕ} 6144 0), omega (arith, length-replicate {A = ℕ} 127 0))
@@ -52,14 +54,14 @@ seven = 0xC0 ∷ 0x01 ∷ 0x00 ∷ 0x01 ∷ 0xC1 ∷ 0xFF ∷ 0xC3 ∷ []
 abbrev pub frames : List Pieces
 frames = (six ∷ []) ∷ ((0x00 ∷ 0x00 ∷ 0x00 ∷ []) ∷ (0x02 ∷ 0xB1 ∷ 0xB2 ∷ 0xB3 ∷ 0xB4 ∷ []) ∷ []) ∷ (seven ∷ []) ∷ []
 
-abbrev pub packets : List (List ℕ)
+abbrev pub packets : List Packet
 packets =
-    to-101 (0x41 ∷ 0x02 ∷ 0xFF ∷ 0xFF ∷ 0xC0 ∷ 0x06 ∷ 0x80 ∷ 0x03 ∷ six ++ (0x00 ∷ 0x00 ∷ 0x00 ∷ []))
-    ∷ to-101 (0x41 ∷ 0x01 ∷ 0x00 ∷ 0x00 ∷ 0x40 ∷ 0x05 ∷ 0x02 ∷ 0xB1 ∷ 0xB2 ∷ 0xB3 ∷ 0xB4 ∷ [])
-    ∷ to-101 (0x41 ∷ 0x01 ∷ 0x00 ∷ 0x01 ∷ 0xC0 ∷ 0x07 ∷ seven)
+    ip (to-101 (0x41 ∷ 0x02 ∷ 0xFF ∷ 0xFF ∷ 0xC0 ∷ 0x06 ∷ 0x80 ∷ 0x03 ∷ six ++ (0x00 ∷ 0x00 ∷ 0x00 ∷ [])))
+    ∷ ip (to-101 (0x41 ∷ 0x01 ∷ 0x00 ∷ 0x00 ∷ 0x40 ∷ 0x05 ∷ 0x02 ∷ 0xB1 ∷ 0xB2 ∷ 0xB3 ∷ 0xB4 ∷ []))
+    ∷ ip (to-101 (0x41 ∷ 0x01 ∷ 0x00 ∷ 0x01 ∷ 0xC0 ∷ 0x07 ∷ seven))
     ∷ []
 
-pub keeps : KeepsRules 0x101 1 0xFFFF frames [] packets
+pub keeps : KeepsRules (record { session = 0x101; flow = 1; start = 0xFFFF }) frames [] packets
 unfolding part rest joined any sumTo upTo bodyAt segmentAt segments wanted check checkRefusals numberAt wholeFrame begunFrame inTurn allSegments
 keeps =
     record {
@@ -70,27 +72,27 @@ keeps =
       in-order = refl;
     }
   where
-    counts : (i : ℕ) → i < 3 → number (sub overIp (getD packets i [])) ≡ numberAt 0xFFFF i
+    counts : (i : ℕ) → i < 3 → number (sub (packetAt packets i)) ≡ numberAt 0xFFFF i
     counts zero l = refl
     counts (suc zero) l = refl
     counts (suc (suc zero)) l = refl
     counts (suc (suc (suc i))) l = absurd (omega arith)
 
 abbrev pub sending : Sending
-sending = record { session = 0x101; flow = 1; start = 0xFFFF; frames = frames; unfinished = []; packets = packets; keeps-rules = keeps }
+sending = record { line = record { session = 0x101; flow = 1; start = 0xFFFF }; frames = frames; unfinished = []; packets = packets; keeps-rules = keeps }
 
 abbrev pub calls : List Call
-calls = hand (getD packets 0 []) ∷ hand (getD packets 2 []) ∷ []
+calls = hand (packetAt packets 0) ∷ hand (packetAt packets 2) ∷ []
 
-pub opens-now : (answer (afterAll (emptyCard (replicate 49152 0)) []) (opens mode.Psp 0x101)) .code ≡ 0
+pub opens-now : (answer (afterAll (emptyCard (replicate 49152 0)) []) (opens (asking mode.Psp 0x101))) .code ≡ 0
 unfolding any least sumTo upTo broken opened answer after afterAll
 opens-now = refl
 
-pub only-these : packetsTo 0x101 1 calls ≡ map (λ x. getD packets x []) (0 ∷ 2 ∷ [])
+pub only-these : packetsTo kind.Psp 0x101 1 calls ≡ map (packetAt packets) (0 ∷ 2 ∷ [])
 unfolding rest packetsTo
 only-these = refl
 
-pub long-enough : LongEnough 0x101 1 (replicate 49152 0) calls
+pub long-enough : LongEnough kind.Psp 0x101 1 (replicate 49152 0) calls
 unfolding rest
 long-enough = (omega (arith, length-replicate {A = ℕ} 49152 0), ((λ e. room), ((λ e. room), tt)))
 

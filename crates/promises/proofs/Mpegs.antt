@@ -12,16 +12,18 @@ use Rattle.octets.specs.Each.{Each}
 use Rattle.octets.proofs.Stretches.{put-nil}
 use Rattle.octets.proofs.Elements.{each-up-to}
 use Rattle.flow.specs.declared.Flow.{Flow}
-use Rattle.packet.specs.Header.{overIp, headerLength, sub, sSet, number, flowId}
+use Rattle.packet.specs.Header.{Packet, headerLength, sub, sSet, number}
 use Rattle.packet.specs.Dmpt.{mpegLength, mpegCount, mpegAt, mpegs, pid, nullPid}
 use Rattle.packet.proofs.Passing.{mpeg-inside}
 use Rattle.table.specs.declared.Table.{Table}
+use Rattle.table.specs.Rows.{isDmpt, rowAt, termsAt}
 use Rattle.join.specs.Join.{Fate, delivering, dropping, keeping, andThen, mpegFate, inOrder, dmptFate}
-use Rattle.join.specs.Slices.{Slices, asSlices}
+use Rattle.join.specs.Slices.{Slices}
 use Rattle.join.proofs.Carrying.{mpeg-length, dmpt-header, dmpt-holds-none}
 use Rattle.card.specs.Hear.{judgedBy, hear}
-use Rattle.card.specs.Receive.{placeOf, rowOf, toDmpt, flowOf, heardBy, packetRefusals, carriedOut, received}
-use Rattle.card.specs.History.{answer, after}
+use Rattle.card.specs.Receive.{placeOf, rowOf, flowTo, flowOf, heardBy, carriedOut, received}
+use Rattle.card.specs.History.{lentWith, answer, after}
+use Rattle.card.proofs.ByKind.{refusals-dmpt}
 use Rattle.card.proofs.Hearing.{large-enough}
 use Rattle.card.proofs.Accepted.{Accepted, accepted, received-accepted}
 use Rattle.card.proofs.Keeping.{clear-leaves}
@@ -75,29 +77,29 @@ no-gap true f n clear = absurd (true≢false clear)
 no-gap false f n clear = refl
 
 -- The data call.
-pub record Carried (t : Table) (packet : List ℕ) (s : Slices) : Type 0 where
-  pub frames-are : framesIn (received overIp t packet s) ≡ carrying (mpegs (sub overIp packet))
-  pub dropped-are : (received overIp t packet s) .answer .dropped ≡ mpegLength * length (nulls (mpegs (sub overIp packet)))
-  pub holds-nothing : (received overIp t packet s) .slices .holding ≡ s .holding
-  pub no-number : sSet (sub overIp packet) ≡ false → (received overIp t packet s) .answer .gap ≡ 0
+pub record Carried (t : Table) (packet : Packet) (s : Slices) : Type 0 where
+  pub frames-are : framesIn (received t packet s) ≡ carrying (mpegs (sub packet))
+  pub dropped-are : (received t packet s) .answer .dropped ≡ mpegLength * length (nulls (mpegs (sub packet)))
+  pub holds-nothing : (received t packet s) .slices .holding ≡ s .holding
+  pub no-number : sSet (sub packet) ≡ false → (received t packet s) .answer .gap ≡ 0
 
-module _ (t : Table) (packet : List ℕ) (s : Slices) (d : toDmpt t (rowOf overIp t packet) ≡ true) (z : (received overIp t packet s) .answer .code ≡ 0) where
+module _ (t : Table) (packet : Packet) (s : Slices) (d : isDmpt (rowAt t (rowOf t packet) .kind) ≡ true) (z : (received t packet s) .answer .code ≡ 0) where
   abbrev row : ℕ
-  row = rowOf overIp t packet
+  row = rowOf t packet
 
   abbrev behind : List ℕ
-  behind = sub overIp packet
+  behind = sub packet
 
-  here : Accepted overIp t packet s
-  here = accepted overIp t packet s z
+  here : Accepted t packet s
+  here = accepted t packet s z
 
   header : headerLength ≤ length behind
-  header = dmpt-header behind (sym (ap (λ (b : Bool). first (packetRefusals b behind)) d) ∙ here .passed)
+  header = dmpt-header behind (sym (refusals-dmpt (termsAt t row) behind d) ∙ here .passed)
 
   -- what becomes of it
   its-fate : heardBy t row behind s .fate ≡ dmptFate [] (mpegs behind)
   unfolding hear
-  its-fate = rw (d, held-none overIp t packet s here d) refl
+  its-fate = rw (d, held-none t packet s here d) refl
 
   delivered-are : (dmptFate [] (mpegs behind)) .delivered ≡ carrying (mpegs behind)
   unfolding dmptFate
@@ -111,23 +113,22 @@ module _ (t : Table) (packet : List ℕ) (s : Slices) (d : toDmpt t (rowOf overI
   unfolding carriedOut hear
   carried =
       let frames = heardBy t row behind s .fate .delivered in
-      let room : length frames ≤ length (s .lengths) = omega (arith, accepted-bounded overIp t packet s here .frames-few, large-enough s (here .large) .lengths-enough) in
-      let step = received-accepted overIp t packet s z in
+      let room : length frames ≤ length (s .lengths) = omega (arith, accepted-bounded t packet s here .frames-few, large-enough s (here .large) .lengths-enough) in
+      let step = received-accepted t packet s z in
       record {
         frames-are = rw step (frames-back frames (s .lengths) (s .output) room ∙ ap (λ (f : Fate). f .delivered) its-fate ∙ delivered-are);
         dropped-are = rw step (ap (λ (f : Fate). length (f .dropped)) its-fate ∙ dropped-count);
-        holds-nothing = rw (step, its-fate, dmpt-holds-none behind header) (put-nil (s .holding) (placeOf row (flowId behind)));
+        holds-nothing = rw (step, its-fate, dmpt-holds-none behind header) (put-nil (s .holding) (placeOf row (flowTo t row behind)));
         no-number = λ clear. rw step (no-gap (sSet behind) (flowOf t row behind) (number behind) clear);
       }
 
 pub dmpt-delivers : DmptDelivers
 unfolding answer after
-dmpt-delivers c packet out lens d z =
-    let s = asSlices (c .holding) out lens in
-    let r = carried (c .table) packet s d z in
+dmpt-delivers c a d z =
+    let r = carried (c .table) (a .packet) (lentWith c a) d z in
     record {
       frames-are = r .frames-are;
       dropped-are = r .dropped-are;
       holds-nothing = r .holds-nothing;
-      without-number = λ clear. (r .no-number clear, clear-leaves overIp (c .table) packet s z clear);
+      without-number = λ clear. (r .no-number clear, clear-leaves (c .table) (a .packet) (lentWith c a) z clear);
     }

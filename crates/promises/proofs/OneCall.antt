@@ -5,21 +5,20 @@ use mathlib.Core.Bool.{cond, not}
 use mathlib.Core.List.{List, []}
 use native.Mathlib.Omega.{arith}
 use lib.Dec.{eqb}
-use borrow.Author.Tests.{eq-eqb, ne-eqb, ltb-true, leb-false, not-false}
+use borrow.Author.Tests.{eq-eqb, ne-eqb, ltb-true, not-false}
 use Rattle.refusal.specs.Refusal.{first}
 use Rattle.refusal.proofs.Laws.{none-applies}
 use Rattle.octets.specs.Stretch.{joined}
 use Rattle.octets.proofs.Counts.{or-false-left, least-passes}
 use Rattle.flow.specs.declared.Flow.{Flow}
-use Rattle.packet.specs.Header.{overIp, sub}
-use Rattle.table.specs.declared.Mode.{Mode}
-use Rattle.table.specs.Rows.{rows, find, freeIn, lowestFree, closedRow}
+use Rattle.packet.specs.Header.{Packet, sub}
+use Rattle.table.specs.declared.Request.{Request}
+use Rattle.table.specs.Rows.{rows, rowAt, find, freeIn, lowestFree, closedRow}
 use Rattle.table.specs.Calls.{isOpen, freshRow, openRefusals, openedBy, opened, closeRefusals, closedBy, closed}
-use Rattle.table.proofs.Keeping.{flows-whole}
+use Rattle.table.proofs.Keeping.{flows-whole, opens as opens-there}
 use Rattle.join.specs.Join.{Fate}
-use Rattle.join.specs.Slices.{asSlices}
-use Rattle.card.specs.Receive.{Outcome, rowOf, toDmpt, heardBy, framesFound, refused, received}
-use Rattle.card.specs.History.{Card, Call, opens, closes, hands, answer, after}
+use Rattle.card.specs.Receive.{Outcome, rowOf, heardBy, framesFound, refused}
+use Rattle.card.specs.History.{Card, Arrival, Call, opens, closes, hands, lentWith, handed, answer, after}
 use Rattle.card.proofs.Accepted.{received-refused}
 use Rattle.card.proofs.Step.{framesIn, none-found}
 use Rattle.promises.specs.Account.{takenBy, deliveredBy, droppedBy, packetBody}
@@ -29,9 +28,9 @@ use Rattle.promises.proofs.OnePacket.{packet-balances}
 
 -- what a call drops: a close all that its row keeps, a packet what the rules say
 abbrev pub droppedIn : (List ℕ → ℕ) → (List ℕ → ℕ → Flow → ℕ) → Card → Call → ℕ
-droppedIn m kept c (opens asked id) = 0
+droppedIn m kept c (opens q) = 0
 droppedIn m kept c (closes id) = cond (eqb ((answer c (closes id)) .code) 0) (keptInRow kept c (find (c .table) id)) 0
-droppedIn m kept c (hands packet out lens) = m (droppedBy c (hands packet out lens))
+droppedIn m kept c (hands a) = m (droppedBy c (hands a))
 
 abbrev pub Balances : (List ℕ → ℕ) → (List ℕ → ℕ → Flow → ℕ) → Card → Call → Type 0
 Balances m kept c x = m (takenBy c x) + keptInAll kept c ≡ m (deliveredBy c x) + droppedIn m kept c x + keptInAll kept (after c x)
@@ -50,18 +49,18 @@ no-frames lens out = ap joined (none-found lens out)
 
 module _ {m : List ℕ → ℕ} {kept : List ℕ → ℕ → Flow → ℕ} (w : Keeps m kept) (c : Card) (good : Good c) where
   -- Opening takes a free row, and a free row of a table that is not broken holds nothing.
-  opens-by : (n : ℕ) (asked : Mode) (id : ℕ) → first (openRefusals (c .table) id) ≡ n →
-      keptInAll kept (record { table = openedBy n (c .table) id asked .table; holding = c .holding }) ≡ keptInAll kept c
-  opens-by zero asked id e =
+  opens-by : (n : ℕ) (q : Request) → first (openRefusals (c .table) q) ≡ n →
+      keptInAll kept (record { table = openedBy n (c .table) q .table; holding = c .holding }) ≡ keptInAll kept c
+  opens-by zero q e =
       let r = lowestFree (c .table) in
-      let there : r < rows = leb-false rows r (none-applies (openRefusals (c .table) id) refl e .1 .1 .1 .0) in
+      let there : r < rows = opens-there (c .table) q e .room in
       let free = least-passes (freeIn (c .table)) rows there in
       omega (
         arith,
-        row-replaced w c r (freshRow id asked) (good .shaped) there fresh-bare,
+        row-replaced w c r (freshRow q) (good .shaped) there fresh-bare,
         bare-row w c r (λ k l. flows-whole (c .table) (good .whole) r k there l .bare free .2),
       )
-  opens-by (suc n) asked id e = refl
+  opens-by (suc n) q e = refl
 
   -- Closing drops what its row keeps.
   closes-by : (n : ℕ) (id : ℕ) → first (closeRefusals (c .table) id) ≡ n →
@@ -76,34 +75,37 @@ module _ {m : List ℕ → ℕ} {kept : List ℕ → ℕ → Flow → ℕ} (w : 
   closes-by (suc n) id e = omega (arith, when-refused (suc n) (λ d. omega arith) (keptInRow kept c (find (c .table) id)) 0)
 
   -- A packet.
-  module _ (packet out lens : List ℕ) where
+  module _ (a : Arrival) where
+    abbrev packet : Packet
+    packet = a .packet
+
     abbrev outcome : Outcome
-    outcome = received overIp (c .table) packet (asSlices (c .holding) out lens)
+    outcome = handed c a
 
     abbrev row : ℕ
-    row = rowOf overIp (c .table) packet
+    row = rowOf (c .table) packet
 
     abbrev body : List ℕ
-    body = packetBody (toDmpt (c .table) row) (sub overIp packet)
+    body = packetBody (rowAt (c .table) row .kind) (sub packet)
 
     abbrev fate : Fate
-    fate = heardBy (c .table) row (sub overIp packet) (asSlices (c .holding) out lens) .fate
+    fate = heardBy (c .table) row (sub packet) (lentWith c a) .fate
 
-    hands-by : (n : ℕ) → outcome .answer .code ≡ n → Balances m kept c (hands packet out lens)
+    hands-by : (n : ℕ) → outcome .answer .code ≡ n → Balances m kept c (hands a)
     unfolding answer after refused
     hands-by zero e =
         omega (
           arith,
-          packet-balances w c good packet out lens e,
+          packet-balances w c good a e,
           ap m (when-accepted (outcome .answer .code) e body []),
           ap m (when-accepted (outcome .answer .code) e (fate .dropped) []),
         )
     hands-by (suc n) e =
-        let same = received-refused overIp (c .table) packet (asSlices (c .holding) out lens) n e in
+        let same = received-refused (c .table) packet (lentWith c a) n e in
         let some : outcome .answer .code ≡ 0 → ⊥ = λ z. omega arith in
         omega (
           arith,
-          ap m (no-frames lens out),
+          ap m (no-frames (a .lengths) (a .output)),
           w .measure .none,
           ap m (when-refused (outcome .answer .code) some body []),
           ap m (when-refused (outcome .answer .code) some (fate .dropped) []),
@@ -113,8 +115,8 @@ module _ {m : List ℕ → ℕ} {kept : List ℕ → ℕ → Flow → ℕ} (w : 
 
   pub call-balances : (x : Call) → Balances m kept c x
   unfolding answer after opened closed
-  call-balances (opens asked id) =
-      omega (arith, opens-by (first (openRefusals (c .table) id)) asked id refl, ap m (no-frames [] []), w .measure .none)
+  call-balances (opens q) =
+      omega (arith, opens-by (first (openRefusals (c .table) q)) q refl, ap m (no-frames [] []), w .measure .none)
   call-balances (closes id) =
       omega (arith, closes-by (first (closeRefusals (c .table) id)) id refl, ap m (no-frames [] []), w .measure .none)
-  call-balances (hands packet out lens) = hands-by packet out lens (received overIp (c .table) packet (asSlices (c .holding) out lens) .answer .code) refl
+  call-balances (hands a) = hands-by a (handed c a .answer .code) refl

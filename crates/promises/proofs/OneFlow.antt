@@ -6,10 +6,11 @@ use mathlib.Core.Path.{_≡_, ap, _∙_}
 use mathlib.Core.Bool.{true}
 use mathlib.Core.List.{List, [], _++_, map}
 use native.Mathlib.Omega.{arith}
-use lib.ListN.{length, getD}
+use lib.ListN.{length}
 use Rattle.octets.specs.Each.{Each}
 use Rattle.flow.specs.Flow.{fresh}
-use Rattle.sender.specs.Rules.{Pieces, inTurn, begunFrame, KeepsRules}
+use Rattle.packet.specs.Header.{Packet}
+use Rattle.sender.specs.Rules.{Pieces, inTurn, begunFrame, Line, packetAt, KeepsRules}
 use Rattle.promises.specs.Arrivals.{Window, Whole, Kept, inTime, placesFrom}
 use Rattle.promises.proofs.Alone.{framesAlone}
 use Rattle.promises.proofs.Passed.{all-some, pieces-filled, judged-by-place}
@@ -19,22 +20,22 @@ use Rattle.promises.proofs.Arrivals.{window-along}
 use Rattle.promises.proofs.Places.{along-segments, places-length}
 use Rattle.promises.proofs.Survivors.{survivors-kept}
 
-module _ (session flow start : ℕ) (frames : List Pieces) (unfinished : Pieces) (packets : List (List ℕ)) (arrivals : List ℕ)
-    (rules : KeepsRules session flow start frames unfinished packets) where
+module _ (line : Line) (frames : List Pieces) (unfinished : Pieces) (packets : List Packet) (arrivals : List ℕ)
+    (rules : KeepsRules line frames unfinished packets) where
   places-enough : length (inTurn frames ++ begunFrame true unfinished) ≤ length (placesFrom 0 packets)
   places-enough = omega (arith, places-length 0 packets, ap length (rules .in-order))
 
   flow-survivors : Each (λ x. x < length packets) arrivals → Window arrivals →
-      framesAlone fresh [] (map (λ x. getD packets x []) arrivals) ≡ survivors (inTime arrivals) frames (placesFrom 0 packets)
+      framesAlone fresh [] (map (packetAt packets) arrivals) ≡ survivors (inTime arrivals) frames (placesFrom 0 packets)
   flow-survivors sent window =
-      window-along start packets (judged-by-place session flow start frames unfinished packets rules) arrivals sent window
+      window-along (line .start) packets (judged-by-place line frames unfinished packets rules) arrivals sent window
       ∙ along-segments (inTime arrivals) 0 [] packets (all-some packets (rules .passing))
       ∙ ap (walk (inTime arrivals) [] (placesFrom 0 packets)) (rules .in-order)
       ∙ frames-survive (inTime arrivals) frames unfinished (placesFrom 0 packets) (rules .sizes)
-      (pieces-filled session flow start frames unfinished packets rules) places-enough
+      (pieces-filled line frames unfinished packets rules) places-enough
 
-pub flow-demand : (session flow start : ℕ) (frames : List Pieces) (unfinished : Pieces) (packets : List (List ℕ)) (arrivals : List ℕ) →
-    KeepsRules session flow start frames unfinished packets → Each (λ x. x < length packets) arrivals → Window arrivals →
-    Kept (Whole arrivals frames packets) 0 frames (framesAlone fresh [] (map (λ x. getD packets x []) arrivals))
-flow-demand session flow start frames unfinished packets arrivals rules sent window =
-    rw (flow-survivors session flow start frames unfinished packets arrivals rules sent window) (survivors-kept arrivals frames packets)
+pub flow-demand : (line : Line) (frames : List Pieces) (unfinished : Pieces) (packets : List Packet) (arrivals : List ℕ) →
+    KeepsRules line frames unfinished packets → Each (λ x. x < length packets) arrivals → Window arrivals →
+    Kept (Whole arrivals frames packets) 0 frames (framesAlone fresh [] (map (packetAt packets) arrivals))
+flow-demand line frames unfinished packets arrivals rules sent window =
+    rw (flow-survivors line frames unfinished packets arrivals rules sent window) (survivors-kept arrivals frames packets)

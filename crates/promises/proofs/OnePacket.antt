@@ -12,14 +12,14 @@ use Rattle.octets.specs.Stretch.{joined}
 use Rattle.octets.proofs.Counts.{true-or-false}
 use Rattle.flow.specs.declared.Flow.{Flow}
 use Rattle.flow.specs.Flow.{flows}
-use Rattle.packet.specs.Header.{overIp, sub, flowId}
+use Rattle.packet.specs.Header.{Packet, sub}
 use Rattle.table.specs.declared.Row.{Row}
-use Rattle.table.specs.Rows.{rows, rowAt, flowAt}
+use Rattle.table.specs.Rows.{rows, rowAt, flowAt, termsAt}
 use Rattle.table.proofs.Keeping.{flows-whole}
-use Rattle.join.specs.Slices.{Slices, asSlices}
+use Rattle.join.specs.Slices.{Slices}
 use Rattle.card.specs.Hear.{Heard, recordAfter}
-use Rattle.card.specs.Receive.{Outcome, placeOf, rowOf, toDmpt, flowOf, heldBy, heardBy, received}
-use Rattle.card.specs.History.{Card}
+use Rattle.card.specs.Receive.{Outcome, placeOf, rowOf, flowTo, flowOf, heldBy, heardBy, received}
+use Rattle.card.specs.History.{Card, Arrival, lentWith}
 use Rattle.card.proofs.Hearing.{large-enough}
 use Rattle.card.proofs.Accepted.{Accepted, accepted, flow-there}
 use Rattle.card.proofs.Limits.{accepted-bounded, held-none}
@@ -29,24 +29,27 @@ use Rattle.promises.proofs.Good.{Good}
 use Rattle.promises.proofs.Fates.{tells, heard-tells}
 use Rattle.promises.proofs.Holdings.{Keeps, keptAt, keptInAll, flow-replaced}
 
-module _ {m : List ℕ → ℕ} {kept : List ℕ → ℕ → Flow → ℕ} (w : Keeps m kept) (c : Card) (good : Good c) (packet out lens : List ℕ) where
+module _ {m : List ℕ → ℕ} {kept : List ℕ → ℕ → Flow → ℕ} (w : Keeps m kept) (c : Card) (good : Good c) (a : Arrival) where
+  abbrev packet : Packet
+  packet = a .packet
+
   abbrev slices : Slices
-  slices = asSlices (c .holding) out lens
+  slices = lentWith c a
 
   abbrev outcome : Outcome
-  outcome = received overIp (c .table) packet slices
+  outcome = received (c .table) packet slices
 
   abbrev afterwards : Card
   afterwards = record { table = outcome .answer .table; holding = outcome .slices .holding }
 
   abbrev behind : List ℕ
-  behind = sub overIp packet
+  behind = sub packet
 
   abbrev row : ℕ
-  row = rowOf overIp (c .table) packet
+  row = rowOf (c .table) packet
 
   abbrev flow : ℕ
-  flow = flowId behind
+  flow = flowTo (c .table) row behind
 
   abbrev held : List ℕ
   held = heldBy (c .table) row behind slices
@@ -55,14 +58,14 @@ module _ {m : List ℕ → ℕ} {kept : List ℕ → ℕ → Flow → ℕ} (w : 
   heard = heardBy (c .table) row behind slices
 
   module _ (z : outcome .answer .code ≡ 0) where
-    passed : Accepted overIp (c .table) packet slices
-    passed = accepted overIp (c .table) packet slices z
+    passed : Accepted (c .table) packet slices
+    passed = accepted (c .table) packet slices z
 
     step : StepOf row flow heard (c .table) slices outcome
-    step = one-flow-step overIp (c .table) packet slices (good .shaped) z
+    step = one-flow-step (c .table) packet slices (good .shaped) z
 
     inside : flow < flows
-    inside = flow-there overIp (c .table) packet slices passed
+    inside = flow-there (c .table) packet slices passed
 
     -- every other flow keeps what it kept
     record-stays : (i j : ℕ) → (i ≡ row → j ≡ flow → ⊥) → (eqb i row ≡ true) ⊎ (eqb i row ≡ false) →
@@ -99,16 +102,16 @@ module _ {m : List ℕ → ℕ} {kept : List ℕ → ℕ → Flow → ℕ} (w : 
           step .same-lengths .0,
           passed .found,
           inside,
-          accepted-bounded overIp (c .table) packet slices passed .held-few,
+          accepted-bounded (c .table) packet slices passed .held-few,
         ))
         ∙ ap m (step .its-place)
 
-    told : tells m (heard .fate) ≡ m held + m (packetBody (toDmpt (c .table) row) behind)
+    told : tells m (heard .fate) ≡ m held + m (packetBody (rowAt (c .table) row .kind) behind)
     told =
-        heard-tells m (w .measure) (toDmpt (c .table) row) (flowOf (c .table) row behind) held behind
-        (held-none overIp (c .table) packet slices passed)
+        heard-tells m (w .measure) (termsAt (c .table) row) (flowOf (c .table) row behind) held behind
+        (held-none (c .table) packet slices passed)
 
-    pub packet-balances : m (packetBody (toDmpt (c .table) row) behind) + keptInAll kept c
+    pub packet-balances : m (packetBody (rowAt (c .table) row .kind) behind) + keptInAll kept c
         ≡ m (joined (framesIn outcome)) + m (heard .fate .dropped) + keptInAll kept afterwards
     packet-balances =
         omega (

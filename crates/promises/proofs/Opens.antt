@@ -11,7 +11,7 @@ use borrow.Author.Tests.{lt-ltb}
 use Rattle.octets.specs.Count.{any}
 use Rattle.octets.proofs.Counts.{least-found, least-missed, none-all}
 use Rattle.refusal.specs.Refusal.{first}
-use Rattle.table.specs.declared.Mode.{Mode}
+use Rattle.table.specs.declared.Request.{Request}
 use Rattle.table.specs.declared.Table.{Table}
 use Rattle.table.specs.Rows.{rows, isClosed, rowAt, openIn, freeIn, lowestFree}
 use Rattle.table.specs.Broken.{broken}
@@ -91,10 +91,10 @@ full-alike t u whole whole′ same =
     (λ i. sym (open-has t i) ∙ same i ∙ open-has u i) in
     full-count t ∙ ap (λ (n : ℕ). not (ltb n rows)) many ∙ sym (full-count u)
 
-pub opens-by-ids : (t u : Table) (session : ℕ) (asked : Mode) → length (t .rows) ≡ rows → length (u .rows) ≡ rows →
+pub opens-by-ids : (t u : Table) (q : Request) → length (t .rows) ≡ rows → length (u .rows) ≡ rows →
     broken t ≡ false → broken u ≡ false → ((id : ℕ) → isOpen t id ≡ isOpen u id) →
-    opened t session asked .code ≡ opened u session asked .code
-opens-by-ids t u session asked six six′ whole whole′ same =
-    let order : first (openRefusals t session) ≡ first (openRefusals u session) =
-    rw (whole, whole′, same session, full-alike t u whole whole′ same) refl in
-    opened-code t session asked ∙ order ∙ sym (opened-code u session asked)
+    opened t q .code ≡ opened u q .code
+opens-by-ids t u q six six′ whole whole′ same =
+    let order : first (openRefusals t q) ≡ first (openRefusals u q) =
+    rw (whole, whole′, same (q .id), full-alike t u whole whole′ same) refl in
+    opened-code t q ∙ order ∙ sym (opened-code u q)

@@ -5,7 +5,7 @@ use mathlib.Core.Path.{_≡_, refl, ap, _∙_, subst}
 use mathlib.Core.Bool.{Bool, true, false}
 use mathlib.Core.List.{List, [], _∷_}
 use native.Mathlib.Omega.{arith}
-use lib.ListN.{length, getD}
+use lib.ListN.{length}
 use Rattle.octets.specs.Each.{Each}
 use Rattle.octets.proofs.Counts.{length-up-to}
 use Rattle.octets.proofs.Elements.{each-both, each-front, each-back, each-at, each-up-to}
@@ -13,12 +13,12 @@ use Rattle.octets.proofs.Stretches.{length-part}
 use Rattle.flow.specs.declared.Flow.{Flow}
 use Rattle.flow.specs.Numbers.{numberAt}
 use Rattle.flow.specs.Flow.{judge}
-use Rattle.packet.specs.Header.{overIp, sub, segmentCount, number}
+use Rattle.packet.specs.Header.{Packet, ip, sub, segmentCount, number}
 use Rattle.packet.specs.Segments.{Segment, entryWidth, lengthAt, bodyAt, segmentAt, segments}
 use Rattle.packet.specs.Check.{kindPsp, check}
 use Rattle.packet.proofs.Passing.{PspPassed, check-passed, body-inside, body-some}
 use Rattle.card.specs.Hear.{judgedBy, judgedOf}
-use Rattle.sender.specs.Rules.{Pieces, segmentsOf, allSegments, wholeFrame, begunFrame, inTurn, KeepsRules}
+use Rattle.sender.specs.Rules.{Pieces, segmentsOf, allSegments, wholeFrame, begunFrame, inTurn, Line, packetAt, KeepsRules}
 use Rattle.sender.proofs.Frames.{Filled}
 
 abbrev pub HasBytes : Segment → Type 0
@@ -28,35 +28,35 @@ above-none : (n : ℕ) → (n ≡ 0 → ⊥) → 1 ≤ n
 above-none zero f = absurd (f refl)
 above-none (suc n) f = omega arith
 
-module _ (packet : List ℕ) (passes : check overIp kindPsp packet ≡ 0) where
-  passed : PspPassed entryWidth (sub overIp packet)
-  passed = (check-passed overIp packet passes) .1
+module _ (packet : Packet) (passes : check kindPsp packet ≡ 0) where
+  passed : PspPassed entryWidth (sub packet)
+  passed = (check-passed packet passes) .1
 
-  pub some-segment : 1 ≤ length (segmentsOf packet)
+  pub some-segment : 1 ≤ length (segmentsOf entryWidth packet)
   unfolding segments
   some-segment =
-      rw (length-up-to (segmentAt entryWidth (sub overIp packet)) (segmentCount (sub overIp packet)))
-      (above-none (segmentCount (sub overIp packet)) (passed .some))
+      rw (length-up-to (segmentAt entryWidth (sub packet)) (segmentCount (sub packet)))
+      (above-none (segmentCount (sub packet)) (passed .some))
 
-  body-filled : (k : ℕ) → k < segmentCount (sub overIp packet) → HasBytes (segmentAt entryWidth (sub overIp packet) k)
+  body-filled : (k : ℕ) → k < segmentCount (sub packet) → HasBytes (segmentAt entryWidth (sub packet) k)
   unfolding segmentAt
   body-filled k l =
-      rw (length-part (sub overIp packet) (bodyAt entryWidth (sub overIp packet) k) (lengthAt entryWidth (sub overIp packet) k) (body-inside entryWidth (sub overIp packet) passed k l))
-      (above-none (lengthAt entryWidth (sub overIp packet) k) (body-some entryWidth (sub overIp packet) passed k l))
+      rw (length-part (sub packet) (bodyAt entryWidth (sub packet) k) (lengthAt entryWidth (sub packet) k) (body-inside entryWidth (sub packet) passed k l))
+      (above-none (lengthAt entryWidth (sub packet) k) (body-some entryWidth (sub packet) passed k l))
 
-  segments-filled : Each HasBytes (segmentsOf packet)
+  segments-filled : Each HasBytes (segmentsOf entryWidth packet)
   unfolding segments
-  segments-filled = each-up-to HasBytes (segmentAt entryWidth (sub overIp packet)) (segmentCount (sub overIp packet)) body-filled
+  segments-filled = each-up-to HasBytes (segmentAt entryWidth (sub packet)) (segmentCount (sub packet)) body-filled
 
-  pub its-number-counts : (f : Flow) → judgedOf f (sub overIp packet) ≡ judge f (number (sub overIp packet))
-  its-number-counts f = ap (λ (s : Bool). judgedBy s f (number (sub overIp packet))) (passed .counted)
+  pub its-number-counts : (f : Flow) → judgedOf f (sub packet) ≡ judge f (number (sub packet))
+  its-number-counts f = ap (λ (s : Bool). judgedBy s f (number (sub packet))) (passed .counted)
 
-all-filled : (packets : List (List ℕ)) → Each (λ p. check overIp kindPsp p ≡ 0) packets → Each HasBytes (allSegments packets)
+all-filled : (packets : List Packet) → Each (λ p. check kindPsp p ≡ 0) packets → Each HasBytes (allSegments entryWidth packets)
 unfolding allSegments
 all-filled [] passing = tt
-all-filled (p ∷ packets) passing = each-both HasBytes (segmentsOf p) (allSegments packets) (segments-filled p (passing .0)) (all-filled packets (passing .1))
+all-filled (p ∷ packets) passing = each-both HasBytes (segmentsOf entryWidth p) (allSegments entryWidth packets) (segments-filled p (passing .0)) (all-filled packets (passing .1))
 
-pub all-some : (packets : List (List ℕ)) → Each (λ p. check overIp kindPsp p ≡ 0) packets → Each (λ p. 1 ≤ length (segmentsOf p)) packets
+pub all-some : (packets : List Packet) → Each (λ p. check kindPsp p ≡ 0) packets → Each (λ p. 1 ≤ length (segmentsOf entryWidth p)) packets
 all-some [] passing = tt
 all-some (p ∷ packets) passing = (some-segment p (passing .0), all-some packets (passing .1))
 
@@ -74,7 +74,7 @@ frames-filled (f ∷ fs) filled = (
   frames-filled fs (each-back HasBytes (wholeFrame true f) (inTurn fs) filled),
 )
 
-module _ (session flow start : ℕ) (frames : List Pieces) (unfinished : Pieces) (packets : List (List ℕ)) (rules : KeepsRules session flow start frames unfinished packets) where
+module _ (line : Line) (frames : List Pieces) (unfinished : Pieces) (packets : List Packet) (rules : KeepsRules line frames unfinished packets) where
   -- no piece of a frame is empty
   pub pieces-filled : Each (Each Filled) frames
   pieces-filled =
@@ -83,7 +83,7 @@ module _ (session flow start : ℕ) (frames : List Pieces) (unfinished : Pieces)
       (subst (Each HasBytes) (rules .in-order) (all-filled packets (rules .passing))))
 
   -- the packet at place x is judged by the number of its place
-  pub judged-by-place : (f : Flow) (x : ℕ) → x < length packets → judgedOf f (sub overIp (getD packets x [])) ≡ judge f (numberAt start x)
+  pub judged-by-place : (f : Flow) (x : ℕ) → x < length packets → judgedOf f (sub (packetAt packets x)) ≡ judge f (numberAt (line .start) x)
   judged-by-place f x l =
-      its-number-counts (getD packets x []) (each-at (λ p. check overIp kindPsp p ≡ 0) packets x [] (rules .passing) l) f
+      its-number-counts (packetAt packets x) (each-at (λ p. check kindPsp p ≡ 0) packets x (ip []) (rules .passing) l) f
       ∙ ap (judge f) (rules .numbered x l)

@@ -7,8 +7,10 @@ use mathlib.Core.List.{List, [], _∷_, _++_, append-assoc}
 use native.Mathlib.Omega.{arith}
 use lib.ListN.{length, replicate, length-append, length-replicate}
 use Rattle.octets.specs.Each.{Each}
+use Rattle.octets.proofs.Counts.{length-up-to}
 use Rattle.flow.specs.Flow.{longest}
-use Rattle.packet.specs.Segments.{Segment}
+use Rattle.packet.specs.Header.{Packet, sub, segmentCount}
+use Rattle.packet.specs.Segments.{Segment, entryWidth, segments, segmentAt}
 use Rattle.join.specs.Join.{fate}
 use Rattle.sender.specs.Rules.{segmentsOf, allSegments}
 use Rattle.promises.specs.Arrivals.{placesFrom}
@@ -34,23 +36,29 @@ module _ (came : ℕ → Bool) (n : ℕ) where
   one-packet false e held [] ks ss some = absurd (omega arith)
   one-packet false e held (s ∷ segs) ks ss some = rw e (all-missing e segs ks ss)
 
-pub along-segments : (came : ℕ → Bool) (n : ℕ) (held : List ℕ) (packets : List (List ℕ)) → Each (λ p. 1 ≤ length (segmentsOf p)) packets →
-    along came n held packets ≡ walk came held (placesFrom n packets) (allSegments packets)
+-- a packet has as many segments as it counts
+pub counted : (p : Packet) → length (segmentsOf entryWidth p) ≡ segmentCount (sub p)
+unfolding segments
+counted p = length-up-to (segmentAt entryWidth (sub p)) (segmentCount (sub p))
+
+pub along-segments : (came : ℕ → Bool) (n : ℕ) (held : List ℕ) (packets : List Packet) → Each (λ p. 1 ≤ length (segmentsOf entryWidth p)) packets →
+    along came n held packets ≡ walk came held (placesFrom n packets) (allSegments entryWidth packets)
 unfolding placesFrom allSegments
 along-segments came n held [] some = refl
 along-segments came n held (p ∷ packets) some =
-    ap (λ r. gives (came n) held (segmentsOf p) ++ r) (along-segments came (suc n) (leaves (came n) held (segmentsOf p)) packets (some .1))
-    ∙ sym (one-packet came n (came n) refl held (segmentsOf p) (placesFrom (suc n) packets) (allSegments packets) (some .0))
+    ap (λ r. gives (came n) held (segmentsOf entryWidth p) ++ r) (along-segments came (suc n) (leaves (came n) held (segmentsOf entryWidth p)) packets (some .1))
+    ∙ sym (rw (counted p) at (one-packet came n (came n) refl held (segmentsOf entryWidth p) (placesFrom (suc n) packets) (allSegments entryWidth packets) (some .0)))
 
 -- each segment has its place
-pub places-length : (n : ℕ) (packets : List (List ℕ)) → length (placesFrom n packets) ≡ length (allSegments packets)
+pub places-length : (n : ℕ) (packets : List Packet) → length (placesFrom n packets) ≡ length (allSegments entryWidth packets)
 unfolding placesFrom allSegments
 places-length n [] = refl
 places-length n (p ∷ packets) =
     omega (
       arith,
-      length-append (replicate (length (segmentsOf p)) n) (placesFrom (suc n) packets),
-      length-replicate (length (segmentsOf p)) n,
-      length-append (segmentsOf p) (allSegments packets),
+      length-append (replicate (segmentCount (sub p)) n) (placesFrom (suc n) packets),
+      length-replicate (segmentCount (sub p)) n,
+      counted p,
+      length-append (segmentsOf entryWidth p) (allSegments entryWidth packets),
       places-length (suc n) packets,
     )

@@ -4,6 +4,7 @@ use Prim.Native.Nat.{ℕ}
 use mathlib.Core.Path.{_≡_, refl, ap}
 use mathlib.Core.Bool.{cond}
 use mathlib.Core.List.{List, [], _∷_, _++_}
+use Rattle.table.specs.declared.Kind.{Kind}
 use Rattle.card.specs.Hear.{Heard}
 use Rattle.card.specs.History.{Card, Call, Answer, framesOf, answer, after}
 use Rattle.promises.specs.Words.{handsTo, framesOut}
@@ -16,10 +17,10 @@ pub record Reading (A : Type 0) : Type 0 where
   pub when-heard : (a : Answer) (h : Heard) → a .code ≡ 0 → framesOf a ≡ h .fate .delivered → a .gap ≡ h .judged .gap → of-answer a ≡ of-heard h
 
 -- what is read off the calls for a flow, in order
-unfoldable pub readOut : {A : Type 0} → Reading A → ℕ → ℕ → Card → List Call → List A
-readOut w session flow c [] = []
-readOut w session flow c (x ∷ more) =
-    cond (handsTo session flow x) (w .of-answer (answer c x)) [] ++ readOut w session flow (after c x) more
+unfoldable pub readOut : {A : Type 0} → Reading A → Kind → ℕ → ℕ → Card → List Call → List A
+readOut w kind session flow c [] = []
+readOut w kind session flow c (x ∷ more) =
+    cond (handsTo kind session flow x) (w .of-answer (answer c x)) [] ++ readOut w kind session flow (after c x) more
 
 -- the frames
 abbrev pub framesRead : Reading (List ℕ)
@@ -32,8 +33,8 @@ framesRead =
       when-heard = λ a h code frames gap. frames;
     }
 
-pub frames-read : (session flow : ℕ) (c : Card) (calls : List Call) → framesOut session flow c calls ≡ readOut framesRead session flow c calls
+pub frames-read : (kind : Kind) (session flow : ℕ) (c : Card) (calls : List Call) → framesOut kind session flow c calls ≡ readOut framesRead kind session flow c calls
 unfolding framesOut readOut
-frames-read session flow c [] = refl
-frames-read session flow c (x ∷ more) =
-    ap (λ (l : List (List ℕ)). cond (handsTo session flow x) (framesOf (answer c x)) [] ++ l) (frames-read session flow (after c x) more)
+frames-read kind session flow c [] = refl
+frames-read kind session flow c (x ∷ more) =
+    ap (λ (l : List (List ℕ)). cond (handsTo kind session flow x) (framesOf (answer c x)) [] ++ l) (frames-read kind session flow (after c x) more)

@@ -3,12 +3,12 @@
 use Prim.Native.Nat.{ℕ, zero, suc}
 use mathlib.Core.Path.{_≡_, refl, ap}
 use mathlib.Core.List.{List}
-use Rattle.packet.specs.Header.{overIp}
+use Rattle.packet.specs.Header.{Packet}
 use Rattle.table.specs.declared.Table.{Table}
 use Rattle.table.proofs.Keeping.{refused-close-keeps}
-use Rattle.join.specs.Slices.{Slices, asSlices}
+use Rattle.join.specs.Slices.{Slices}
 use Rattle.card.specs.Receive.{Outcome, refused, received}
-use Rattle.card.specs.History.{Card, Call, opens, closes, hands, answer}
+use Rattle.card.specs.History.{Card, Arrival, Call, opens, closes, hands, lentWith, answer}
 use Rattle.card.proofs.Accepted.{received-refused}
 use Rattle.sender.specs.Send as sender
 use Rattle.sender.proofs.Sending.{sent-refused}
@@ -22,32 +22,32 @@ pub record Unchanged (t : Table) (s : Slices) (o : Outcome) : Type 0 where
   pub same-slices : o .slices ≡ s
   pub no-counts : (o .answer .frames ≡ 0) × (o .answer .bytes ≡ 0) × (o .answer .dropped ≡ 0) × (o .answer .gap ≡ 0)
 
-refused-by : (c lead : ℕ) (t : Table) (packet : List ℕ) (s : Slices) → received lead t packet s .answer .code ≡ c → (c ≡ 0 → ⊥) →
-    Unchanged t s (received lead t packet s)
+refused-by : (c : ℕ) (t : Table) (p : Packet) (s : Slices) → received t p s .answer .code ≡ c → (c ≡ 0 → ⊥) →
+    Unchanged t s (received t p s)
 unfolding refused
-refused-by zero lead t packet s e other = absurd (other refl)
-refused-by (suc c) lead t packet s e other =
-    rw (received-refused lead t packet s c e)
+refused-by zero t p s e other = absurd (other refl)
+refused-by (suc c) t p s e other =
+    rw (received-refused t p s c e)
     (record { same-table = refl; same-slices = refl; no-counts = (refl, refl, refl, refl) })
 
-pub refused-unchanged : (lead : ℕ) (t : Table) (packet : List ℕ) (s : Slices) → (received lead t packet s .answer .code ≡ 0 → ⊥) →
-    Unchanged t s (received lead t packet s)
-refused-unchanged lead t packet s other = refused-by (received lead t packet s .answer .code) lead t packet s refl other
+pub refused-unchanged : (t : Table) (p : Packet) (s : Slices) → (received t p s .answer .code ≡ 0 → ⊥) →
+    Unchanged t s (received t p s)
+refused-unchanged t p s other = refused-by (received t p s .answer .code) t p s refl other
 
 -- Every call on a card. (That the card is as it was is `refused-stays`.)
 none-counted : (c : Card) (x : Call) → ((answer c x) .code ≡ 0 → ⊥) →
     ((answer c x) .frames ≡ 0) × ((answer c x) .bytes ≡ 0) × ((answer c x) .dropped ≡ 0) × ((answer c x) .gap ≡ 0)
 unfolding answer
-none-counted c (opens asked id) other = (refl, refl, refl, refl)
+none-counted c (opens q) other = (refl, refl, refl, refl)
 none-counted c (closes id) other = (refl, refl, refused-close-keeps (c .table) id other .1, refl)
-none-counted c (hands packet out lens) other =
-    refused-unchanged overIp (c .table) packet (asSlices (c .holding) out lens) other .no-counts
+none-counted c (hands a) other =
+    refused-unchanged (c .table) (a .packet) (lentWith c a) other .no-counts
 
-same-slices : (c : Card) (packet out lens : List ℕ) → ((answer c (hands packet out lens)) .code ≡ 0 → ⊥) →
-    ((answer c (hands packet out lens)) .output ≡ out) × ((answer c (hands packet out lens)) .lengths ≡ lens)
+same-slices : (c : Card) (a : Arrival) → ((answer c (hands a)) .code ≡ 0 → ⊥) →
+    ((answer c (hands a)) .output ≡ a .output) × ((answer c (hands a)) .lengths ≡ a .lengths)
 unfolding answer
-same-slices c packet out lens other =
-    let u = refused-unchanged overIp (c .table) packet (asSlices (c .holding) out lens) other in
+same-slices c a other =
+    let u = refused-unchanged (c .table) (a .packet) (lentWith c a) other in
     (ap (λ (s : Slices). s .output) (u .same-slices), ap (λ (s : Slices). s .lengths) (u .same-slices))
 
 -- The sender gives back the position and the number.

@@ -13,12 +13,13 @@ use borrow.Author.Tests.{eqb-true, ltb-true, ltb-false}
 use Rattle.octets.proofs.Elements.{each-both}
 use Rattle.flow.specs.Numbers.{modulus, numberAt}
 use Rattle.flow.proofs.Numbers.{next-below, numberAt-first, numberAt-from-next, numberAt-on}
-use Rattle.packet.specs.Header.{overIp, sub, number}
+use Rattle.packet.specs.Header.{Packet, ip, sub, number}
+use Rattle.packet.specs.Segments.{entryWidth}
 use Rattle.packet.specs.Check.{kindPsp, check}
 use Rattle.sender.specs.declared.Position.{Position}
 use Rattle.sender.specs.Send.{Asked, sent}
 use Rattle.sender.specs.Series.{Job, Turn, askedFor, packetLeft, seriesPackets, seriesNumber}
-use Rattle.sender.specs.Rules.{KeepsRules, Pieces, FrameSized, Addressed, segmentsOf, wholeFrame, begunFrame, inTurn, allSegments}
+use Rattle.sender.specs.Rules.{Line, packetAt, KeepsRules, Pieces, FrameSized, Addressed, segmentsOf, wholeFrame, begunFrame, inTurn, allSegments}
 use Rattle.sender.proofs.Keeping.{sent-length, sent-number}
 use Rattle.sender.proofs.Series.{code-is, sends-all}
 use Rattle.promises.specs.Demand.{Sending, Run}
@@ -41,10 +42,10 @@ pub keeps-limit : KeepsLimit
 keeps-limit a z = sent-length a (sym (code-is a) ∙ z)
 
 -- One sending behind another: the segments of both, ..
-segments-both : (packets behind : List (List ℕ)) → allSegments (packets ++ behind) ≡ allSegments packets ++ allSegments behind
+segments-both : (packets behind : List Packet) → allSegments entryWidth (packets ++ behind) ≡ allSegments entryWidth packets ++ allSegments entryWidth behind
 unfolding allSegments
 segments-both [] behind = refl
-segments-both (p ∷ packets) behind = rw (segments-both packets behind) (sym (append-assoc (segmentsOf p) (allSegments packets) (allSegments behind)))
+segments-both (p ∷ packets) behind = rw (segments-both packets behind) (sym (append-assoc (segmentsOf entryWidth p) (allSegments entryWidth packets) (allSegments entryWidth behind)))
 
 frames-both : (frames more : List Pieces) → inTurn (frames ++ more) ≡ inTurn frames ++ inTurn more
 unfolding inTurn
@@ -52,35 +53,35 @@ frames-both [] more = refl
 frames-both (f ∷ frames) more = rw (frames-both frames more) (sym (append-assoc (wholeFrame true f) (inTurn frames) (inTurn more)))
 
 -- .. and their numbers
-numbered-both : (start : ℕ) (packets behind : List (List ℕ)) →
-    ((i : ℕ) → i < length packets → number (sub overIp (getD packets i [])) ≡ numberAt start i) →
-    ((i : ℕ) → i < length behind → number (sub overIp (getD behind i [])) ≡ numberAt (numberAt start (length packets)) i) →
-    (i : ℕ) → i < length (packets ++ behind) → number (sub overIp (getD (packets ++ behind) i [])) ≡ numberAt start i
+numbered-both : (start : ℕ) (packets behind : List Packet) →
+    ((i : ℕ) → i < length packets → number (sub (packetAt packets i)) ≡ numberAt start i) →
+    ((i : ℕ) → i < length behind → number (sub (packetAt behind i)) ≡ numberAt (numberAt start (length packets)) i) →
+    (i : ℕ) → i < length (packets ++ behind) → number (sub (packetAt (packets ++ behind) i)) ≡ numberAt start i
 numbered-both start packets behind front back i l = by (ltb i (length packets)) refl
   where
-    by : (t : Bool) → ltb i (length packets) ≡ t → number (sub overIp (getD (packets ++ behind) i [])) ≡ numberAt start i
+    by : (t : Bool) → ltb i (length packets) ≡ t → number (sub (packetAt (packets ++ behind) i)) ≡ numberAt start i
     by true e =
         let here = ltb-true i (length packets) e in
-        rw (List·getD-append packets behind [] i here) (front i here)
+        rw (List·getD-append packets behind (ip []) i here) (front i here)
     by false e =
         let past = ltb-false i (length packets) e in
         let j = i - length packets in
         let split : i ≡ length packets + (i - length packets) = omega arith in
         rw split
-        (ap (λ (p : List ℕ). number (sub overIp p)) (getD-append-add packets behind j [])
+        (ap (λ (p : Packet). number (sub p)) (getD-append-add packets behind j (ip []))
         ∙ back j (omega (arith, length-append packets behind))
         ∙ numberAt-on start (length packets) j)
 
-both-keep : (session flow start : ℕ) (frames more : List Pieces) (unfinished : Pieces) (packets behind : List (List ℕ)) →
-    KeepsRules session flow start frames [] packets → KeepsRules session flow (numberAt start (length packets)) more unfinished behind →
-    KeepsRules session flow start (frames ++ more) unfinished (packets ++ behind)
+both-keep : (line : Line) (frames more : List Pieces) (unfinished : Pieces) (packets behind : List Packet) →
+    KeepsRules line frames [] packets → KeepsRules (record { session = line .session; flow = line .flow; start = numberAt (line .start) (length packets) }) more unfinished behind →
+    KeepsRules line (frames ++ more) unfinished (packets ++ behind)
 unfolding begunFrame
-both-keep session flow start frames more unfinished packets behind first then =
+both-keep line frames more unfinished packets behind first then =
     record {
       sizes = each-both FrameSized frames more (first .sizes) (then .sizes);
-      passing = each-both (λ p. check overIp kindPsp p ≡ 0) packets behind (first .passing) (then .passing);
-      addressed = each-both (Addressed session flow) packets behind (first .addressed) (then .addressed);
-      numbered = numbered-both start packets behind (first .numbered) (then .numbered);
+      passing = each-both (λ p. check kindPsp p ≡ 0) packets behind (first .passing) (then .passing);
+      addressed = each-both (Addressed line) packets behind (first .addressed) (then .addressed);
+      numbered = numbered-both (line .start) packets behind (first .numbered) (then .numbered);
       in-order =
           rw (segments-both packets behind, first .in-order, then .in-order, frames-both frames more, append-nil (inTurn frames))
           (sym (append-assoc (inTurn frames) (inTurn more) (begunFrame true unfinished)));

@@ -1,8 +1,9 @@
 -- A closed instance of the round trip: premises met, both sides computed. It cites definitions alone, so that it can be held against wrong ones.
+use Rattle.table.specs.declared.Kind.the-variants as kind
 use Prim.Native.Nat.{ℕ, zero, suc, _≤_}
-use mathlib.Core.Path.{_≡_, refl, sym}
+use mathlib.Core.Path.{_≡_, refl, sym, ap}
 use mathlib.Core.Bool.{false}
-use mathlib.Core.List.{[], _∷_}
+use mathlib.Core.List.{[], _∷_, map}
 use native.Mathlib.Omega.{arith}
 use lib.ListN.{length, replicate, length-replicate}
 use Rattle.octets.specs.Stretch.{part, rest, put, joined, lengths, cutBy}
@@ -10,6 +11,7 @@ use Rattle.octets.specs.Count.{any, least, sumTo, upTo}
 use Rattle.octets.specs.Each.{Each}
 use Rattle.flow.specs.Numbers.{ahead, next}
 use Rattle.packet.specs.Segments.{bodyAt, segmentAt, segments}
+use Rattle.packet.specs.Header.{ip}
 use Rattle.packet.specs.Psp.{wanted}
 use Rattle.table.specs.declared.Mode.the-variants as mode
 use Rattle.table.specs.Broken.{broken}
@@ -23,7 +25,7 @@ use Rattle.sender.specs.Packet.{packetOf}
 use Rattle.sender.specs.Send as sender
 use Rattle.sender.specs.Series.{Usable, startOfFrame, seriesPackets}
 use Rattle.promises.specs.Words.{packetsTo, framesOut, LongEnough}
-use Rattle.promises.specs.Marked.{A, B, hand, of6, of9, m12, limit16}
+use Rattle.promises.specs.Marked.{asking, A, B, hand, of6, of9, m12, limit16}
 use Rattle.promises.specs.RoundTrip.{Given, framesGiven, packetsGiven, InOrder}
 
 -- The frames of the last marked case, of 6 and 9 bytes, are sent with the limit 16 and with calls enough, fifteen, of which two send a
@@ -52,20 +54,20 @@ given-m12 =
       enough = omega (arith, length-replicate 15 limit16);
     }
 
-pub round-trip-opens : (answer (afterAll (emptyCard (replicate 49152 0)) []) (opens mode.Psp 0x101)) .code ≡ 0
+pub round-trip-opens : (answer (afterAll (emptyCard (replicate 49152 0)) []) (opens (asking mode.Psp 0x101))) .code ≡ 0
 unfolding any least broken opened answer afterAll
 round-trip-opens = refl
 
-pub round-trip-long : LongEnough 0x101 1 (replicate 49152 0) (hand A ∷ hand B ∷ [])
+pub round-trip-long : LongEnough kind.Psp 0x101 1 (replicate 49152 0) (hand A ∷ hand B ∷ [])
 unfolding rest
 round-trip-long =
     let out : 6144 ≤ length {A = ℕ} (replicate 6144 0) = omega (arith, length-replicate {A = ℕ} 6144 0) in
     let lens : 127 ≤ length {A = ℕ} (replicate 127 0) = omega (arith, length-replicate {A = ℕ} 127 0) in
     (omega (arith, length-replicate {A = ℕ} 49152 0), ((λ e. (out, lens)), ((λ e. (out, lens)), tt)))
 
-pub round-trip-arrive : packetsTo 0x101 1 (hand A ∷ hand B ∷ []) ≡ packetsGiven given-m12
+pub round-trip-arrive : packetsTo kind.Psp 0x101 1 (hand A ∷ hand B ∷ []) ≡ packetsGiven given-m12
 unfolding rest packetsTo
-round-trip-arrive = sym round-trip-sends
+round-trip-arrive = sym (ap (map ip) round-trip-sends)
 
 abbrev pub in-order-m12 : InOrder given-m12
 in-order-m12 =
@@ -80,7 +82,7 @@ in-order-m12 =
     }
 
 -- What comes out is what was given.
-pub round-trip-instance : (framesOut 0x101 1 (after (afterAll (emptyCard (in-order-m12 .holding)) (in-order-m12 .before)) (opens mode.Psp 0x101)) (in-order-m12 .calls) ≡ of6 ∷ of9 ∷ [])
+pub round-trip-instance : (framesOut kind.Psp 0x101 1 (after (afterAll (emptyCard (in-order-m12 .holding)) (in-order-m12 .before)) (opens (asking mode.Psp 0x101))) (in-order-m12 .calls) ≡ of6 ∷ of9 ∷ [])
     × (framesGiven given-m12 ≡ of6 ∷ of9 ∷ [])
 unfolding part rest put joined lengths cutBy any least sumTo upTo ahead next bodyAt segmentAt segments wanted broken opened settledBy settled fateBy fate atGap inOrder pspFate hear carriedOut refused receivedBy received answer after afterAll framesOut
 round-trip-instance = (refl, refl)

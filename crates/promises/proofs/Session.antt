@@ -10,48 +10,52 @@ use Rattle.octets.specs.Count.{sumTo}
 use Rattle.refusal.specs.Refusal.{Refusal, first, _when_}
 use Rattle.flow.specs.declared.Flow.{Flow}
 use Rattle.flow.specs.Flow.{fresh, flows}
-use Rattle.packet.specs.Header.{overIp, sub, flowId, beforeSession}
-use Rattle.table.specs.declared.Kind.{Kind}
-use Rattle.table.specs.declared.Mode.{Mode}
-use Rattle.table.specs.Rows.{isDmpt}
-use Rattle.table.specs.Calls.{kindOf}
+use Rattle.packet.specs.Header.{Packet, sub, beforeSession}
+use Rattle.table.specs.declared.Request.{Request}
+use Rattle.table.specs.declared.Terms.{Terms}
+use Rattle.table.specs.Rows.{termsOf}
+use Rattle.table.specs.Calls.{freshRow}
 use Rattle.join.specs.Slices.{mostBytes, mostFrames}
-use Rattle.card.specs.Hear.{Heard, judgedOf, hear, recordAfter}
+use Rattle.card.specs.Hear.{Heard, flowIn, judgedOf, hear, recordAfter}
 use Rattle.card.specs.Receive.{holdingSize, packetRefusals}
 use Rattle.promises.specs.Isolation.{Own, gets, ends, Told}
 
 -- Flows are read by number. A packet that names a flow past the last is refused, by 7 at the latest, before any record counts.
 pub record Session : Type 0 where
-  pub kind : Kind
+  pub terms : Terms
   pub flow : ℕ → Flow
   pub held : ℕ → List ℕ
 
 -- as it begins: every flow fresh, nothing held
-abbrev pub begun : Mode → Session
-begun asked = record { kind = kindOf asked; flow = λ k. fresh; held = λ k. [] }
+abbrev pub begun : Request → Session
+begun q = record { terms = termsOf (freshRow q); flow = λ k. fresh; held = λ k. [] }
 
 -- What a packet of it is refused by, in order: 1 by the lengths of the three slices, 2 to 4, 6 to 11 by its kind, 12 by the packet's flow. (13
 -- and 5 are left out: no card that calls can have come to is broken, and the session is open.)
 abbrev pub short : ℕ → ℕ → ℕ → Bool
 short holding out lens = ltb holding holdingSize || ltb out mostBytes || ltb lens mostFrames
 
-abbrev pub behindId : Session → List ℕ → List Refusal
-behindId a sub = packetRefusals (isDmpt (a .kind)) sub ++ (12 when (judgedOf (a .flow (flowId sub)) sub) .late ∷ [])
+-- the flow that a packet of it names
+abbrev pub flowOfIt : Session → List ℕ → ℕ
+flowOfIt a sub = flowIn (a .terms .kind) sub
 
-abbrev pub refusal : ℕ → Session → List ℕ → ℕ → ℕ → ℕ
+abbrev pub behindId : Session → List ℕ → List Refusal
+behindId a sub = packetRefusals (a .terms) sub ++ (12 when (judgedOf (a .flow (flowOfIt a sub)) sub) .late ∷ [])
+
+abbrev pub refusal : ℕ → Session → Packet → ℕ → ℕ → ℕ
 refusal holding a packet out lens =
-    first (1 when short holding out lens ∷ beforeSession overIp packet ++ behindId a (sub overIp packet))
+    first (1 when short holding out lens ∷ beforeSession packet ++ behindId a (sub packet))
 
 -- What its flow makes of a packet, and the session afterwards.
 abbrev pub hears : Session → List ℕ → Heard
-hears a sub = hear (isDmpt (a .kind)) (a .flow (flowId sub)) (a .held (flowId sub)) sub
+hears a sub = hear (a .terms) (a .flow (flowOfIt a sub)) (a .held (flowOfIt a sub)) sub
 
 abbrev pub changed : {X : Type 0} → ℕ → X → (ℕ → X) → ℕ → X
 changed k new old j = cond (eqb j k) new (old j)
 
 abbrev pub hearing : ℕ → Heard → Session → Session
 hearing k h a =
-    record { kind = a .kind; flow = changed k (recordAfter h) (a .flow); held = changed k (h .fate .held) (a .held) }
+    record { terms = a .terms; flow = changed k (recordAfter h) (a .flow); held = changed k (h .fate .held) (a .held) }
 
 -- what it is told of what was heard, of a refusal, and at its close
 abbrev pub toldOf : Heard → Told
@@ -78,7 +82,7 @@ toldAt zero a sub = toldOf (hears a sub)
 toldAt (suc n) a sub = toldOnly (suc n) 0
 
 abbrev pub sessionAt : ℕ → Session → List ℕ → Session
-sessionAt zero a sub = hearing (flowId sub) (hears a sub) a
+sessionAt zero a sub = hearing (flowOfIt a sub) (hears a sub) a
 sessionAt (suc n) a sub = a
 
 -- What it is told in answer to its own calls, up to its close. `holding` is the length of the holding slice.
@@ -86,5 +90,5 @@ unfoldable pub toldAlone : ℕ → Session → List Own → List Told
 toldAlone holding a [] = []
 toldAlone holding a (gets packet out lens ∷ more) =
     let n = refusal holding a packet out lens in
-    toldAt n a (sub overIp packet) ∷ toldAlone holding (sessionAt n a (sub overIp packet)) more
+    toldAt n a (sub packet) ∷ toldAlone holding (sessionAt n a (sub packet)) more
 toldAlone holding a (ends ∷ more) = toldOnly 0 (heldBySession a) ∷ []

@@ -14,14 +14,17 @@ use Rattle.octets.specs.Count.{upTo}
 use Rattle.octets.proofs.Stretches.{length-part}
 use Rattle.octets.proofs.Elements.{each-both}
 use Rattle.flow.specs.Flow.{longest}
-use Rattle.packet.specs.Segments.{Segment, entryWidth, lengthAt, bodyAt, segmentAt, segments}
+use Rattle.packet.specs.Segments.{Segment, lengthAt, bodyAt, segmentAt, segments}
 use Rattle.packet.specs.Header.{segmentCount}
-use Rattle.packet.specs.Dmpt.{mpegLength, mpegCount, mpegAt, mpegs, pid, nullPid}
+use Rattle.packet.specs.Psp.{pspRefusals}
+use Rattle.packet.specs.Dmpt.{mpegLength, mpegCount, mpegAt, mpegs, pid, nullPid, dmptRefusals}
 use Rattle.packet.proofs.Passing.{PspPassed, psp-passed, body-inside, body-some, mpeg-inside}
+use Rattle.table.specs.declared.Terms.{Terms}
+use Rattle.table.specs.Rows.{isDmpt}
 use Rattle.join.specs.Join.{Fate, delivering, dropping, keeping, settledBy, settled, fateBy, fate, atGap, mpegFate, inOrder, pspFate, dmptFate}
 use Rattle.join.proofs.Account.{in-order-next}
 use Rattle.join.proofs.Carrying.{mpeg-length, dmpt-header}
-use Rattle.card.specs.Hear.{fateOf}
+use Rattle.card.specs.Hear.{widthIn, fateOf}
 use Rattle.card.specs.Receive.{packetRefusals}
 
 -- 1 to 2,048 bytes
@@ -31,27 +34,27 @@ Sized f = (1 ≤ length f) × (length f ≤ longest)
 abbrev pub FramesSized : Fate → Type 0
 FramesSized f = Each Sized (f .delivered)
 
--- Each rule.
-settled-by : (long ends : Bool) (bytes : List ℕ) → ltb longest (length bytes) ≡ long → 1 ≤ length bytes →
+-- Each rule, with a longest frame of at most that.
+settled-by : (most : ℕ) → most ≤ longest → (long ends : Bool) (bytes : List ℕ) → ltb most (length bytes) ≡ long → 1 ≤ length bytes →
     FramesSized (settledBy long ends bytes)
 unfolding settledBy
-settled-by true ends bytes h some = tt
-settled-by false true bytes h some = ((some, ltb-false longest (length bytes) h), tt)
-settled-by false false bytes h some = tt
+settled-by most small true ends bytes h some = tt
+settled-by most small false true bytes h some = ((some, omega (arith, ltb-false most (length bytes) h)), tt)
+settled-by most small false false bytes h some = tt
 
-settled-sized : (ends : Bool) (bytes : List ℕ) → 1 ≤ length bytes → FramesSized (settled longest ends bytes)
+settled-sized : (most : ℕ) → most ≤ longest → (ends : Bool) (bytes : List ℕ) → 1 ≤ length bytes → FramesSized (settled most ends bytes)
 unfolding settled
-settled-sized ends bytes some = settled-by (ltb longest (length bytes)) ends bytes refl some
+settled-sized most small ends bytes some = settled-by most small (ltb most (length bytes)) ends bytes refl some
 
-fate-by : (begins none : Bool) (held : List ℕ) (s : Segment) → 1 ≤ length (s .body) → FramesSized (fateBy begins none longest held s)
+fate-by : (most : ℕ) → most ≤ longest → (begins none : Bool) (held : List ℕ) (s : Segment) → 1 ≤ length (s .body) → FramesSized (fateBy begins none most held s)
 unfolding fateBy
-fate-by true none held s some = settled-sized (s .ends) (s .body) some
-fate-by false true held s some = tt
-fate-by false false held s some = settled-sized (s .ends) (held ++ s .body) (omega (arith, length-append held (s .body)))
+fate-by most small true none held s some = settled-sized most small (s .ends) (s .body) some
+fate-by most small false true held s some = tt
+fate-by most small false false held s some = settled-sized most small (s .ends) (held ++ s .body) (omega (arith, length-append held (s .body)))
 
-pub fate-sized : (held : List ℕ) (s : Segment) → 1 ≤ length (s .body) → FramesSized (fate longest held s)
+pub fate-sized : (most : ℕ) → most ≤ longest → (held : List ℕ) (s : Segment) → 1 ≤ length (s .body) → FramesSized (fate most held s)
 unfolding fate
-fate-sized held s some = fate-by (s .begins) (eqb (length held) 0) held s some
+fate-sized most small held s some = fate-by most small (s .begins) (eqb (length held) 0) held s some
 
 pub gap-sized : (gap : ℕ) (held : List ℕ) → FramesSized (atGap gap held)
 unfolding atGap
@@ -79,28 +82,32 @@ module _ {X : Type 0} (rule : List ℕ → X → Fate) (f : Fate) (piece : ℕ �
       (each (so-far .held) k (omega arith)))
 
 -- What becomes of a packet that is not refused, PSP and D-MPT.
-body-sized : (sub : List ℕ) → PspPassed entryWidth sub → (k : ℕ) → k < segmentCount sub → 1 ≤ length (segmentAt entryWidth sub k .body)
+body-sized : (width : ℕ) (sub : List ℕ) → PspPassed width sub → (k : ℕ) → k < segmentCount sub → 1 ≤ length (segmentAt width sub k .body)
 unfolding segmentAt
-body-sized sub p k there =
-    let some = body-some entryWidth sub p k there in
-    let whole = length-part sub (bodyAt entryWidth sub k) (lengthAt entryWidth sub k) (body-inside entryWidth sub p k there) in
+body-sized width sub p k there =
+    let some = body-some width sub p k there in
+    let whole = length-part sub (bodyAt width sub k) (lengthAt width sub k) (body-inside width sub p k there) in
     omega (arith, some, whole)
 
-psp-sized : (gap : ℕ) (held sub : List ℕ) → first (packetRefusals false sub) ≡ 0 → FramesSized (fateOf false gap held sub)
+psp-sized : (most width gap : ℕ) (held sub : List ℕ) → most ≤ longest → first (pspRefusals width sub) ≡ 0 → FramesSized (pspFate most gap held (segments width sub))
 unfolding pspFate segments
-psp-sized gap held sub z =
-    in-order-sized (fate longest) (atGap gap held) (segmentAt entryWidth sub) (segmentCount sub) (gap-sized gap held)
-    (λ before k there. fate-sized before (segmentAt entryWidth sub k) (body-sized sub (psp-passed entryWidth sub z) k there))
+psp-sized most width gap held sub small z =
+    in-order-sized (fate most) (atGap gap held) (segmentAt width sub) (segmentCount sub) (gap-sized gap held)
+    (λ before k there. fate-sized most small before (segmentAt width sub k) (body-sized width sub (psp-passed width sub z) k there))
     (segmentCount sub) (omega arith)
 
-dmpt-sized : (gap : ℕ) (held sub : List ℕ) → first (packetRefusals true sub) ≡ 0 → FramesSized (fateOf true gap held sub)
+dmpt-sized : (held sub : List ℕ) → first (dmptRefusals sub) ≡ 0 → FramesSized (dmptFate held (mpegs sub))
 unfolding dmptFate mpegs
-dmpt-sized gap held sub z =
+dmpt-sized held sub z =
     in-order-sized mpegFate (keeping held) (mpegAt sub) (mpegCount sub) tt
     (λ before k there. mpeg-sized before (mpegAt sub k) (mpeg-length sub k (mpeg-inside sub k (dmpt-header sub z) there)))
     (mpegCount sub) (omega arith)
 
-pub packet-sized : (dmpt : Bool) (gap : ℕ) (held sub : List ℕ) → first (packetRefusals dmpt sub) ≡ 0 →
-    FramesSized (fateOf dmpt gap held sub)
-packet-sized true gap held sub z = dmpt-sized gap held sub z
-packet-sized false gap held sub z = psp-sized gap held sub z
+sized-by : (d : Bool) (most width gap : ℕ) (held sub : List ℕ) → most ≤ longest → first (cond d (dmptRefusals sub) (pspRefusals width sub)) ≡ 0 →
+    FramesSized (cond d (dmptFate held (mpegs sub)) (pspFate most gap held (segments width sub)))
+sized-by true most width gap held sub small z = dmpt-sized held sub z
+sized-by false most width gap held sub small z = psp-sized most width gap held sub small z
+
+pub packet-sized : (terms : Terms) (gap : ℕ) (held sub : List ℕ) → terms .longest ≤ longest → first (packetRefusals terms sub) ≡ 0 →
+    FramesSized (fateOf terms gap held sub)
+packet-sized terms gap held sub small z = sized-by (isDmpt (terms .kind)) (terms .longest) (widthIn (terms .kind)) gap held sub small z

@@ -9,6 +9,7 @@ use lib.Seq.{drop-drop}
 use Rattle.octets.specs.Stretch.{part, joined}
 use Rattle.octets.specs.Count.{sumTo}
 use Rattle.octets.specs.Each.{Each}
+use Rattle.packet.specs.Header.{Packet}
 use Rattle.sender.specs.Rules.{Pieces}
 use Rattle.promises.specs.Arrivals.{InTime, inTime, placesFrom, carriers, Whole, Kept, no-more, kept, lost}
 use Rattle.promises.proofs.InTime.{in-time-is-meant}
@@ -44,7 +45,7 @@ meant-every : (arrivals ks : List ℕ) → Each (InTime arrivals) ks → every (
 meant-every arrivals [] e = refl
 meant-every arrivals (k ∷ ks) e = rw (in-time-is-meant arrivals k .1 (e .0)) (meant-every arrivals ks (e .1))
 
-module _ (arrivals : List ℕ) (frames : List Pieces) (packets : List (List ℕ)) where
+module _ (arrivals : List ℕ) (frames : List Pieces) (packets : List Packet) where
   abbrev before : ℕ → ℕ
   before i = sumTo (λ j. length (getD frames j [])) i
 

@@ -3,7 +3,7 @@
 use Prim.Native.Nat.{_+_}
 use Rattle.flow.specs.Flow.{fresh, judge}
 use Rattle.flow.proofs.Unique.{fresh-permitted, fresh-unique, judge-permitted, judge-unique}
-use Rattle.packet.specs.Header.{overIp}
+use Rattle.packet.specs.Header.{ip}
 use Rattle.packet.specs.Check as packet
 use Rattle.packet.proofs.Unique as packet-laws
 use Rattle.table.specs.Rows.{empty}
@@ -19,8 +19,7 @@ use Rattle.promises.specs.Unique.{UniqueOpen, UniqueClose, UniqueReceive
 use Rattle.promises.specs.Unique.{UniqueCheck, UniqueSegment, UniqueCapture, UniqueFlow}
 
 pub unique-open : UniqueOpen
-unique-open t id asked =
-    record { outcome = opened t id asked; permitted = open-permitted t id asked; only-one = open-unique t id asked }
+unique-open t q = record { outcome = opened t q; permitted = open-permitted t q; only-one = open-unique t q }
 
 pub unique-close : UniqueClose
 unique-close t id = record { outcome = closed t id; permitted = close-permitted t id; only-one = close-unique t id }
@@ -28,7 +27,7 @@ unique-close t id = record { outcome = closed t id; permitted = close-permitted 
 pub unique-receive : UniqueReceive
 unique-receive t packet s =
     record {
-      outcome = received overIp t packet s;
+      outcome = received t packet s;
       permitted = receive-permitted t packet s;
       only-one = receive-unique t packet s;
     }
@@ -39,7 +38,7 @@ unique-send a = record { outcome = sent a; permitted = send-permitted a; only-on
 pub unique-check : UniqueCheck
 unique-check kind bytes =
     record {
-      outcome = packet.check overIp kind bytes;
+      outcome = packet.check kind (ip bytes);
       permitted = packet-laws.check-permitted kind bytes;
       only-one = packet-laws.check-unique kind bytes;
     }
@@ -49,20 +48,20 @@ pub unique-segment : UniqueSegment
 unique-segment slice k = (
   record {
     outcome = record {
-      ptr = (slice .ptr .0, slice .ptr .1 + (packet.segmentExtent overIp (slice .now) k) .start);
+      ptr = (slice .ptr .0, slice .ptr .1 + (packet.segmentExtent (ip (slice .now)) k) .start);
       name = slice .name;
-      now = packet.segmentGiven overIp (slice .now) k;
+      now = packet.segmentGiven (ip (slice .now)) k;
     };
     permitted = packet-laws.segment-permitted slice k;
     only-one = packet-laws.segment-unique slice k;
   },
   record {
-    outcome = packet.segmentCause overIp (slice .now) k;
+    outcome = packet.segmentCause (ip (slice .now)) k;
     permitted = packet-laws.cause-permitted (slice .now) k;
     only-one = packet-laws.cause-unique (slice .now) k;
   },
   record {
-    outcome = packet.segmentExtent overIp (slice .now) k;
+    outcome = packet.segmentExtent (ip (slice .now)) k;
     permitted = packet-laws.extent-permitted (slice .now) k;
     only-one = packet-laws.extent-unique (slice .now) k;
   },

@@ -3,33 +3,34 @@
 -- then by the bytes themselves: each byte's fate is told by the segment rules, call after call, and none is found by subtraction.
 use Prim.Native.Nat.{ℕ, _+_}
 use mathlib.Core.Path.{_≡_}
-use mathlib.Core.Bool.{Bool, cond}
+use mathlib.Core.Bool.{cond}
 use mathlib.Core.List.{List, [], _∷_, _++_, map}
 use lib.Dec.{eqb}
 use lib.ListN.{length}
 use Rattle.octets.specs.Stretch.{part, joined}
 use Rattle.octets.specs.Count.{sumTo, upTo}
 use Rattle.flow.specs.Flow.{flows}
-use Rattle.packet.specs.Header.{overIp, sub}
-use Rattle.packet.specs.Segments.{Segment, entryWidth, segments}
+use Rattle.packet.specs.Header.{sub}
+use Rattle.packet.specs.Segments.{Segment, segments}
 use Rattle.packet.specs.Dmpt.{mpegs}
 use Rattle.table.specs.declared.Table.{Table}
-use Rattle.table.specs.Rows.{rows, rowAt, flowAt, find, heldIn, empty}
-use Rattle.join.specs.Slices.{asSlices}
-use Rattle.card.specs.Receive.{placeOf, rowOf, toDmpt, heardBy}
-use Rattle.card.specs.History.{Card, Call, opens, closes, hands, framesOf, answer, after, afterAll, emptyCard}
+use Rattle.table.specs.declared.Kind.{Kind}
+use Rattle.table.specs.Rows.{rows, isDmpt, rowAt, flowAt, find, heldIn, empty}
+use Rattle.card.specs.Hear.{widthIn}
+use Rattle.card.specs.Receive.{placeOf, rowOf, heardBy}
+use Rattle.card.specs.History.{Card, Arrival, Call, opens, closes, hands, framesOf, lentWith, takesIn, answer, after, afterAll, emptyCard}
 
 -- the body of a packet: the bodies of its segments, or its MPEG packets, those with PID 0x1FFF included
-abbrev pub packetBody : Bool → List ℕ → List ℕ
-packetBody dmpt sub = cond dmpt (joined (mpegs sub)) (joined (map (λ (s : Segment). s .body) (segments entryWidth sub)))
+abbrev pub packetBody : Kind → List ℕ → List ℕ
+packetBody kind sub = cond (isDmpt kind) (joined (mpegs sub)) (joined (map (λ (s : Segment). s .body) (segments (widthIn kind) sub)))
 
 -- the body bytes that a call brings in: those of a packet that is accepted
 abbrev pub takenBy : Card → Call → List ℕ
-takenBy c (opens asked id) = []
+takenBy c (opens r) = []
 takenBy c (closes id) = []
-takenBy c (hands packet out lens) =
-    cond (eqb ((answer c (hands packet out lens)) .code) 0)
-    (packetBody (toDmpt (c .table) (rowOf overIp (c .table) packet)) (sub overIp packet)) []
+takenBy c (hands a) =
+    cond (takesIn c a)
+    (packetBody (rowAt (c .table) (rowOf (c .table) (a .packet)) .kind) (sub (a .packet))) []
 
 -- A history for the numbers: each call may bring another holding slice, of any length and with anything in it. Only the table goes on.
 pub record Lent : Type 0 where
@@ -78,11 +79,11 @@ deliveredBy c x = joined (framesOf (answer c x))
 -- The bytes that a call drops. No slice shows them, so they are told by the rules: of an accepted packet by what its flow makes of it; a close drops what
 -- its row holds; an open, or a call that is refused, drops none.
 abbrev pub droppedBy : Card → Call → List ℕ
-droppedBy c (opens asked id) = []
+droppedBy c (opens r) = []
 droppedBy c (closes id) = cond (eqb ((answer c (closes id)) .code) 0) (bytesOfRow c (find (c .table) id)) []
-droppedBy c (hands packet out lens) =
-    cond (eqb ((answer c (hands packet out lens)) .code) 0)
-    ((heardBy (c .table) (rowOf overIp (c .table) packet) (sub overIp packet) (asSlices (c .holding) out lens)) .fate .dropped) []
+droppedBy c (hands a) =
+    cond (takesIn c a)
+    ((heardBy (c .table) (rowOf (c .table) (a .packet)) (sub (a .packet)) (lentWith c a)) .fate .dropped) []
 
 -- `byte-account`: the numbers, over any history; and where one holding slice goes through all calls, the places hold as many bytes as the table says,
 -- and each further call delivers and drops as many as it answers.

@@ -11,7 +11,8 @@ use Rattle.octets.specs.Stretch.{part, joined}
 use Rattle.octets.specs.Count.{sumTo}
 use Rattle.octets.specs.Each.{Each}
 use Rattle.flow.specs.Flow.{half}
-use Rattle.sender.specs.Rules.{Pieces, segmentsOf}
+use Rattle.packet.specs.Header.{Packet, sub, segmentCount}
+use Rattle.sender.specs.Rules.{Pieces}
 
 -- The bound: each arrival after the first is less than 32,768 places ahead of the place expected next, and at most 32,768 behind it.
 -- Expected next is the place behind the farthest that has arrived.
@@ -40,17 +41,17 @@ abbrev pub InTimeIsMeant : Type 0
 InTimeIsMeant = (arrivals : List ℕ) (k : ℕ) → (inTime arrivals k ≡ true → InTime arrivals k) × (InTime arrivals k → inTime arrivals k ≡ true)
 
 -- the place of the packet of each segment, in the order of sending
-unfoldable pub placesFrom : ℕ → List (List ℕ) → List ℕ
+unfoldable pub placesFrom : ℕ → List Packet → List ℕ
 placesFrom n [] = []
-placesFrom n (p ∷ more) = replicate (length (segmentsOf p)) n ++ placesFrom (suc n) more
+placesFrom n (p ∷ more) = replicate (segmentCount (sub p)) n ++ placesFrom (suc n) more
 
 -- the places of the packets that carry frame number i: those of its segments, which stand behind the segments of the frames before it
-unfoldable pub carriers : List Pieces → List (List ℕ) → ℕ → List ℕ
+unfoldable pub carriers : List Pieces → List Packet → ℕ → List ℕ
 carriers frames packets i =
     part (placesFrom 0 packets) (sumTo (λ j. length (getD frames j [])) i) (length (getD frames i []))
 
 -- frame number i: every packet of it arrived before any packet sent after that one
-abbrev pub Whole : List ℕ → List Pieces → List (List ℕ) → ℕ → Type 0
+abbrev pub Whole : List ℕ → List Pieces → List Packet → ℕ → Type 0
 Whole arrivals frames packets i = Each (InTime arrivals) (carriers frames packets i)
 
 -- `out` is what remains of the frames, numbered from i on, when exactly the whole ones are kept: their bytes as they were, in order.

@@ -6,10 +6,11 @@ use mathlib.Core.Bool.{true, false, cond}
 use mathlib.Core.List.{List, [], _∷_}
 use lib.Dec.{eqb}
 use lib.ListN.{length}
-use Rattle.packet.specs.Header.{overIp, sub, sSet}
+use Rattle.packet.specs.Header.{sub, sSet}
 use Rattle.packet.specs.Dmpt.{mpegLength, mpegs, pid, nullPid}
-use Rattle.card.specs.Receive.{rowOf, toDmpt}
-use Rattle.card.specs.History.{Card, hands, framesOf, answer, after}
+use Rattle.table.specs.Rows.{isDmpt, rowAt}
+use Rattle.card.specs.Receive.{rowOf}
+use Rattle.card.specs.History.{Card, Arrival, hands, framesOf, answer, after}
 
 -- those that carry something, and those that carry nothing
 unfoldable pub carrying : List (List ℕ) → List (List ℕ)
@@ -21,14 +22,14 @@ nulls [] = []
 nulls (m ∷ more) = cond (eqb (pid m) nullPid) (m ∷ nulls more) (nulls more)
 
 -- `dmpt-delivers`, for every table and slices
-pub record Delivers (c : Card) (packet out lens : List ℕ) : Type 0 where
-  pub frames-are : framesOf (answer c (hands packet out lens)) ≡ carrying (mpegs (sub overIp packet))
-  pub dropped-are : (answer c (hands packet out lens)) .dropped ≡ mpegLength * length (nulls (mpegs (sub overIp packet)))
-  pub holds-nothing : (after c (hands packet out lens)) .holding ≡ c .holding
-  pub without-number : sSet (sub overIp packet) ≡ false →
-      ((answer c (hands packet out lens)) .gap ≡ 0) × ((after c (hands packet out lens)) .table ≡ c .table)
+pub record Delivers (c : Card) (a : Arrival) : Type 0 where
+  pub frames-are : framesOf (answer c (hands a)) ≡ carrying (mpegs (sub (a .packet)))
+  pub dropped-are : (answer c (hands a)) .dropped ≡ mpegLength * length (nulls (mpegs (sub (a .packet))))
+  pub holds-nothing : (after c (hands a)) .holding ≡ c .holding
+  pub without-number : sSet (sub (a .packet)) ≡ false →
+      ((answer c (hands a)) .gap ≡ 0) × ((after c (hands a)) .table ≡ c .table)
 
 abbrev pub DmptDelivers : Type 0
 DmptDelivers =
-    (c : Card) (packet out lens : List ℕ) → toDmpt (c .table) (rowOf overIp (c .table) packet) ≡ true →
-    (answer c (hands packet out lens)) .code ≡ 0 → Delivers c packet out lens
+    (c : Card) (a : Arrival) → isDmpt (rowAt (c .table) (rowOf (c .table) (a .packet)) .kind) ≡ true →
+    (answer c (hands a)) .code ≡ 0 → Delivers c a

@@ -5,6 +5,8 @@ use mathlib.Core.Path.{_≡_}
 use mathlib.Core.Bool.{cond}
 use mathlib.Core.List.{List, [], _∷_, _++_}
 use lib.Dec.{leb}
+use Rattle.table.specs.declared.Kind.{Kind}
+use Rattle.table.specs.declared.Kind.the-variants as psp
 use Rattle.card.specs.History.{Card, Call, answer, after}
 use Rattle.promises.specs.Words.{handsTo}
 use Rattle.promises.specs.Demand.{Sending, Run, openedCard}
@@ -14,10 +16,10 @@ pub record Verdict : Type 0 where
   pub code : ℕ
   pub gap : ℕ
 
-unfoldable pub verdictsOut : ℕ → ℕ → Card → List Call → List Verdict
-verdictsOut session flow c [] = []
-verdictsOut session flow c (x ∷ more) =
-    cond (handsTo session flow x) (record { code = (answer c x) .code; gap = (answer c x) .gap } ∷ []) [] ++ verdictsOut session flow (after c x) more
+unfoldable pub verdictsOut : Kind → ℕ → ℕ → Card → List Call → List Verdict
+verdictsOut kind session flow c [] = []
+verdictsOut kind session flow c (x ∷ more) =
+    cond (handsTo kind session flow x) (record { code = (answer c x) .code; gap = (answer c x) .gap } ∷ []) [] ++ verdictsOut kind session flow (after c x) more
 
 -- What they ought to be, told along the sender's packets: the first arrival is accepted with gap 0. From then on one at or beyond the place expected
 -- next is accepted, and its gap is how many packets it passed over; any other is late.
@@ -33,4 +35,4 @@ verdictsOf (x ∷ more) = record { code = 0; gap = 0 } ∷ verdictsFrom (suc x) 
 
 -- `gaps-are-told`
 abbrev pub GapsAreTold : Type 0
-GapsAreTold = (s : Sending) (r : Run s) → verdictsOut (s .session) (s .flow) (openedCard s r) (r .calls) ≡ verdictsOf (r .arrivals)
+GapsAreTold = (s : Sending) (r : Run s) → verdictsOut psp.Psp (s .line .session) (s .line .flow) (openedCard s r) (r .calls) ≡ verdictsOf (r .arrivals)

@@ -8,23 +8,24 @@ use mathlib.Core.List.{List, [], _∷_}
 use lib.Dec.{eqb}
 use lib.ListN.{length}
 use Rattle.octets.specs.Stretch.{part}
-use Rattle.table.specs.declared.Mode.{Mode}
+use Rattle.packet.specs.Header.{Packet}
+use Rattle.table.specs.declared.Request.{Request}
 use Rattle.table.specs.Calls.{isOpen}
 use Rattle.card.specs.History.{Card, Call, opens, closes, hands, Answer, answer, after, afterAll, emptyCard}
 use Rattle.promises.specs.Words.{ofSession}
 
 -- a session's own calls: a packet, with the sizes of the two slices lent for it, or the close
 pub data Own : Type 0 where
-  gets : List ℕ → ℕ → ℕ → Own
+  gets : Packet → ℕ → ℕ → Own
   ends : Own
 
 -- those of a session, up to its close
 unfoldable pub own : ℕ → List Call → List Own
 own session [] = []
-own session (opens asked id ∷ more) = own session more
+own session (opens r ∷ more) = own session more
 own session (closes id ∷ more) = cond (eqb id session) (ends ∷ []) (own session more)
-own session (hands packet out lens ∷ more) =
-    cond (ofSession session packet) (gets packet (length out) (length lens) ∷ own session more) (own session more)
+own session (hands a ∷ more) =
+    cond (ofSession session (a .packet)) (gets (a .packet) (length (a .output)) (length (a .lengths)) ∷ own session more) (own session more)
 
 -- What the session is told is an answer with its two slices cut to what was delivered. (Behind that both are as they were lent.)
 abbrev pub Told : Type 0
@@ -45,13 +46,13 @@ toldBy a =
 -- what it is told in answer to its own calls, up to its close
 unfoldable pub told : ℕ → Card → List Call → List Told
 told session c [] = []
-told session c (opens asked id ∷ more) = told session (after c (opens asked id)) more
+told session c (opens r ∷ more) = told session (after c (opens r)) more
 told session c (closes id ∷ more) =
     cond (eqb id session) (toldBy (answer c (closes id)) ∷ []) (told session (after c (closes id)) more)
-told session c (hands packet out lens ∷ more) =
-    cond (ofSession session packet)
-    (toldBy (answer c (hands packet out lens)) ∷ told session (after c (hands packet out lens)) more)
-    (told session (after c (hands packet out lens)) more)
+told session c (hands a ∷ more) =
+    cond (ofSession session (a .packet))
+    (toldBy (answer c (hands a)) ∷ told session (after c (hands a)) more)
+    (told session (after c (hands a)) more)
 
 -- a card after some calls from an empty table
 abbrev pub cardAfter : List ℕ → List Call → Card
@@ -60,17 +61,17 @@ cardAfter holding calls = afterAll (emptyCard holding) calls
 -- `isolation`
 abbrev pub Isolation : Type 0
 Isolation =
-    (session : ℕ) (asked : Mode) (holding holding′ : List ℕ) (before before′ calls calls′ : List Call) →
+    (r : Request) (holding holding′ : List ℕ) (before before′ calls calls′ : List Call) →
     length holding ≡ length holding′ →
-    (answer (cardAfter holding before) (opens asked session)) .code ≡ 0 →
-    (answer (cardAfter holding′ before′) (opens asked session)) .code ≡ 0 →
-    own session calls ≡ own session calls′ →
-    told session (after (cardAfter holding before) (opens asked session)) calls
-    ≡ told session (after (cardAfter holding′ before′) (opens asked session)) calls′
+    (answer (cardAfter holding before) (opens r)) .code ≡ 0 →
+    (answer (cardAfter holding′ before′) (opens r)) .code ≡ 0 →
+    own (r .id) calls ≡ own (r .id) calls′ →
+    told (r .id) (after (cardAfter holding before) (opens r)) calls
+    ≡ told (r .id) (after (cardAfter holding′ before′) (opens r)) calls′
 
 -- `open-by-ids`
 abbrev pub OpenByIds : Type 0
 OpenByIds =
-    (session : ℕ) (asked : Mode) (holding holding′ : List ℕ) (before before′ : List Call) →
+    (r : Request) (holding holding′ : List ℕ) (before before′ : List Call) →
     ((id : ℕ) → isOpen ((cardAfter holding before) .table) id ≡ isOpen ((cardAfter holding′ before′) .table) id) →
-    (answer (cardAfter holding before) (opens asked session)) .code ≡ (answer (cardAfter holding′ before′) (opens asked session)) .code
+    (answer (cardAfter holding before) (opens r)) .code ≡ (answer (cardAfter holding′ before′) (opens r)) .code

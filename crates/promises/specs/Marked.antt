@@ -11,7 +11,10 @@ use Rattle.octets.specs.Stretch.{part}
 use Rattle.octets.specs.Count.{upTo}
 use Rattle.octets.specs.Each.{Each}
 use Rattle.flow.specs.Flow.{flows}
+use Rattle.packet.specs.Header.{ip}
+use Rattle.table.specs.declared.Mode.{Mode}
 use Rattle.table.specs.declared.Mode.the-variants as mode
+use Rattle.table.specs.declared.Request.{Request}
 use Rattle.table.specs.Rows.{rowAt, flowAt, find}
 use Rattle.join.specs.Slices.{mostBytes, mostFrames}
 use Rattle.card.specs.Receive.{holdingSize, placeOf}
@@ -82,11 +85,15 @@ pub data Case : Type 0 where
   hears : List (List ℕ) → List ℕ → Seen → Case
   sends : Job → ℕ → List Turn → List (List ℕ) → Case
 
+-- a session asked for by its ID
+abbrev pub asking : Mode → ℕ → Request
+asking asked id = record { id = id; mode = asked }
+
 abbrev pub opened-card : Card
-opened-card = after (emptyCard (replicate holdingSize 0)) (opens mode.Psp 0x101)
+opened-card = after (emptyCard (replicate holdingSize 0)) (opens (asking mode.Psp 0x101))
 
 abbrev pub hand : List ℕ → Call
-hand packet = hands packet (replicate mostBytes 0) (replicate mostFrames 0)
+hand packet = hands (record { packet = ip packet; output = replicate mostBytes 0; lengths = replicate mostFrames 0 })
 
 unfoldable pub handed-card : Card → List (List ℕ) → Card
 handed-card c [] = c

@@ -8,16 +8,16 @@ use lib.ListN.{length}
 use Rattle.octets.specs.Stretch.{joined, cutBy}
 use Rattle.octets.specs.Each.{Each}
 use Rattle.flow.specs.Numbers.{modulus, numberAt}
-use Rattle.packet.specs.Header.{idLength}
-use Rattle.table.specs.declared.Mode.the-variants as mode
+use Rattle.packet.specs.Header.{Packet, ip, idLength}
+use Rattle.table.specs.declared.Kind.the-variants as kind
 use Rattle.card.specs.History.{Call, opens, answer, after, afterAll, emptyCard}
 use Rattle.sender.specs.declared.Position.{Position}
 use Rattle.sender.specs.Send.{Asked, sent}
 use Rattle.sender.specs.Series.{Job, Turn, Sound, Usable, startOfFrame, seriesPackets, seriesNumber}
-use Rattle.sender.specs.Rules.{Pieces, KeepsRules}
+use Rattle.sender.specs.Rules.{Pieces, Line, KeepsRules}
 use Rattle.promises.specs.Words.{packetsTo, framesOut, LongEnough, StaysOpen}
 use Rattle.promises.specs.Arrivals.{Kept}
-use Rattle.promises.specs.Demand.{Sending, Run, WholeIn, comesOut}
+use Rattle.promises.specs.Demand.{Sending, opening, Run, WholeIn, comesOut}
 
 -- An address and frames that 31 and 33 do not refuse, a number of two bytes, and calls enough to send them: each sends at least one byte, and those
 -- behind the last frame are refused by 35 and send nothing.
@@ -33,13 +33,17 @@ pub record Given : Type 0 where
 abbrev pub framesGiven : Given → List (List ℕ)
 framesGiven g = cutBy (g .job .lens) (g .job .bytes)
 
-abbrev pub packetsGiven : Given → List (List ℕ)
-packetsGiven g = seriesPackets (g .job) (g .number) (startOfFrame 0) (g .turns)
+-- the sender's packets, as they go over IP, and where they go
+abbrev pub packetsGiven : Given → List Packet
+packetsGiven g = map ip (seriesPackets (g .job) (g .number) (startOfFrame 0) (g .turns))
+
+abbrev pub lineOf : Given → Line
+lineOf g = record { session = g .job .session; flow = g .job .flow; start = g .number }
 
 -- `sender-keeps-rules`: what it sends is a sending as demand 3 supposes it, of these frames and no other, the last one finished
 pub record IsSent (g : Given) (frames : List Pieces) : Type 0 where
   pub these-frames : map joined frames ≡ framesGiven g
-  pub by-the-rules : KeepsRules (g .job .session) (g .job .flow) (g .number) frames [] (packetsGiven g)
+  pub by-the-rules : KeepsRules (lineOf g) frames [] (packetsGiven g)
 
 pub record SenderKeepsRules : Type 0 where
   pub pieces : Given → List Pieces
@@ -48,10 +52,10 @@ pub record SenderKeepsRules : Type 0 where
 -- .. and one sending behind another, numbered on, is a sending; and the number that a series gives back is the one to go on with. So frames may be given to
 -- the sender 127 at a time, which is all that 33 lets pass, for ever.
 pub record SendingsGoOn : Type 0 where
-  pub joined-up : (session flow start : ℕ) (frames more : List Pieces) (unfinished : Pieces) (packets behind : List (List ℕ)) →
-      KeepsRules session flow start frames [] packets →
-      KeepsRules session flow (numberAt start (length packets)) more unfinished behind →
-      KeepsRules session flow start (frames ++ more) unfinished (packets ++ behind)
+  pub joined-up : (line : Line) (frames more : List Pieces) (unfinished : Pieces) (packets behind : List Packet) →
+      KeepsRules line frames [] packets →
+      KeepsRules (record { session = line .session; flow = line .flow; start = numberAt (line .start) (length packets) }) more unfinished behind →
+      KeepsRules line (frames ++ more) unfinished (packets ++ behind)
   pub numbered-on : (job : Job) (number : ℕ) (at : Position) (turns : List Turn) → number < modulus →
       seriesNumber job number at turns ≡ numberAt number (length (seriesPackets job number at turns))
 
@@ -64,18 +68,16 @@ pub record InOrder (g : Given) : Type 0 where
   pub holding : List ℕ
   pub before : List Call
   pub calls : List Call
-  pub opens-now : (answer (afterAll (emptyCard holding) before) (opens mode.Psp (g .job .session))) .code ≡ 0
+  pub opens-now : (answer (afterAll (emptyCard holding) before) (opens (opening (lineOf g)))) .code ≡ 0
   pub stays-open : StaysOpen (g .job .session) calls
-  pub long-enough : LongEnough (g .job .session) (g .job .flow) holding calls
-  pub all-arrive : packetsTo (g .job .session) (g .job .flow) calls ≡ packetsGiven g
+  pub long-enough : LongEnough kind.Psp (g .job .session) (g .job .flow) holding calls
+  pub all-arrive : packetsTo kind.Psp (g .job .session) (g .job .flow) calls ≡ packetsGiven g
 
 -- what was sent, as a sending of these frames
 abbrev pub sendingOf : (g : Given) (frames : List Pieces) → IsSent g frames → Sending
 sendingOf g frames is-sent =
     record {
-      session = g .job .session;
-      flow = g .job .flow;
-      start = g .number;
+      line = lineOf g;
       frames = frames;
       unfinished = [];
       packets = packetsGiven g;
@@ -85,7 +87,7 @@ sendingOf g frames is-sent =
 -- `round-trip`
 pub record RoundTrip : Type 0 where
   pub in-order : (g : Given) (o : InOrder g) →
-      framesOut (g .job .session) (g .job .flow) (after (afterAll (emptyCard (o .holding)) (o .before)) (opens mode.Psp (g .job .session))) (o .calls)
+      framesOut kind.Psp (g .job .session) (g .job .flow) (after (afterAll (emptyCard (o .holding)) (o .before)) (opens (opening (lineOf g)))) (o .calls)
       ≡ framesGiven g
   pub over-a-network : (g : Given) (frames : List Pieces) (is-sent : IsSent g frames) (r : Run (sendingOf g frames is-sent)) →
       Kept (WholeIn (sendingOf g frames is-sent) r) 0 frames (comesOut (sendingOf g frames is-sent) r)

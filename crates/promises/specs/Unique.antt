@@ -8,7 +8,8 @@ use denote.Ref.{RefT}
 use Rattle.flow.specs.declared.Flow.{Flow}
 use Rattle.flow.specs.Flow.{PermitsFresh, PermitsJudge}
 use Rattle.packet.specs.Check as packet
-use Rattle.table.specs.declared.Mode.{Mode}
+use Rattle.packet.specs.Header.{Packet}
+use Rattle.table.specs.declared.Request.{Request}
 use Rattle.table.specs.declared.Table.{Table}
 use Rattle.table.specs.Rows.{PermitsEmpty}
 use Rattle.table.specs.Calls.{PermitsOpen, PermitsClose}
@@ -33,13 +34,13 @@ SameSlice a b = (a .ptr .0 ≡ b .ptr .0) × (a .ptr .1 ≡ b .ptr .1) × (a .no
 
 -- `unique-open`, `unique-close`, `unique-receive`, `unique-send`
 abbrev pub UniqueOpen : Type 0
-UniqueOpen = (t : Table) (id : ℕ) (asked : Mode) → One (PermitsOpen t id asked)
+UniqueOpen = (t : Table) (r : Request) → One (PermitsOpen t r)
 
 abbrev pub UniqueClose : Type 0
 UniqueClose = (t : Table) (id : ℕ) → One (PermitsClose t id)
 
 abbrev pub UniqueReceive : Type 0
-UniqueReceive = (t : Table) (packet : List ℕ) (s : Slices) → One (PermitsReceive t packet s)
+UniqueReceive = (t : Table) (p : Packet) (s : Slices) → One (PermitsReceive t p s)
 
 abbrev pub UniqueSend : Type 0
 UniqueSend = (a : Asked) → One (PermitsSend a)

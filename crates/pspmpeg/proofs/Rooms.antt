@@ -13,19 +13,23 @@ use Rattle.octets.specs.Count.{sumTo, upTo}
 use Rattle.octets.specs.Stretch.{part, joined, lengths, cutBy}
 use Rattle.octets.proofs.Counts.{sum-below}
 use Rattle.octets.proofs.Stretches.{part-short, length-rest, joined-append}
-use Rattle.packet.specs.Header.{overIp, idLength, sub}
-use Rattle.packet.specs.Segments.{entryWidth, bodyAt}
-use Rattle.packet.specs.Psp.{wanted}
+use Rattle.packet.specs.Header.{Packet, ip, idLength, sub, segmentCount}
+use Rattle.packet.specs.Segments.{lengthAt, bodyAt}
+use Rattle.packet.specs.Psp.{wanted, pspRefusals}
+use Rattle.packet.specs.Dmpt.{carried, dmptRefusals}
 use Rattle.packet.proofs.Passing.{psp-passed}
 use Rattle.table.specs.declared.Mode.the-variants as mode
-use Rattle.join.specs.Slices.{mostFrames, Slices, asSlices}
-use Rattle.card.specs.Receive.{holdingSize, rowOf, toDmpt, flowOf, heldBy, packetRefusals, received}
-use Rattle.card.specs.History.{Card, opens, closes, hands, framesOf, answer}
+use Rattle.table.specs.declared.Terms.{Terms}
+use Rattle.table.specs.Rows.{isDmpt, rowAt, termsAt}
+use Rattle.join.specs.Slices.{mostFrames, Slices}
+use Rattle.card.specs.Hear.{widthIn}
+use Rattle.card.specs.Receive.{holdingSize, rowOf, flowOf, heldBy, packetRefusals, received}
+use Rattle.card.specs.History.{Card, Arrival, opens, closes, hands, lentWith, framesOf, answer}
 use Rattle.card.proofs.Accepted as call
 use Rattle.card.proofs.Limits.{bodyBytes, accepted-bounded, held-length, held-none}
 use Rattle.capture.specs.File.{Entry, headLength, entryLength, longestFile, openPsp, openDmpt, closing, entryCount, bodyLength, bodyStart, fileRefusal, nthEntry}
 use Rattle.capture.proofs.Checking.{is-sound}
-use Rattle.listing.specs.Run.{Running, callOf, answerTo, runOne, begin, standing, answerAt}
+use Rattle.listing.specs.Run.{Running, asks, callOf, answerTo, runOne, begin, standing, answerAt}
 use Rattle.listing.proofs.Standing.{frames-short}
 use Rattle.listing.proofs.Histories.{startCard, callAt, run-card}
 use Rattle.promises.specs.Account.{packetBody, takenBy}
@@ -37,55 +41,65 @@ use Rattle.promises.proofs.OneCall.{when-accepted, when-refused, call-balances}
 use Rattle.pspmpeg.specs.Stream.{isFor, framesAt, deliveredBefore}
 
 -- a packet brings no more bytes than it has
-body-few : (dmpt : Bool) (sub : List ℕ) → first (packetRefusals dmpt sub) ≡ 0 → bodyBytes dmpt sub ≤ length sub
+few-by : (d : Bool) (width : ℕ) (sub : List ℕ) → first (cond d (dmptRefusals sub) (pspRefusals width sub)) ≡ 0 →
+    cond d (carried sub) (sumTo (lengthAt width sub) (segmentCount sub)) ≤ length sub
 unfolding wanted bodyAt
-body-few true sub z = omega arith
-body-few false sub z = let p = psp-passed entryWidth sub z in omega (arith, p .fills)
+few-by true width sub z = omega arith
+few-by false width sub z = let p = psp-passed width sub z in omega (arith, p .fills)
 
-module _ (c : Card) (packet out lens : List ℕ) where
+body-few : (terms : Terms) (sub : List ℕ) → first (packetRefusals terms sub) ≡ 0 → bodyBytes (terms .kind) sub ≤ length sub
+body-few terms sub z = few-by (isDmpt (terms .kind)) (widthIn (terms .kind)) sub z
+
+module _ (c : Card) (x : Arrival) where
+  abbrev packet : Packet
+  packet = x .packet
+
   abbrev slices : Slices
-  slices = asSlices (c .holding) out lens
+  slices = lentWith c x
 
   abbrev row : ℕ
-  row = rowOf overIp (c .table) packet
+  row = rowOf (c .table) packet
 
   abbrev behind : List ℕ
-  behind = sub overIp packet
+  behind = sub packet
 
-  packet-few : received overIp (c .table) packet slices .answer .code ≡ 0 → length (packetBody (toDmpt (c .table) row) behind) ≤ length packet
+  packet-few : received (c .table) packet slices .answer .code ≡ 0 → length (packetBody (rowAt (c .table) row .kind) behind) ≤ length (packet .bytes)
   packet-few z =
-      let a = call.accepted overIp (c .table) packet slices z in
-      let tells = heard-tells length by-length (toDmpt (c .table) row) (flowOf (c .table) row behind) (heldBy (c .table) row behind slices) behind
-      (held-none overIp (c .table) packet slices a) in
+      let a = call.accepted (c .table) packet slices z in
+      let tells = heard-tells length by-length (termsAt (c .table) row) (flowOf (c .table) row behind) (heldBy (c .table) row behind slices) behind
+      (held-none (c .table) packet slices a) in
       omega (
         arith,
         tells,
-        accepted-bounded overIp (c .table) packet slices a .all,
-        held-length overIp (c .table) packet slices a,
-        body-few (toDmpt (c .table) row) behind (a .passed),
-        length-rest packet (overIp + idLength),
+        accepted-bounded (c .table) packet slices a .all,
+        held-length (c .table) packet slices a,
+        body-few (termsAt (c .table) row) behind (a .passed),
+        length-rest (packet .bytes) (packet .lead + idLength),
       )
 
-  hands-few : (n : ℕ) → received overIp (c .table) packet slices .answer .code ≡ n → length (takenBy c (hands packet out lens)) ≤ length packet
+  hands-few : (n : ℕ) → received (c .table) packet slices .answer .code ≡ n → length (takenBy c (hands x)) ≤ length (packet .bytes)
   unfolding answer
   hands-few zero e =
-      let code = received overIp (c .table) packet slices .answer .code in
-      omega (arith, ap length (when-accepted code e (packetBody (toDmpt (c .table) row) behind) []), packet-few e)
+      let code = received (c .table) packet slices .answer .code in
+      omega (arith, ap length (when-accepted code e (packetBody (rowAt (c .table) row .kind) behind) []), packet-few e)
   hands-few (suc n) e =
-      let code = received overIp (c .table) packet slices .answer .code in
-      omega (arith, ap length (when-refused code (λ z. omega arith) (packetBody (toDmpt (c .table) row) behind) []))
+      let code = received (c .table) packet slices .answer .code in
+      omega (arith, ap length (when-refused code (λ z. omega arith) (packetBody (rowAt (c .table) row .kind) behind) []))
 
 -- .. and so does an entry
+abbrev lent : Running → Entry → Arrival
+lent r e = record { packet = ip (e .body); output = r .output; lengths = r .lengths }
+
 entry-few : (r : Running) (e : Entry) → length (takenBy (r .card) (callOf r e)) ≤ length (e .body)
 entry-few r e = by (eqb (e .kind) openPsp) (eqb (e .kind) openDmpt) (eqb (e .kind) closing)
   where
     by : (a b d : Bool) →
-        length (takenBy (r .card) (cond a (opens mode.Psp (be32At (e .body) 0)) (cond b (opens mode.Dmpt (be32At (e .body) 0)) (cond d (closes (be32At (e .body) 0)) (hands (e .body) (r .output) (r .lengths))))))
+        length (takenBy (r .card) (cond a (opens (asks mode.Psp e)) (cond b (opens (asks mode.Dmpt e)) (cond d (closes (be32At (e .body) 0)) (hands (lent r e))))))
         ≤ length (e .body)
     by true b d = omega arith
     by false true d = omega arith
     by false false true = omega arith
-    by false false false = hands-few (r .card) (e .body) (r .output) (r .lengths) _ refl
+    by false false false = hands-few (r .card) (lent r e) _ refl
 
 -- What has been delivered and what is still held, together, has come in the bodies before.
 standing-good : (file : List ℕ) (k : ℕ) → Good (standing file k .card)

@@ -8,11 +8,10 @@ use mathlib.Core.List.{List, [], _∷_, _++_}
 use lib.Dec.{eqb, leb}
 use lib.ListN.{length}
 use Rattle.octets.specs.Stretch.{joined}
-use Rattle.packet.specs.Header.{overIp, idLength, sessionId}
+use Rattle.packet.specs.Header.{ip, idLength, sessionId}
 use Rattle.table.specs.declared.Table.{Table}
-use Rattle.table.specs.Rows.{find}
+use Rattle.table.specs.Rows.{isDmpt, rowAt, find}
 use Rattle.table.specs.Calls.{isOpen}
-use Rattle.card.specs.Receive.{toDmpt}
 use Rattle.card.specs.History.{framesOf}
 use Rattle.capture.specs.File.{Entry, dataEntry, headLength, entryCount, fileRefusal, nthEntry}
 use Rattle.listing.specs.Run.{standing, answerAt}
@@ -23,11 +22,11 @@ use Rattle.mpeg.specs.Run.{Backlog, waitingIn, packetNext, afterNext}
 
 -- the session is open as PSP; an entry is a packet for it then
 abbrev pub openAsPsp : Table → ℕ → Bool
-openAsPsp t id = isOpen t id && not (toDmpt t (find t id))
+openAsPsp t id = isOpen t id && not (isDmpt (rowAt t (find t id) .kind))
 
 abbrev pub isFor : ℕ → Table → Entry → Bool
 isFor session t e =
-    eqb (e .kind) dataEntry && (leb idLength (length (e .body)) && (eqb (sessionId overIp (e .body)) session && openAsPsp t session))
+    eqb (e .kind) dataEntry && (leb idLength (length (e .body)) && (eqb (sessionId (ip (e .body))) session && openAsPsp t session))
 
 -- the frames that entry k delivers on the session; those of all entries before entry k; and those of the whole capture
 unfoldable pub framesAt : ℕ → List ℕ → ℕ → List (List ℕ)

@@ -11,12 +11,13 @@ use borrow.Author.Tests.{eqb-true, eq-eqb, ltb-false}
 use Rattle.refusal.specs.Refusal.{first}
 use Rattle.refusal.proofs.Laws.{none-applies}
 use Rattle.octets.specs.Stretch.{joined, cutBy}
+use Rattle.packet.specs.Header.{ip}
 use Rattle.sender.specs.Send.{sendRefusals}
 use Rattle.sender.specs.Series.{Job, Turn, Sound, Usable, askedFor}
 use Rattle.octets.specs.Each.{Each}
 use Rattle.sender.specs.Rules.{Pieces, KeepsRules}
 use Rattle.sender.proofs.Sending as sending
-use Rattle.sender.proofs.Series.{code-is, sends-all}
+use Rattle.sender.proofs.Series.{line, code-is, sends-all}
 use Rattle.capture.specs.File.{longestFile, mostEntries, fileRefusal, entries, fileOf}
 use Rattle.capture.specs.Write.{Right, Writable}
 use Rattle.capture.proofs.ReadsBack.{written-sound, written-reads}
@@ -50,7 +51,7 @@ module _ (job : Job) (limit number : ℕ) (made : makeRefusal job limit number �
       }
 
   pub made-whole : job .session < 4294967296 → number < 65536 →
-      (frames : List Pieces) × (map joined frames ≡ cutBy (job .lens) (job .bytes)) × KeepsRules (job .session) (job .flow) number frames [] (packetsFor job limit number)
+      (frames : List Pieces) × (map joined frames ≡ cutBy (job .lens) (job .bytes)) × KeepsRules (line job number) frames [] (map ip (packetsFor job limit number))
   unfolding packetsFor
   made-whole four-bytes two-bytes =
       let p = sending.job (askedFor job number atFirst (turnFor limit)) passed in

@@ -13,7 +13,7 @@ use Rattle.refusal.specs.Refusal.{first}
 use Rattle.octets.specs.Stretch.{joined}
 use Rattle.octets.proofs.Stretches.{part-put}
 use Rattle.flow.specs.Numbers.{next}
-use Rattle.packet.specs.Header.{overIp, sub, sessionId, flowId, headerLength, number as number-in}
+use Rattle.packet.specs.Header.{ip, sub, sessionId, flowId, headerLength, number as number-in}
 use Rattle.packet.specs.Segments.{Segment, entryWidth, segments}
 use Rattle.packet.specs.Check.{kindPsp, check}
 use Rattle.sender.specs.Cut.{indexOf, goesOn, leastRoom}
@@ -121,21 +121,21 @@ module _ (a : Asked) (z : first (sendRefusals a) ≡ 0) where
           not-long = omega (arith, packet-fits, small a z);
         }
 
-    pub sent-passes : check overIp kindPsp (packetLeft (sent a)) ≡ 0
-    sent-passes = ap (check overIp kindPsp) sent-packet ∙ written-passes (a .session) (a .flow) (a .number) ((cutFor a) .segments) sendable
+    pub sent-passes : check kindPsp (ip (packetLeft (sent a))) ≡ 0
+    sent-passes = ap (λ (p : List ℕ). check kindPsp (ip p)) sent-packet ∙ written-passes (a .session) (a .flow) (a .number) ((cutFor a) .segments) sendable
 
-    pub sent-addressed : Addressed (a .session) (a .flow) (packetLeft (sent a))
+    pub sent-addressed : Addressed (record { session = a .session; flow = a .flow; start = a .number }) (ip (packetLeft (sent a)))
     sent-addressed = (
-      ap (sessionId overIp) sent-packet ∙ written-session (a .session) (a .flow) (a .number) ((cutFor a) .segments) sendable,
-      ap (λ (p : List ℕ). flowId (sub overIp p)) sent-packet ∙ written-flow (a .session) (a .flow) (a .number) ((cutFor a) .segments) sendable,
+      ap (λ (p : List ℕ). sessionId (ip p)) sent-packet ∙ written-session (a .session) (a .flow) (a .number) ((cutFor a) .segments) sendable,
+      ap (λ (p : List ℕ). flowId (sub (ip p))) sent-packet ∙ written-flow (a .session) (a .flow) (a .number) ((cutFor a) .segments) sendable,
     )
 
-    pub sent-numbered : number-in (sub overIp (packetLeft (sent a))) ≡ a .number
-    sent-numbered = ap (λ (p : List ℕ). number-in (sub overIp p)) sent-packet ∙ written-number (a .session) (a .flow) (a .number) ((cutFor a) .segments) sendable
+    pub sent-numbered : number-in (sub (ip (packetLeft (sent a)))) ≡ a .number
+    sent-numbered = ap (λ (p : List ℕ). number-in (sub (ip p))) sent-packet ∙ written-number (a .session) (a .flow) (a .number) ((cutFor a) .segments) sendable
 
-    sent-segments : segmentsOf (packetLeft (sent a)) ≡ (cutFor a) .segments
-    sent-segments = ap segmentsOf sent-packet ∙ written-segments (a .session) (a .flow) (a .number) ((cutFor a) .segments) sendable
+    sent-segments : segmentsOf entryWidth (ip (packetLeft (sent a))) ≡ (cutFor a) .segments
+    sent-segments = ap (λ (p : List ℕ). segmentsOf entryWidth (ip p)) sent-packet ∙ written-segments (a .session) (a .flow) (a .number) ((cutFor a) .segments) sendable
 
     -- its segments are the next stretch of the frames
-    pub sent-carries : Carried (a .bytes) (a .lens) (a .position) (segmentsOf (packetLeft (sent a))) ((sent a) .answer .position)
+    pub sent-carries : Carried (a .bytes) (a .lens) (a .position) (segmentsOf entryWidth (ip (packetLeft (sent a)))) ((sent a) .answer .position)
     sent-carries = rw (sent-segments, sent-position) (cut-done .carried)

@@ -20,7 +20,7 @@ use Rattle.octets.proofs.Numbers.{two-reads-back, four-reads-back}
 use Rattle.octets.proofs.Stretches.{part-between}
 use Rattle.octets.proofs.Counts.{none-all, sum-none, sum-more}
 use Rattle.flow.specs.Flow.{topFlow}
-use Rattle.packet.specs.Header.{overIp, sBit, headerLength, shortestPacket, longestPacket, sub, sessionId, flowId, segmentCount, number as number-in, sSet, notPlain, beforeSession}
+use Rattle.packet.specs.Header.{ip, sBit, headerLength, shortestPacket, longestPacket, sub, sessionId, flowId, segmentCount, number as number-in, sSet, notPlain, beforeSession}
 use Rattle.packet.specs.Segments.{Segment, entryWidth, bBit, eBit, entryAt, beginsIn, endsIn, lengthIn, lengthAt, bodyAt, segmentAt, segments}
 use Rattle.packet.specs.Psp.{wanted, badAt, pspRefusals}
 use Rattle.packet.specs.Check.{kindPsp, checkRefusals, check}
@@ -123,7 +123,7 @@ module _ (session flow number : ℕ) (segs : List Segment) where
   unfolding packetOf
   packet-is = refl
 
-  pub sub-is : sub overIp (packetOf session flow number segs) ≡ behindId
+  pub sub-is : sub (ip (packetOf session flow number segs)) ≡ behindId
   unfolding packetOf rest
   sub-is = refl
 
@@ -135,7 +135,7 @@ module _ (session flow number : ℕ) (segs : List Segment) where
     abbrev count : ℕ
     count = length segs
 
-    reads-session : sessionId overIp (packetOf session flow number segs) ≡ session
+    reads-session : sessionId (ip (packetOf session flow number segs)) ≡ session
     unfolding packetOf
     reads-session = four-reads-back session (w .four-bytes)
 
@@ -255,33 +255,33 @@ module _ (session flow number : ℕ) (segs : List Segment) where
       ),
     )
 
-    early-passes : NoneApplies (beforeSession overIp (packetOf session flow number segs))
+    early-passes : NoneApplies (beforeSession (ip (packetOf session flow number segs)))
     early-passes =
         let n = length-packet in (
-          le-ltb (length (packetOf session flow number segs)) (overIp + shortestPacket) (omega arith),
+          le-ltb (length (packetOf session flow number segs)) shortestPacket (omega arith),
           (
-            le-ltb (overIp + longestPacket) (length (packetOf session flow number segs)) (omega (arith, w .not-long)),
+            le-ltb longestPacket (length (packetOf session flow number segs)) (omega (arith, w .not-long)),
             (rw reads-session (ne-eqb session 0 (w .to-session)), tt),
           ),
         )
 
     -- It passes the check, ..
-    pub written-passes : check overIp kindPsp (packetOf session flow number segs) ≡ 0
+    pub written-passes : check kindPsp (ip (packetOf session flow number segs)) ≡ 0
     unfolding check checkRefusals
     written-passes =
-        first-passed (beforeSession overIp (packetOf session flow number segs)) (pspRefusals entryWidth (sub overIp (packetOf session flow number segs))) refl (none-first (beforeSession overIp (packetOf session flow number segs)) early-passes)
+        first-passed (beforeSession (ip (packetOf session flow number segs))) (pspRefusals entryWidth (sub (ip (packetOf session flow number segs)))) refl (none-first (beforeSession (ip (packetOf session flow number segs))) early-passes)
         ∙ ap (λ (s : List ℕ). first (pspRefusals entryWidth s)) sub-is
         ∙ none-first (pspRefusals entryWidth behindId) psp-passes
 
     -- .. and reads as what it was written from.
-    pub written-session : sessionId overIp (packetOf session flow number segs) ≡ session
+    pub written-session : sessionId (ip (packetOf session flow number segs)) ≡ session
     written-session = reads-session
 
-    pub written-flow : flowId (sub overIp (packetOf session flow number segs)) ≡ flow
+    pub written-flow : flowId (sub (ip (packetOf session flow number segs))) ≡ flow
     written-flow = ap flowId sub-is ∙ reads-flow
 
-    pub written-number : number-in (sub overIp (packetOf session flow number segs)) ≡ number
+    pub written-number : number-in (sub (ip (packetOf session flow number segs))) ≡ number
     written-number = ap number-in sub-is ∙ reads-number
 
-    pub written-segments : segments entryWidth (sub overIp (packetOf session flow number segs)) ≡ segs
+    pub written-segments : segments entryWidth (sub (ip (packetOf session flow number segs))) ≡ segs
     written-segments = ap (segments entryWidth) sub-is ∙ reads-segments

@@ -10,7 +10,7 @@ use native.Mathlib.Omega.{arith}
 use native.Mathlib.Numerals.{add-one}
 use native.Mathlib.Nat.{not-suc-le-zero, le-of-suc-le-suc}
 use lib.Dec.{eqb, ltb}
-use lib.ListN.{length, getD, length-append}
+use lib.ListN.{length, length-map, length-append}
 use borrow.Author.Tests.{eqb-true, eqb-false, eq-eqb, ltb-true, ltb-false, le-ltb, lt-ltb}
 use Rattle.refusal.specs.Refusal.{first}
 use Rattle.octets.specs.Stretch.{part, joined, cutBy}
@@ -19,7 +19,8 @@ use Rattle.octets.proofs.Stretches.{part-none}
 use Rattle.octets.proofs.Counts.{sum-within}
 use Rattle.flow.specs.Numbers.{numberAt}
 use Rattle.flow.proofs.Numbers.{next-below, numberAt-first, numberAt-from-next}
-use Rattle.packet.specs.Header.{overIp, idLength, sub, number as number-in}
+use Rattle.packet.specs.Header.{Packet, ip, idLength, sub, number as number-in}
+use Rattle.packet.specs.Segments.{entryWidth}
 use Rattle.packet.specs.Check.{kindPsp, check}
 use Rattle.sender.specs.declared.Position.{Position}
 use Rattle.sender.specs.Cut.{frameLength, frameStart, indexOf}
@@ -28,7 +29,7 @@ use Rattle.sender.specs.Send.{Asked, outside, sendRefusals, written, ref
 use Rattle.sender.specs.Carried.{Carried}
 use Rattle.sender.specs.Series.{Job, Turn, Sound, Usable, startOfFrame, askedFor, packetLeft, seriesPackets, seriesEnd}
 use Rattle.octets.specs.Each.{Each}
-use Rattle.sender.specs.Rules.{Pieces, Addressed, segmentsOf, allSegments, KeepsRules}
+use Rattle.sender.specs.Rules.{Pieces, Line, Addressed, segmentsOf, allSegments, packetAt, KeepsRules}
 use Rattle.sender.proofs.Positions.{Framed, framed, Inside, place-within, carried-append, carried-place, carried-bytes}
 use Rattle.sender.proofs.Frames.{Filled, Apart, carried-apart, framesFrom, all-frames}
 use Rattle.sender.proofs.Keeping.{Typed, sent-number, sent-inside, sent-farther, sent-passes, sent-addressed, sent-numbered, sent-carries}
@@ -60,12 +61,16 @@ pub code-is : (a : Asked) → (sent a) .answer .code ≡ first (sendRefusals a)
 unfolding sent
 code-is a = code-by a (first (sendRefusals a))
 
+-- where a job's packets go, when the first has this number
+abbrev pub line : Job → ℕ → Line
+line job number = record { session = job .session; flow = job .flow; start = number }
+
 -- what is known of the packets of a series, and of where it ends
 pub record Kept (job : Job) (number : ℕ) (at : Position) (packets : List (List ℕ)) (end : Position) (turns : ℕ) : Type 0 where
-  pub passing : Each (λ p. check overIp kindPsp p ≡ 0) packets
-  pub addressed : Each (Addressed (job .session) (job .flow)) packets
-  pub numbered : (i : ℕ) → i < length packets → number-in (sub overIp (getD packets i [])) ≡ numberAt number i
-  pub carried : Carried (job .bytes) (job .lens) at (allSegments packets) end
+  pub passing : Each (λ p. check kindPsp p ≡ 0) (map ip packets)
+  pub addressed : Each (Addressed (line job number)) (map ip packets)
+  pub numbered : (i : ℕ) → i < length packets → number-in (sub (packetAt (map ip packets) i)) ≡ numberAt number i
+  pub carried : Carried (job .bytes) (job .lens) at (allSegments entryWidth (map ip packets)) end
   pub farther : indexOf (job .lens) at + length packets ≤ indexOf (job .lens) end
   pub ends-inside : Inside (job .lens) end
   pub done : (end .frame ≡ length (job .lens)) ⊎ (length packets ≡ turns)
@@ -113,13 +118,13 @@ module _ (job : Job) (sound : Sound job) where
           passing = (sent-passes asked z typed, k .passing);
           addressed = (sent-addressed asked z typed, k .addressed);
           numbered = counts;
-          carried = carried-append (job .bytes) (job .lens) at ((sent asked) .answer .position) end (segmentsOf (packetLeft (sent asked))) (allSegments packets) (sent-carries asked z typed) (k .carried);
+          carried = carried-append (job .bytes) (job .lens) at ((sent asked) .answer .position) end (segmentsOf entryWidth (ip (packetLeft (sent asked)))) (allSegments entryWidth (map ip packets)) (sent-carries asked z typed) (k .carried);
           farther = omega (arith, k .farther, sent-farther asked z);
           ends-inside = k .ends-inside;
           done = ⊎-elim (λ e. inl e) (λ e. inr (ap suc e)) (k .done);
         }
       where
-        counts : (j : ℕ) → j < suc (length packets) → number-in (sub overIp (getD (packetLeft (sent asked) ∷ packets) j [])) ≡ numberAt number j
+        counts : (j : ℕ) → j < suc (length packets) → number-in (sub (packetAt (map ip (packetLeft (sent asked) ∷ packets)) j)) ≡ numberAt number j
         counts zero l = sent-numbered asked z typed ∙ sym (numberAt-first number two-bytes)
         counts (suc j) l =
             k .numbered j (le-of-suc-le-suc l) ∙ ap (λ (n : ℕ). numberAt n j) (sent-number asked z) ∙ numberAt-from-next number j ∙ ap (numberAt number) (add-one j)
@@ -150,17 +155,17 @@ module _ (job : Job) (sound : Sound job) where
 
   -- It keeps the rules, from the start of any frame: the frames that it finished, and the one that it has begun.
   pub record Obeys (number i : ℕ) (turns : List Turn) : Type 0 where
-    pub apart : Apart (job .bytes) (job .lens) i (allSegments (seriesPackets job number (startOfFrame i) turns)) (seriesEnd job number (startOfFrame i) turns)
-    pub keeps : KeepsRules (job .session) (job .flow) number (apart .frames) (apart .begun) (seriesPackets job number (startOfFrame i) turns)
+    pub apart : Apart (job .bytes) (job .lens) i (allSegments entryWidth (map ip (seriesPackets job number (startOfFrame i) turns))) (seriesEnd job number (startOfFrame i) turns)
+    pub keeps : KeepsRules (line job number) (apart .frames) (apart .begun) (map ip (seriesPackets job number (startOfFrame i) turns))
 
   pub sender-keeps-rules : (turns : List Turn) (number i : ℕ) → number < 65536 → i ≤ length (job .lens) → Each Usable turns → Obeys number i turns
   sender-keeps-rules turns number i b l us =
       let k = series-kept turns number (startOfFrame i) b (inside-start i l) us in
       let a = carried-apart (job .bytes) (job .lens) (framed (length (job .bytes)) (job .lens) (sound .frames-sound)) i (seriesEnd job number (startOfFrame i) turns)
-      (allSegments (seriesPackets job number (startOfFrame i) turns)) (k .carried) in
+      (allSegments entryWidth (map ip (seriesPackets job number (startOfFrame i) turns))) (k .carried) in
       record {
         apart = a;
-        keeps = record { sizes = a .sizes; passing = k .passing; addressed = k .addressed; numbered = k .numbered; in-order = a .in-order };
+        keeps = record { sizes = a .sizes; passing = k .passing; addressed = k .addressed; numbered = λ j m. k .numbered j (rw (length-map (seriesPackets job number (startOfFrame i) turns) ip) at m); in-order = a .in-order };
       }
 
   -- With as many calls as there are bytes left the series is at the end of the frames.
@@ -205,13 +210,13 @@ module _ (job : Job) (sound : Sound job) where
           ∙ ap (λ (t : Bool). cond t 35 0) (eq-eqb (end .frame) (length (job .lens)) at-last)
 
       -- every byte from the start on has been sent, once and in order
-      pub bytes-once : joined (map bodyOf (allSegments packets)) ≡ part (job .bytes) (indexOf (job .lens) (startOfFrame i)) (length (job .bytes) - indexOf (job .lens) (startOfFrame i))
+      pub bytes-once : joined (map bodyOf (allSegments entryWidth (map ip packets))) ≡ part (job .bytes) (indexOf (job .lens) (startOfFrame i)) (length (job .bytes) - indexOf (job .lens) (startOfFrame i))
       unfolding frameStart
       bytes-once =
           let index : indexOf (job .lens) end ≡ length (job .bytes) = rw series-ends (omega (arith, frames .all)) in
-          let place = carried-place (job .bytes) (job .lens) (startOfFrame i) end (allSegments packets) (kept .carried) in
-          let long : length (joined (map bodyOf (allSegments packets))) ≡ length (job .bytes) - indexOf (job .lens) (startOfFrame i) = omega arith in
-          carried-bytes (job .bytes) (job .lens) (startOfFrame i) end (allSegments packets) (kept .carried)
+          let place = carried-place (job .bytes) (job .lens) (startOfFrame i) end (allSegments entryWidth (map ip packets)) (kept .carried) in
+          let long : length (joined (map bodyOf (allSegments entryWidth (map ip packets)))) ≡ length (job .bytes) - indexOf (job .lens) (startOfFrame i) = omega arith in
+          carried-bytes (job .bytes) (job .lens) (startOfFrame i) end (allSegments entryWidth (map ip packets)) (kept .carried)
           ∙ ap (part (job .bytes) (indexOf (job .lens) (startOfFrame i))) long
 
       -- and no frame is left unfinished
@@ -233,11 +238,11 @@ module _ (job : Job) (sound : Sound job) where
   -- From the first frame on: what was sent is every frame, whole and in order.
   pub sends-all : (turns : List Turn) (number : ℕ) → number < 65536 → Each Usable turns → length (job .bytes) ≤ length turns →
       (frames : List Pieces) × (map joined frames ≡ cutBy (job .lens) (job .bytes))
-      × KeepsRules (job .session) (job .flow) number frames [] (seriesPackets job number (startOfFrame 0) turns)
+      × KeepsRules (line job number) frames [] (map ip (seriesPackets job number (startOfFrame 0) turns))
   unfolding frameStart sumTo
   sends-all turns number b us enough =
       let o = sender-keeps-rules turns number 0 b (omega arith) us in
       let finished = all-finished turns number 0 b (omega arith) us (omega arith) o in
       let count : length (o .apart .frames) ≡ length (job .lens) = omega (arith, finished .1) in
-      let k : KeepsRules (job .session) (job .flow) number (o .apart .frames) [] (seriesPackets job number (startOfFrame 0) turns) = rw (finished .0) at (o .keeps) in
+      let k : KeepsRules (line job number) (o .apart .frames) [] (map ip (seriesPackets job number (startOfFrame 0) turns)) = rw (finished .0) at (o .keeps) in
       (o .apart .frames, o .apart .their-bytes ∙ ap (framesFrom (job .bytes) (job .lens) 0) count ∙ all-frames (job .bytes) (job .lens), k)

@@ -11,7 +11,7 @@ use Rattle.octets.specs.Stretch.{joined}
 use Rattle.octets.specs.Each.{Each}
 use Rattle.flow.specs.Numbers.{numberAt}
 use Rattle.flow.specs.Flow.{longest}
-use Rattle.packet.specs.Header.{overIp, sub, sessionId, flowId, number}
+use Rattle.packet.specs.Header.{Packet, ip, sub, sessionId, flowId, number}
 use Rattle.packet.specs.Segments.{Segment, entryWidth, segments}
 use Rattle.packet.specs.Check.{kindPsp, check}
 
@@ -35,23 +35,33 @@ unfoldable pub inTurn : List Pieces → List Segment
 inTurn [] = []
 inTurn (f ∷ more) = wholeFrame true f ++ inTurn more
 
--- the segments of a packet, and of all packets in order
-abbrev pub segmentsOf : List ℕ → List Segment
-segmentsOf packet = segments entryWidth (sub overIp packet)
+-- the segments of a packet, and of all packets in order, with entries of this width
+abbrev pub segmentsOf : ℕ → Packet → List Segment
+segmentsOf width p = segments width (sub p)
 
-unfoldable pub allSegments : List (List ℕ) → List Segment
-allSegments [] = []
-allSegments (p ∷ more) = segmentsOf p ++ allSegments more
+unfoldable pub allSegments : ℕ → List Packet → List Segment
+allSegments width [] = []
+allSegments width (p ∷ more) = segmentsOf width p ++ allSegments width more
+
+-- where a sender's packets go, and the number of the first
+pub record Line : Type 0 where
+  pub session : ℕ
+  pub flow : ℕ
+  pub start : ℕ
 
 abbrev pub FrameSized : Pieces → Type 0
 FrameSized f = (1 ≤ length (joined f)) × (length (joined f) ≤ longest)
 
-abbrev pub Addressed : ℕ → ℕ → List ℕ → Type 0
-Addressed session flow packet = (sessionId overIp packet ≡ session) × (flowId (sub overIp packet) ≡ flow)
+abbrev pub Addressed : Line → Packet → Type 0
+Addressed line p = (sessionId p ≡ line .session) × (flowId (sub p) ≡ line .flow)
 
-pub record KeepsRules (session flow start : ℕ) (frames : List Pieces) (unfinished : Pieces) (packets : List (List ℕ)) : Type 0 where
+-- past the end of the packets stands one without bytes, which is no packet of any flow
+abbrev pub packetAt : List Packet → ℕ → Packet
+packetAt packets i = getD packets i (ip [])
+
+pub record KeepsRules (line : Line) (frames : List Pieces) (unfinished : Pieces) (packets : List Packet) : Type 0 where
   pub sizes : Each FrameSized frames
-  pub passing : Each (λ p. check overIp kindPsp p ≡ 0) packets
-  pub addressed : Each (Addressed session flow) packets
-  pub numbered : (i : ℕ) → i < length packets → number (sub overIp (getD packets i [])) ≡ numberAt start i
-  pub in-order : allSegments packets ≡ inTurn frames ++ begunFrame true unfinished
+  pub passing : Each (λ p. check kindPsp p ≡ 0) packets
+  pub addressed : Each (Addressed line) packets
+  pub numbered : (i : ℕ) → i < length packets → number (sub (packetAt packets i)) ≡ numberAt (line .start) i
+  pub in-order : allSegments entryWidth packets ≡ inTurn frames ++ begunFrame true unfinished

@@ -10,12 +10,17 @@ use Rattle.flow.specs.declared.Flow.{Flow}
 use Rattle.flow.specs.Flow.{fresh, flows}
 use Rattle.table.specs.declared.Kind.{Kind}
 use Rattle.table.specs.declared.Kind.the-variants as kind
+use Rattle.table.specs.declared.Mode.{Mode}
 use Rattle.table.specs.declared.Mode.the-variants as mode
+use Rattle.table.specs.declared.Opening.{Opening}
 use Rattle.table.specs.declared.Row.{Row}
 use Rattle.table.specs.declared.Table.{Table}
 use Rattle.table.specs.Rows.{isDmpt, empty, closedRow, rowAt, find, withRow, withFlow}
 use Rattle.table.specs.Broken.{broken}
 use Rattle.table.specs.Calls.{opened, closed}
+
+abbrev openedAs : Table → ℕ → Mode → Opening
+openedAs t id asked = opened t (record { id = id; mode = asked })
 
 abbrev flow-of : Bool → ℕ → ℕ → Flow
 flow-of heard expected held = record { heard = heard; expected = expected; held = held }
@@ -33,9 +38,9 @@ six = record { rows = row-of 7 kind.Psp ∷ row-of 8 kind.Dmpt ∷ row-of 9 kind
 abbrev five : Table
 five = withRow six 5 closedRow
 
-opened-so : (opened empty 7 mode.Psp ≡ record { code = 0; table = one }) × (opened five 12 mode.Psp ≡ record { code = 0; table = six })
-    × (opened (withRow one 0 closedRow) 7 mode.Psp ≡ record { code = 0; table = one })
-    × (opened (withRow six 1 closedRow) 8 mode.Dmpt ≡ record { code = 0; table = six })
+opened-so : (openedAs empty 7 mode.Psp ≡ record { code = 0; table = one }) × (openedAs five 12 mode.Psp ≡ record { code = 0; table = six })
+    × (openedAs (withRow one 0 closedRow) 7 mode.Psp ≡ record { code = 0; table = one })
+    × (openedAs (withRow six 1 closedRow) 8 mode.Dmpt ≡ record { code = 0; table = six })
 unfolding opened broken any least
 opened-so = (refl, refl, refl, refl)
 
@@ -46,15 +51,15 @@ unfolding opened broken any least
 there = (refl, refl, refl, refl, refl, refl, refl)
 
 -- opening: ID 0, also in a full table; an open ID, also in a full table and as another kind; a seventh session; a refused open changes nothing
-opens : ((opened empty 7 mode.Psp) .code ≡ 0) × ((opened empty 0 mode.Psp) .code ≡ 21) × ((opened six 0 mode.Psp) .code ≡ 21)
-    × ((opened one 7 mode.Dmpt) .code ≡ 22) × ((opened six 7 mode.Psp) .code ≡ 22) × ((opened six 13 mode.Psp) .code ≡ 23)
-    × ((opened six 13 mode.Psp) .table ≡ six) × ((opened one 7 mode.Dmpt) .table ≡ one) × ((opened empty 4294967295 mode.Dmpt) .code ≡ 0)
+opens : ((openedAs empty 7 mode.Psp) .code ≡ 0) × ((openedAs empty 0 mode.Psp) .code ≡ 21) × ((openedAs six 0 mode.Psp) .code ≡ 21)
+    × ((openedAs one 7 mode.Dmpt) .code ≡ 22) × ((openedAs six 7 mode.Psp) .code ≡ 22) × ((openedAs six 13 mode.Psp) .code ≡ 23)
+    × ((openedAs six 13 mode.Psp) .table ≡ six) × ((openedAs one 7 mode.Dmpt) .table ≡ one) × ((openedAs empty 4294967295 mode.Dmpt) .code ≡ 0)
 unfolding opened broken any least
 opens = (refl, refl, refl, refl, refl, refl, refl, refl, refl)
 
--- the lowest free row, after a close in the middle; an ID closed and opened again, which starts fresh
-again : (find ((opened ((closed six 9) .table) 13 mode.Psp) .table) 13 ≡ 2)
-    × (rowAt ((opened ((closed (withFlow one 0 1 (flow-of true 5 2048)) 7) .table) 7 mode.Dmpt) .table) 0 ≡ row-of 7 kind.Dmpt)
+-- the lowest free row, after a close in the middle; an ID closed and openedAs again, which starts fresh
+again : (find ((openedAs ((closed six 9) .table) 13 mode.Psp) .table) 13 ≡ 2)
+    × (rowAt ((openedAs ((closed (withFlow one 0 1 (flow-of true 5 2048)) 7) .table) 7 mode.Dmpt) .table) 0 ≡ row-of 7 kind.Dmpt)
 unfolding opened closed broken any least sumTo
 again = (refl, refl)
 
@@ -68,7 +73,7 @@ unfolding opened closed broken any least sumTo
 closes = (refl, refl, refl, refl, refl, refl, refl, refl, refl, refl)
 
 -- 13 comes first, and from a row that has nothing to do with the call: row 5 is closed and not all zero
-elsewhere : ((opened (withFlow one 5 3 (flow-of true 0 0)) 9 mode.Psp) .code ≡ 13) × ((opened (withFlow one 5 3 (flow-of true 0 0)) 0 mode.Psp) .code ≡ 13)
+elsewhere : ((openedAs (withFlow one 5 3 (flow-of true 0 0)) 9 mode.Psp) .code ≡ 13) × ((openedAs (withFlow one 5 3 (flow-of true 0 0)) 0 mode.Psp) .code ≡ 13)
     × ((closed (withFlow one 5 3 (flow-of true 0 0)) 7) .code ≡ 13) × ((closed (withFlow one 5 3 (flow-of true 0 0)) 7) .table ≡ withFlow one 5 3 (flow-of true 0 0))
 unfolding opened closed broken any least sumTo
 elsewhere = (refl, refl, refl, refl)
@@ -113,7 +118,7 @@ unfolding closed broken any least sumTo
 all-flows = (refl, refl, refl)
 
 -- 13 before 22 and before 25
-first-13 : ((opened (withFlow one 5 3 (flow-of true 0 0)) 7 mode.Psp) .code ≡ 13) × ((closed (withFlow one 5 3 (flow-of true 0 0)) 9) .code ≡ 13)
+first-13 : ((openedAs (withFlow one 5 3 (flow-of true 0 0)) 7 mode.Psp) .code ≡ 13) × ((closed (withFlow one 5 3 (flow-of true 0 0)) 9) .code ≡ 13)
     × ((closed (withFlow one 5 3 (flow-of true 0 0)) 0) .code ≡ 13)
 unfolding opened closed broken any least sumTo
 first-13 = (refl, refl, refl)

@@ -18,12 +18,13 @@ use Rattle.refusal.proofs.Laws.{none-applies}
 use Rattle.flow.specs.declared.Flow.{Flow}
 use Rattle.flow.specs.Flow.{fresh, flows, longest}
 use Rattle.table.specs.declared.Mode.{Mode}
+use Rattle.table.specs.declared.Request.{Request}
 use Rattle.table.specs.declared.Mode.the-variants as mode
 use Rattle.table.specs.declared.Row.{Row}
 use Rattle.table.specs.declared.Table.{Table}
-use Rattle.table.specs.Rows.{rows, isClosed, isDmpt, rowAt, flowAt, closedRow, empty, openIn, find, freeIn, lowestFree, withRow, withFlow}
+use Rattle.table.specs.Rows.{rows, isClosed, isDmpt, rowAt, flowAt, closedRow, empty, openIn, find, freeIn, lowestFree, rowWith, withRow, withFlow}
 use Rattle.table.specs.Broken.{notZero, flowBroken, idBroken, flowBrokenIn, rowBroken, sameOpen, openTwice, broken}
-use Rattle.table.specs.Calls.{isOpen, freshRow, openRefusals, openedBy, opened, closeRefusals, closedBy, closed}
+use Rattle.table.specs.Calls.{kindOf, isOpen, freshRow, openRefusals, openedBy, opened, closeRefusals, closedBy, closed}
 
 -- One element of a list replaced. Past the end nothing is replaced, and what holds of the old elements holds still: this is why
 -- hardly a law here asks how many rows or flows the lists have.
@@ -110,39 +111,50 @@ pub record Opens (t : Table) (id : ℕ) : Type 0 where
   pub absent : any (openIn t id) rows ≡ false
   pub room : lowestFree t < rows
 
-pub opens : (t : Table) (id : ℕ) → first (openRefusals t id) ≡ 0 → Opens t id
-opens t id e =
-    let passed = none-applies (openRefusals t id) refl e in
+pub opens : (t : Table) (q : Request) → first (openRefusals t q) ≡ 0 → Opens t (q .id)
+opens t q e =
+    let passed = none-applies (openRefusals t q) refl e in
     record {
       whole = passed .0;
       named = passed .1 .0;
-      absent = none-least (openIn t id) rows (ltb-false (find t id) rows (passed .1 .1 .0));
+      absent = none-least (openIn t (q .id)) rows (ltb-false (find t (q .id)) rows (passed .1 .1 .0));
       room = leb-false rows (lowestFree t) (passed .1 .1 .1 .0);
     }
 
-fresh-sound : (id : ℕ) (asked : Mode) → eqb id 0 ≡ false → rowBroken (freshRow id asked) ≡ false
+-- no mode is closed
+opens-some : (m : Mode) → isClosed (kindOf m) ≡ false
+opens-some mode.Psp = refl
+opens-some mode.Dmpt = refl
+
+bare-fresh : (d : Bool) → (d && (notZero 0 || (notZero 0 && false))) ≡ false
+bare-fresh true = refl
+bare-fresh false = refl
+
+fresh-sound : (q : Request) → eqb (q .id) 0 ≡ false → rowBroken (freshRow q) ≡ false
 unfolding any
-fresh-sound id mode.Psp named = simp named
-fresh-sound id mode.Dmpt named = simp named
+fresh-sound q named = by (isDmpt (kindOf (q .mode)))
+  where
+    by : (d : Bool) → (idBroken (freshRow q) || any (λ k. flowBroken (isClosed (kindOf (q .mode))) d k (flowAt (freshRow q) k)) flows) ≡ false
+    by true = simp (opens-some (q .mode), named)
+    by false = simp (opens-some (q .mode), named)
 
-fresh-alone : (t : Table) (id : ℕ) (asked : Mode) → any (openIn t id) rows ≡ false → (j : ℕ) → j < rows →
-    sameOpen (freshRow id asked) (rowAt t j) ≡ false
-fresh-alone t id mode.Psp absent j l = simp (eqb-sym id (rowAt t j .id)) (none-at (openIn t id) rows j absent l)
-fresh-alone t id mode.Dmpt absent j l = simp (eqb-sym id (rowAt t j .id)) (none-at (openIn t id) rows j absent l)
+fresh-alone : (t : Table) (q : Request) → any (openIn t (q .id)) rows ≡ false → (j : ℕ) → j < rows →
+    sameOpen (freshRow q) (rowAt t j) ≡ false
+fresh-alone t q absent j l = simp (opens-some (q .mode), eqb-sym (q .id) (rowAt t j .id)) (none-at (openIn t (q .id)) rows j absent l)
 
-fresh-keeps : (t : Table) (id : ℕ) (asked : Mode) → Opens t id → broken (withRow t (lowestFree t) (freshRow id asked)) ≡ false
-fresh-keeps t id asked o =
-    row-keeps t (lowestFree t) (freshRow id asked) (o .whole) (fresh-sound id asked (o .named))
-    (λ j l other. fresh-alone t id asked (o .absent) j l)
+fresh-keeps : (t : Table) (q : Request) → Opens t (q .id) → broken (withRow t (lowestFree t) (freshRow q)) ≡ false
+fresh-keeps t q o =
+    row-keeps t (lowestFree t) (freshRow q) (o .whole) (fresh-sound q (o .named))
+    (λ j l other. fresh-alone t q (o .absent) j l)
 
-opened-by-keeps : (c : ℕ) (t : Table) (id : ℕ) (asked : Mode) → first (openRefusals t id) ≡ c → broken t ≡ false →
-    broken (openedBy c t id asked .table) ≡ false
-opened-by-keeps zero t id asked e whole = fresh-keeps t id asked (opens t id e)
-opened-by-keeps (suc c) t id asked e whole = whole
+opened-by-keeps : (c : ℕ) (t : Table) (q : Request) → first (openRefusals t q) ≡ c → broken t ≡ false →
+    broken (openedBy c t q .table) ≡ false
+opened-by-keeps zero t q e whole = fresh-keeps t q (opens t q e)
+opened-by-keeps (suc c) t q e whole = whole
 
-pub opened-keeps : (t : Table) (id : ℕ) (asked : Mode) → broken t ≡ false → broken (opened t id asked .table) ≡ false
+pub opened-keeps : (t : Table) (q : Request) → broken t ≡ false → broken (opened t q .table) ≡ false
 unfolding opened
-opened-keeps t id asked whole = opened-by-keeps (first (openRefusals t id)) t id asked refl whole
+opened-keeps t q whole = opened-by-keeps (first (openRefusals t q)) t q refl whole
 
 -- Closing: a closed row is never open with another.
 emptied-keeps : (t : Table) (i : ℕ) → broken t ≡ false → broken (withRow t i closedRow) ≡ false
@@ -158,9 +170,6 @@ unfolding closed
 closed-keeps t id whole = closed-by-keeps (first (closeRefusals t id)) t id whole
 
 -- Putting a flow back: the row keeps its ID and its kind, so it is as alone as it was.
-abbrev rowWith : Row → ℕ → Flow → Row
-rowWith row k f = record { id = row .id; kind = row .kind; flows = set (row .flows) k f }
-
 flow-sound : (row : Row) (k : ℕ) (f : Flow) → rowBroken row ≡ false →
     flowBroken (isClosed (row .kind)) (isDmpt (row .kind)) k f ≡ false → rowBroken (rowWith row k f) ≡ false
 flow-sound row k f sound good =
@@ -195,14 +204,14 @@ accepted-keeps t i k f whole l live heard fits bare =
     flow-keeps t i k f whole l (rw live (accepted-sound (isDmpt (rowAt t i .kind)) k f heard fits bare))
 
 -- A call that is refused leaves the table as it was, and drops nothing.
-opened-by-refused : (c : ℕ) (t : Table) (id : ℕ) (asked : Mode) → (openedBy c t id asked .code ≡ 0 → ⊥) →
-    openedBy c t id asked .table ≡ t
-opened-by-refused zero t id asked refused = absurd (refused refl)
-opened-by-refused (suc c) t id asked refused = refl
+opened-by-refused : (c : ℕ) (t : Table) (q : Request) → (openedBy c t q .code ≡ 0 → ⊥) →
+    openedBy c t q .table ≡ t
+opened-by-refused zero t q refused = absurd (refused refl)
+opened-by-refused (suc c) t q refused = refl
 
-pub refused-keeps : (t : Table) (id : ℕ) (asked : Mode) → (opened t id asked .code ≡ 0 → ⊥) → opened t id asked .table ≡ t
+pub refused-keeps : (t : Table) (q : Request) → (opened t q .code ≡ 0 → ⊥) → opened t q .table ≡ t
 unfolding opened
-refused-keeps t id asked refused = opened-by-refused (first (openRefusals t id)) t id asked refused
+refused-keeps t q refused = opened-by-refused (first (openRefusals t q)) t q refused
 
 closed-by-refused : (c : ℕ) (t : Table) (id : ℕ) → (closedBy c t id .code ≡ 0 → ⊥) →
     (closedBy c t id .table ≡ t) × (closedBy c t id .dropped ≡ 0)
@@ -215,20 +224,20 @@ unfolding closed
 refused-close-keeps t id refused = closed-by-refused (first (closeRefusals t id)) t id refused
 
 -- The answered number is that of the order, and 0 comes with the replaced row.
-opened-by-code : (c : ℕ) (t : Table) (id : ℕ) (asked : Mode) → openedBy c t id asked .code ≡ c
-opened-by-code zero t id asked = refl
-opened-by-code (suc c) t id asked = refl
+opened-by-code : (c : ℕ) (t : Table) (q : Request) → openedBy c t q .code ≡ c
+opened-by-code zero t q = refl
+opened-by-code (suc c) t q = refl
 
-pub opened-code : (t : Table) (id : ℕ) (asked : Mode) → opened t id asked .code ≡ first (openRefusals t id)
+pub opened-code : (t : Table) (q : Request) → opened t q .code ≡ first (openRefusals t q)
 unfolding opened
-opened-code t id asked = opened-by-code (first (openRefusals t id)) t id asked
+opened-code t q = opened-by-code (first (openRefusals t q)) t q
 
-abbrev pub afterOpen : Table → ℕ → Mode → Table
-afterOpen t id asked = withRow t (lowestFree t) (freshRow id asked)
+abbrev pub afterOpen : Table → Request → Table
+afterOpen t q = withRow t (lowestFree t) (freshRow q)
 
-pub opened-table : (t : Table) (id : ℕ) (asked : Mode) → opened t id asked .code ≡ 0 → opened t id asked .table ≡ afterOpen t id asked
+pub opened-table : (t : Table) (q : Request) → opened t q .code ≡ 0 → opened t q .table ≡ afterOpen t q
 unfolding opened
-opened-table t id asked z = rw (sym (opened-by-code (first (openRefusals t id)) t id asked) ∙ z)
+opened-table t q z = rw (sym (opened-by-code (first (openRefusals t q)) t q) ∙ z)
 
 closed-by-code : (c : ℕ) (t : Table) (id : ℕ) → closedBy c t id .code ≡ c
 closed-by-code zero t id = refl
@@ -250,36 +259,35 @@ closed-table t id z = rw (sym (closed-by-code (first (closeRefusals t id)) t id)
 abbrev opensAs : ℕ → Row → Bool
 opensAs id row = not (isClosed (row .kind)) && eqb (row .id) id
 
-fresh-open : (id : ℕ) (asked : Mode) → opensAs id (freshRow id asked) ≡ true
-fresh-open id mode.Psp = eq-eqb id id refl
-fresh-open id mode.Dmpt = eq-eqb id id refl
+fresh-open : (q : Request) → opensAs (q .id) (freshRow q) ≡ true
+fresh-open q = simp (opens-some (q .mode)) (eq-eqb (q .id) (q .id) refl)
 
-fresh-at : (t : Table) (id : ℕ) (asked : Mode) → length (t .rows) ≡ rows → Opens t id →
-    rowAt (afterOpen t id asked) (lowestFree t) ≡ freshRow id asked
-fresh-at t id asked six o = getD-set-same (t .rows) (lowestFree t) (freshRow id asked) _ (omega (arith, o .room))
+fresh-at : (t : Table) (q : Request) → length (t .rows) ≡ rows → Opens t (q .id) →
+    rowAt (afterOpen t q) (lowestFree t) ≡ freshRow q
+fresh-at t q six o = getD-set-same (t .rows) (lowestFree t) (freshRow q) _ (omega (arith, o .room))
 
-fresh-first : (t : Table) (id : ℕ) (asked : Mode) → Opens t id → any (openIn (afterOpen t id asked) id) (lowestFree t) ≡ false
-fresh-first t id asked o =
-    none-all (openIn (afterOpen t id asked) id) (lowestFree t)
+fresh-first : (t : Table) (q : Request) → Opens t (q .id) → any (openIn (afterOpen t q) (q .id)) (lowestFree t) ≡ false
+fresh-first t q o =
+    none-all (openIn (afterOpen t q) (q .id)) (lowestFree t)
     (λ j l.
-    after-row (λ r. opensAs id r ≡ false) t (lowestFree t) (freshRow id asked) j
+    after-row (λ r. opensAs (q .id) r ≡ false) t (lowestFree t) (freshRow q) j
     (λ e. absurd (below j l e))
-    (none-at (openIn t id) rows j (o .absent) (omega (arith, o .room))))
+    (none-at (openIn t (q .id)) rows j (o .absent) (omega (arith, o .room))))
   where
     below : (j : ℕ) → j < lowestFree t → j ≡ lowestFree t → ⊥
     below j l e = omega arith
 
-fresh-found : (t : Table) (id : ℕ) (asked : Mode) → length (t .rows) ≡ rows → Opens t id →
-    find (afterOpen t id asked) id ≡ lowestFree t
-fresh-found t id asked six o =
-    least-at (openIn (afterOpen t id asked) id) rows (lowestFree t) (fresh-first t id asked o)
-    (ap (opensAs id) (fresh-at t id asked six o) ∙ fresh-open id asked) (o .room)
+fresh-found : (t : Table) (q : Request) → length (t .rows) ≡ rows → Opens t (q .id) →
+    find (afterOpen t q) (q .id) ≡ lowestFree t
+fresh-found t q six o =
+    least-at (openIn (afterOpen t q) (q .id)) rows (lowestFree t) (fresh-first t q o)
+    (ap (opensAs (q .id)) (fresh-at t q six o) ∙ fresh-open q) (o .room)
 
-pub opened-there : (t : Table) (id : ℕ) (asked : Mode) → length (t .rows) ≡ rows → opened t id asked .code ≡ 0 →
-    (find (opened t id asked .table) id ≡ lowestFree t) × (rowAt (opened t id asked .table) (lowestFree t) ≡ freshRow id asked)
-opened-there t id asked six z =
-    let o = opens t id (sym (opened-code t id asked) ∙ z) in
-    rw (opened-table t id asked z) (fresh-found t id asked six o, fresh-at t id asked six o)
+pub opened-there : (t : Table) (q : Request) → length (t .rows) ≡ rows → opened t q .code ≡ 0 →
+    (find (opened t q .table) (q .id) ≡ lowestFree t) × (rowAt (opened t q .table) (lowestFree t) ≡ freshRow q)
+opened-there t q six z =
+    let o = opens t q (sym (opened-code t q) ∙ z) in
+    rw (opened-table t q z) (fresh-found t q six o, fresh-at t q six o)
 
 -- A closed session can be opened again: the unbroken table had it open in one row only, and that row is free now.
 pub record Closes (t : Table) (id : ℕ) : Type 0 where
@@ -331,25 +339,25 @@ closed-opens t id c =
       room = closed-room t id c;
     }
 
-none-given : (t : Table) (id : ℕ) → Opens t id → first (openRefusals t id) ≡ 0
-none-given t id o =
-    let nowhere : find t id ≡ rows = least-none (openIn t id) rows (o .absent) in
-    simp (o .whole, o .named, le-ltb (find t id) rows (omega arith), lt-leb rows (lowestFree t) (o .room))
+none-given : (t : Table) (q : Request) → Opens t (q .id) → first (openRefusals t q) ≡ 0
+none-given t q o =
+    let nowhere : find t (q .id) ≡ rows = least-none (openIn t (q .id)) rows (o .absent) in
+    simp (o .whole, o .named, le-ltb (find t (q .id)) rows (omega arith), lt-leb rows (lowestFree t) (o .room))
 
-pub reopens : (t : Table) (id : ℕ) (asked : Mode) → closed t id .code ≡ 0 → opened (closed t id .table) id asked .code ≡ 0
-reopens t id asked z =
-    let c = closes t id (sym (closed-code t id) ∙ z) in
-    rw (closed-table t id z) (opened-code (afterClose t id) id asked ∙ none-given (afterClose t id) id (closed-opens t id c))
+pub reopens : (t : Table) (q : Request) → closed t (q .id) .code ≡ 0 → opened (closed t (q .id) .table) q .code ≡ 0
+reopens t q z =
+    let c = closes t (q .id) (sym (closed-code t (q .id)) ∙ z) in
+    rw (closed-table t (q .id) z) (opened-code (afterClose t (q .id)) q ∙ none-given (afterClose t (q .id)) q (closed-opens t (q .id) c))
 
 closed-length : (t : Table) (id : ℕ) → closed t id .code ≡ 0 → length (closed t id .table .rows) ≡ length (t .rows)
 closed-length t id z = rw (closed-table t id z) (length-set (t .rows) (find t id) closedRow)
 
 -- .. and it starts fresh
-pub reopens-fresh : (t : Table) (id : ℕ) (asked : Mode) → length (t .rows) ≡ rows → closed t id .code ≡ 0 →
-    let after = opened (closed t id .table) id asked .table in
-    rowAt after (find after id) ≡ freshRow id asked
-reopens-fresh t id asked six z =
-    let there = opened-there (closed t id .table) id asked (closed-length t id z ∙ six) (reopens t id asked z) in
+pub reopens-fresh : (t : Table) (q : Request) → length (t .rows) ≡ rows → closed t (q .id) .code ≡ 0 →
+    let after = opened (closed t (q .id) .table) q .table in
+    rowAt after (find after (q .id)) ≡ freshRow q
+reopens-fresh t q six z =
+    let there = opened-there (closed t (q .id) .table) q (closed-length t (q .id) z ∙ six) (reopens t q z) in
     rw (there .0) (there .1)
 
 -- What a flow that does not break its row is known to have: rule 13 overlooks nothing.

@@ -1,7 +1,7 @@
 -- No call of this crate leaves its outcome open: something is permitted, and any two permitted outcomes are equal, the table included.
 use Prim.Native.Nat.{ℕ}
 use mathlib.Core.Path.{_≡_, refl, sym, _∙_}
-use Rattle.table.specs.declared.Mode.{Mode}
+use Rattle.table.specs.declared.Request.{Request}
 use Rattle.table.specs.declared.Table.{Table}
 use Rattle.table.specs.declared.Opening.{Opening}
 use Rattle.table.specs.declared.Closing.{Closing}
@@ -14,11 +14,11 @@ empty-permitted = refl
 pub empty-unique : (a b : Table) → PermitsEmpty a → PermitsEmpty b → a ≡ b
 empty-unique a b p q = p ∙ sym q
 
-pub open-permitted : (t : Table) (id : ℕ) (asked : Mode) → PermitsOpen t id asked (opened t id asked)
-open-permitted t id asked = refl
+pub open-permitted : (t : Table) (q : Request) → PermitsOpen t q (opened t q)
+open-permitted t q = refl
 
-pub open-unique : (t : Table) (id : ℕ) (asked : Mode) (a b : Opening) → PermitsOpen t id asked a → PermitsOpen t id asked b → a ≡ b
-open-unique t id asked a b p q = p ∙ sym q
+pub open-unique : (t : Table) (r : Request) (a b : Opening) → PermitsOpen t r a → PermitsOpen t r b → a ≡ b
+open-unique t r a b p q = p ∙ sym q
 
 pub close-permitted : (t : Table) (id : ℕ) → PermitsClose t id (closed t id)
 close-permitted t id = refl

@@ -13,6 +13,7 @@ use Rattle.table.specs.declared.Kind.{Kind}
 use Rattle.table.specs.declared.Kind.the-variants as kind
 use Rattle.table.specs.declared.Mode.{Mode}
 use Rattle.table.specs.declared.Mode.the-variants as mode
+use Rattle.table.specs.declared.Request.{Request}
 use Rattle.table.specs.declared.Row.{Row}
 use Rattle.table.specs.declared.Table.{Table}
 use Rattle.table.specs.declared.Opening.{Opening}
@@ -28,24 +29,24 @@ abbrev pub isOpen : Table → ℕ → Bool
 isOpen t id = ltb (find t id) rows
 
 -- Opening.
-abbrev pub openRefusals : Table → ℕ → List Refusal
-openRefusals t id =
+abbrev pub openRefusals : Table → Request → List Refusal
+openRefusals t r =
     13 when broken t
-    ∷ 21 when eqb id 0
-    ∷ 22 when isOpen t id
+    ∷ 21 when eqb (r .id) 0
+    ∷ 22 when isOpen t (r .id)
     ∷ 23 when leb rows (lowestFree t)
     ∷ []
 
-abbrev pub freshRow : ℕ → Mode → Row
-freshRow id asked = record { id = id; kind = kindOf asked; flows = replicate flows fresh }
+abbrev pub freshRow : Request → Row
+freshRow r = record { id = r .id; kind = kindOf (r .mode); flows = replicate flows fresh }
 
 -- by the number of the first refusal that applies
-abbrev pub openedBy : ℕ → Table → ℕ → Mode → Opening
-openedBy zero t id asked = record { code = 0; table = withRow t (lowestFree t) (freshRow id asked) }
-openedBy (suc c) t id asked = record { code = suc c; table = t }
+abbrev pub openedBy : ℕ → Table → Request → Opening
+openedBy zero t r = record { code = 0; table = withRow t (lowestFree t) (freshRow r) }
+openedBy (suc c) t r = record { code = suc c; table = t }
 
-unfoldable pub opened : Table → ℕ → Mode → Opening
-opened t id asked = openedBy (first (openRefusals t id)) t id asked
+unfoldable pub opened : Table → Request → Opening
+opened t r = openedBy (first (openRefusals t r)) t r
 
 -- Closing.
 abbrev pub closeRefusals : Table → ℕ → List Refusal
@@ -62,8 +63,8 @@ unfoldable pub closed : Table → ℕ → Closing
 closed t id = closedBy (first (closeRefusals t id)) t id
 
 -- What the two calls permit, whole: the answer, and in it the table.
-abbrev pub PermitsOpen : Table → ℕ → Mode → Opening → Type 0
-PermitsOpen t id asked answer = answer ≡ opened t id asked
+abbrev pub PermitsOpen : Table → Request → Opening → Type 0
+PermitsOpen t r answer = answer ≡ opened t r
 
 abbrev pub PermitsClose : Table → ℕ → Closing → Type 0
 PermitsClose t id answer = answer ≡ closed t id

@@ -8,11 +8,12 @@ use lib.Dec.{eqb}
 use lib.ListN.{getD, set, replicate}
 use Rattle.octets.specs.Count.{least, sumTo}
 use Rattle.flow.specs.declared.Flow.{Flow}
-use Rattle.flow.specs.Flow.{fresh, flows}
+use Rattle.flow.specs.Flow.{fresh, flows, longest}
 use Rattle.table.specs.declared.Kind.{Kind}
 use Rattle.table.specs.declared.Kind.the-variants as kind
 use Rattle.table.specs.declared.Row.{Row}
 use Rattle.table.specs.declared.Table.{Table}
+use Rattle.table.specs.declared.Terms.{Terms}
 
 abbrev pub rows : ℕ
 rows = 6
@@ -29,11 +30,21 @@ isDmpt kind.Dmpt = true
 
 -- Row i of a table, flow k of a row. Past the end of a list stands a closed row, or a fresh flow. No rule is decided by it: where a
 -- session has no row, or a packet names a flow that no row has, an earlier rule has refused.
+abbrev pub noRow : Row
+noRow = record { id = 0; kind = kind.Closed; flows = [] }
+
 abbrev pub rowAt : Table → ℕ → Row
-rowAt t i = getD (t .rows) i (record { id = 0; kind = kind.Closed; flows = [] })
+rowAt t i = getD (t .rows) i noRow
 
 abbrev pub flowAt : Row → ℕ → Flow
 flowAt row k = getD (row .flows) k fresh
+
+-- The terms of a session, which decide how its packets are read and joined: every session has the one longest frame so far.
+abbrev pub termsOf : Row → Terms
+termsOf row = record { kind = row .kind; longest = longest }
+
+abbrev pub termsAt : Table → ℕ → Terms
+termsAt t i = termsOf (rowAt t i)
 
 -- the closed row is all zero, and the empty table is six of them
 abbrev pub closedRow : Row
@@ -66,6 +77,8 @@ heldIn row = sumTo (λ k. flowAt row k .held) flows
 abbrev pub withRow : Table → ℕ → Row → Table
 withRow t i row = record { rows = set (t .rows) i row }
 
+abbrev pub rowWith : Row → ℕ → Flow → Row
+rowWith row k f = record { id = row .id; kind = row .kind; flows = set (row .flows) k f }
+
 abbrev pub withFlow : Table → ℕ → ℕ → Flow → Table
-withFlow t i k f =
-    withRow t i (record { id = rowAt t i .id; kind = rowAt t i .kind; flows = set (rowAt t i .flows) k f })
+withFlow t i k f = withRow t i (rowWith (rowAt t i) k f)

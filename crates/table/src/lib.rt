@@ -2,7 +2,7 @@
 // session, and putting a flow's record back. Nothing here knows of packets, and nothing here touches the holding slice.
 ghost use mathlib.Core.Path.{_≡_};
 ghost use Prim.Native.Nat.{_<_};
-ghost use Rattle.table.specs.Rows.{PermitsEmpty, rows, isClosed, isDmpt, find, lowestFree, closedRow, heldIn, withFlow};
+ghost use Rattle.table.specs.Rows.{PermitsEmpty, rows, termsOf, isClosed, isDmpt, find, lowestFree, closedRow, heldIn, withFlow};
 ghost use Rattle.table.specs.Broken.{flowBroken, rowBroken, sameOpen, openTwice, broken};
 ghost use Rattle.table.specs.Calls.{kindOf, freshRow, PermitsOpen, PermitsClose};
 ghost use Rattle.flow.specs.Flow.{flows};
@@ -23,6 +23,18 @@ pub enum Kind {
 pub enum Mode {
     Psp,
     Dmpt,
+}
+
+// What an open asks for, whole.
+pub struct Request {
+    pub id: u32,
+    pub mode: Mode,
+}
+
+// The terms of a session: what decides how its packets are read and joined.
+pub struct Terms {
+    pub kind: Kind,
+    pub longest: u16,
 }
 
 pub struct Row {
@@ -71,13 +83,14 @@ fn closed_row() -> Row
 }
 
 // The row of a session that has just been opened: every flow is fresh.
-fn fresh_row(id: u32, mode: Mode) -> Row
-    ensures { λ r. ⌜ r ≡ freshRow id mode ⌝ }
+fn fresh_row(request: Request) -> Row
+    ensures { λ r. ⌜ r ≡ freshRow request ⌝ }
 {
     let fresh = Flow::fresh();
+    let mode = request.mode;
     let kind = kind_of(mode);
     Row {
-        id,
+        id: request.id,
         kind,
         flows: [fresh; FLOWS],
     }
@@ -109,6 +122,17 @@ pub fn is_dmpt(kind: Kind) -> bool
         Kind::Closed => false,
         Kind::Psp => false,
         Kind::Dmpt => true,
+    }
+}
+
+// The terms on which a row's session was opened.
+pub fn terms_of(row: Row) -> Terms
+    ensures { λ r. ⌜ r ≡ termsOf row ⌝ }
+{
+    let of_row = row.kind;
+    Terms {
+        kind: of_row,
+        longest: Flow::LONGEST,
     }
 }
 
@@ -234,9 +258,10 @@ pub fn with_flow(table: Table, i: usize, k: usize, flow: Flow) -> Table
 }
 
 // Opens a session in the lowest free row.
-pub fn open(table: Table, id: u32, mode: Mode) -> Opening
-    ensures { λ r. ⌜ PermitsOpen table id mode r ⌝ }
+pub fn open(table: Table, request: Request) -> Opening
+    ensures { λ r. ⌜ PermitsOpen table request r ⌝ }
 {
+    let id = request.id;
     if is_broken(table) {
         return Opening {
             code: refusal::TABLE_BROKEN,
@@ -263,7 +288,7 @@ pub fn open(table: Table, id: u32, mode: Mode) -> Opening
         };
     }
     let mut next = table;
-    let row = fresh_row(id, mode);
+    let row = fresh_row(request);
     next.rows[at] = row;
     Opening {
         code: refusal::NONE,

@@ -1,12 +1,15 @@
 -- `card::hear` is right since it asks the refusals of `flowRefusals` in their order, and then carries out what the flow hears.
 use Prim.Native.Nat.{ℕ, _<_}
-use mathlib.Core.Path.{_≡_, sym, _∙_}
+use mathlib.Core.Path.{_≡_, sym, ap, _∙_}
 use native.Mathlib.Omega.{arith}
 use Rattle.flow.specs.Flow.{flows}
+use Rattle.table.specs.declared.Terms.{Terms}
+use Rattle.table.specs.Rows.{isDmpt}
 use Rattle.join.specs.Slices.{asSlices, Slices}
 use Rattle.join.specs.Placed.{Roomy}
 use Rattle.card.specs.Receive.{placeOf}
-use Rattle.card.proofs.Hearing.{place-roomy, flow-in-row, held-fits, dmpt-bare, hear-refused, hear-late, hear-accepted}
+use Rattle.card.proofs.ByKind.{flow-in-row}
+use Rattle.card.proofs.Hearing.{place-roomy, held-fits, dmpt-bare, hear-refused, hear-late, hear-accepted}
 use borrow.Author.Needs.{needs}
 use Rattle.card.proofs.hear.Statement.{statement}
 use Rattle.card.proofs.hear.Tie as tie
@@ -22,7 +25,7 @@ lent s = asSlices (s .args .holding .now) (s .args .output .now) (s .args .lengt
 in-row : (k : tie.After-flow-id) → k .flow-id .result < flows
 in-row k =
     let p = k .before .before in
-    let l = flow-in-row (p .before .is-dmpt .result) (start p .args .sub .now) (sym (p .refuse-packet .ensures) ∙ k .before .if1 .left) in
+    let l = flow-in-row (p .before .terms-of .result) (start p .args .sub .now) (sym (p .refuse-packet .ensures) ∙ k .before .if1 .left) in
     omega (arith, l, k .flow-id .ensures .0)
 
 roomy : (k : tie.After-flow-id) {place : ℕ} → place ≡ placeOf (start (k .before .before) .args .row) (k .flow-id .result) → Roomy place (lent (start (k .before .before)))
@@ -36,8 +39,8 @@ mul-session c = search needs
 element-copy-out-session : tie.Need-element-copy-out-session
 element-copy-out-session c = search needs
 
-is-dmpt-requires : tie.Need-is-dmpt-requires
-is-dmpt-requires c κs = search needs
+terms-of-requires : tie.Need-terms-of-requires
+terms-of-requires c κs = search needs
 
 refuse-packet-requires : tie.Need-refuse-packet-requires
 refuse-packet-requires c κs = search needs
@@ -49,7 +52,7 @@ returns : tie.Need-returns
 returns c =
     let p = c .before .before in
     let s = start p in
-    hear-refused (s .args .t1) (s .args .row) (s .args .sub .now) (lent s) _ (p .before .is-dmpt .ensures) _ (p .refuse-packet .ensures) _ (c .before .if1 .taken) (c .refused-answer .ensures)
+    hear-refused (s .args .t1) (s .args .row) (s .args .sub .now) (lent s) _ (p .before .terms-of .ensures) _ (p .refuse-packet .ensures) _ (c .before .if1 .taken) (c .refused-answer .ensures)
 
 flow-id-requires : tie.Need-flow-id-requires
 flow-id-requires c κs = search needs
@@ -71,7 +74,7 @@ returns-2 c =
     let k = c .before .before .before .before in
     let p = k .before .before in
     let s = start p in
-    hear-late (s .args .t1) (s .args .row) (s .args .sub .now) (lent s) _ (p .before .is-dmpt .ensures) _ (p .refuse-packet .ensures) (k .before .if1 .left) _ (k .flow-id .ensures .0) _ (c .before .before .judge-packet .ensures) _ (c .before .if2 .taken) (c .refused-answer2 .ensures)
+    hear-late (s .args .t1) (s .args .row) (s .args .sub .now) (lent s) _ (p .before .terms-of .ensures) _ (p .refuse-packet .ensures) (k .before .if1 .left) _ (k .flow-id .ensures .0) _ (c .before .before .judge-packet .ensures) _ (c .before .if2 .taken) (c .refused-answer2 .ensures)
 
 cast-held : tie.Need-cast-held
 cast-held c = search needs
@@ -89,8 +92,9 @@ place-packet-requires c κs =
     let ready = s .pre in (
       roomy k (c .before .before .place-of .ensures),
       (
-        held-fits (s .args .t1) (s .args .row) _ (ready .whole) (ready .found) (in-row k),
-        (λ d. dmpt-bare (s .args .t1) (s .args .row) _ (ready .whole) (ready .found) (in-row k) (sym (p .before .is-dmpt .ensures) ∙ d)),
+        rw (p .before .terms-of .ensures) (omega arith),
+        rw (p .before .terms-of .ensures) (held-fits (s .args .t1) (s .args .row) _ (ready .whole) (ready .found) (in-row k)),
+        (λ d. dmpt-bare (s .args .t1) (s .args .row) _ (ready .whole) (ready .found) (in-row k) (sym (ap (λ (x : Terms). isDmpt (x .kind)) (p .before .terms-of .ensures)) ∙ d)),
         ready .short,
         sym (p .refuse-packet .ensures) ∙ k .before .if1 .left,
       ),
@@ -115,7 +119,7 @@ returns-3 c =
     let k = c .before .before .before .before .before .before .before .before .before .before .before .before .before .before .before .before in
     let p = k .before .before in
     let s = start p in
-    hear-accepted (s .args .t1) (s .args .row) (s .args .sub .now) (lent s) _ (p .before .is-dmpt .ensures) _ (p .refuse-packet .ensures) (k .before .if1 .left) _ (k .flow-id .ensures .0) _ (c .before .before .before .before .before .before .before .before .before .before .before .before .before .before .judge-packet .ensures)
+    hear-accepted (s .args .t1) (s .args .row) (s .args .sub .now) (lent s) _ (p .before .terms-of .ensures) _ (p .refuse-packet .ensures) (k .before .if1 .left) _ (k .flow-id .ensures .0) _ (c .before .before .before .before .before .before .before .before .before .before .before .before .before .before .judge-packet .ensures)
     _ _ _ _ _ _ (c .before .before .before .before .before .before .before .before .before .before .before .before .before .if2 .left) (c .before .before .before .before .before .before .before .before .before .before .place-of .ensures) (c .before .before .before .before .before .before .before .place-packet .ensures .0) (c .answer .ensures)
 
 pub hear-spec : {M : Type 1} → statement M
@@ -124,7 +128,7 @@ hear-spec =
     (tie.spec
     mul-session
     element-copy-out-session
-    is-dmpt-requires
+    terms-of-requires
     refuse-packet-requires
     refused-answer-requires
     returns

@@ -8,11 +8,20 @@ use borrow.Author.Needs.{needs}
 use Rattle.card.proofs.place_packet.Statement.{statement}
 use Rattle.card.proofs.place_packet.Tie as tie
 
+-- from where the code has asked for the kind back to its start
+abbrev start : tie.After-is-dmpt → tie.Start
+start d = d .before .before .before .before .before
+
+is-dmpt-requires : tie.Need-is-dmpt-requires
+is-dmpt-requires c κs = search needs
+
 walk-requires : tie.Need-walk-requires
 walk-requires c κs =
-    let s = c .before .before .before .before .before .before .before in
+    let t = c .before .before in
+    let d = t .before in
+    let s = start d in
     let r = s .pre .0 in
-    ((r .output-long, r .lengths-long), (s .pre .1 .2, sym (refusals-dmpt (s .args .dmpt) (s .args .sub .now) (c .before .before .if1 .taken)) ∙ s .pre .1 .3))
+    ((r .output-long, r .lengths-long), (s .pre .1 .3, sym (refusals-dmpt (s .args .terms) (s .args .sub .now) (sym (d .is-dmpt .ensures) ∙ t .if1 .taken)) ∙ s .pre .1 .4))
 
 same-length : tie.Need-same-length
 same-length c = search needs
@@ -22,20 +31,24 @@ same-length-2 c = search needs
 
 returns : tie.Need-returns
 returns c =
-    let s = c .before .before .before .before .before .before .before .before .before .before .before .before in
+    let t = c .before .before .before .before .before .before .before in
+    let d = t .before in
+    let s = start d in
     let a = s .args in
-    let taken = c .before .before .before .before .before .before .before .if1 .taken in
-    let header = dmpt-header (a .sub .now) (sym (refusals-dmpt (a .dmpt) (a .sub .now) taken) ∙ s .pre .1 .3) in
+    let taken = sym (d .is-dmpt .ensures) ∙ t .if1 .taken in
+    let header = dmpt-header (a .sub .now) (sym (refusals-dmpt (a .terms) (a .sub .now) taken) ∙ s .pre .1 .4) in
     let w = c .before .before .before .before .walk .ensures in (
-      rw (fate-dmpt (a .dmpt) (a .gap) (a .place) (a .held) (a .holding .now) (a .sub .now) taken (s .pre .1 .1 taken))
+      rw (fate-dmpt (a .terms) (a .gap) (a .place) (a .held) (a .holding .now) (a .sub .now) taken (s .pre .1 .2 taken))
           (placed-anywhere (w .0) (dmpt-holds-none (a .sub .now) header) (a .holding .now) (a .place)),
       w .1,
     )
 
 walk-requires-2 : tie.Need-walk-requires-2
 walk-requires-2 c κs =
-    let s = c .before .before .before .before .before .before .before .before in
-    (s .pre .0, (omega arith, omega arith, s .pre .1 .0, s .pre .1 .2, sym (refusals-psp (s .args .dmpt) (s .args .sub .now) (c .before .before .before .if1 .left)) ∙ s .pre .1 .3))
+    let t = c .before .before .before in
+    let d = t .before in
+    let s = start d in
+    (s .pre .0, (omega arith, omega arith, s .pre .1 .1, s .pre .1 .0, s .pre .1 .3, sym (refusals-psp (s .args .terms) (s .args .sub .now) (sym (d .is-dmpt .ensures) ∙ t .if1 .left)) ∙ s .pre .1 .4))
 
 same-length-3 : tie.Need-same-length-3
 same-length-3 c = search needs
@@ -48,14 +61,17 @@ same-length-5 c = search needs
 
 returns-2 : tie.Need-returns-2
 returns-2 c =
-    let a = c .before .before .before .before .before .before .before .before .before .before .before .before .before .before .before .args in
     let w = c .before .before .before .before .before .before .walk2 .ensures in
-    (rw (fate-psp (a .dmpt) (a .gap) (part (a .holding .now) (a .place) (a .held)) (a .sub .now) (c .before .before .before .before .before .before .before .before .before .before .if1 .left)) (w .0), w .1)
+    let t = c .before .before .before .before .before .before .before .before .before .before in
+    let d = t .before in
+    let a = start d .args in
+    (rw (fate-psp (a .terms) (a .gap) (part (a .holding .now) (a .place) (a .held)) (a .sub .now) (sym (d .is-dmpt .ensures) ∙ t .if1 .left)) (w .0), w .1)
 
 pub place-packet-spec : {M : Type 1} → statement M
 place-packet-spec =
     tie.close
     (tie.spec
+    is-dmpt-requires
     walk-requires
     same-length
     same-length-2

@@ -4,7 +4,7 @@ use mathlib.Core.Path.{_≡_, sym, _∙_}
 use mathlib.Core.Bool.{false}
 use native.Mathlib.Omega.{arith}
 use lib.ListN.{length}
-use Rattle.packet.specs.Header.{overIp, idLength}
+use Rattle.packet.specs.Header.{ip, idLength}
 use Rattle.join.specs.Slices.{asSlices, Slices}
 use Rattle.card.specs.Receive.{tooSmall}
 use Rattle.card.proofs.Receiving.{permits, early-over, ready, receive-small, receive-early, receive-closed, receive-heard}
@@ -23,10 +23,10 @@ large : (w : tie.After-too-small) → w .too-small .result ≡ false → tooSmal
 large w left = sym (w .too-small .ensures) ∙ left
 
 -- the packet passed 2 to 4, so its session ID lies in it
-id-inside : (e : tie.Else2) → overIp + idLength ≤ length (start (e .before .before .before) .args .packet .now)
+id-inside : (e : tie.Else2) → idLength ≤ length (start (e .before .before .before) .args .packet .now)
 id-inside e =
     let a = start (e .before .before .before) .args in
-    let over = early-over overIp (a .table) (a .packet .now) (sym (e .before .refuse-before-session .ensures) ∙ e .if2 .left) in
+    let over = early-over (a .table) (ip (a .packet .now)) (sym (e .before .refuse-before-session .ensures) ∙ e .if2 .left) in
     omega (arith, over .passed .not-short)
 
 too-small-requires : tie.Need-too-small-requires
@@ -39,7 +39,7 @@ returns : tie.Need-returns
 returns c =
     let w = c .before .before in
     let s = start w in
-    permits (receive-small overIp (s .args .table) (s .args .packet .now) (lent s) _ (sym (w .too-small .ensures) ∙ c .before .if1 .taken) (c .refused-answer .ensures))
+    permits (receive-small (s .args .table) (ip (s .args .packet .now)) (lent s) _ (sym (w .too-small .ensures) ∙ c .before .if1 .taken) (c .refused-answer .ensures))
 
 refuse-before-session-requires : tie.Need-refuse-before-session-requires
 refuse-before-session-requires c κs = search needs
@@ -51,7 +51,7 @@ returns-2 : tie.Need-returns-2
 returns-2 c =
     let w = c .before .before .before .before in
     let s = start w in
-    permits (receive-early overIp (s .args .table) (s .args .packet .now) (lent s) (large w (c .before .before .before .if1 .left)) _ (c .before .before .refuse-before-session .ensures) _ (c .before .if2 .taken) (c .refused-answer2 .ensures))
+    permits (receive-early (s .args .table) (ip (s .args .packet .now)) (lent s) (large w (c .before .before .before .if1 .left)) _ (c .before .before .refuse-before-session .ensures) _ (c .before .if2 .taken) (c .refused-answer2 .ensures))
 
 session-id-requires : tie.Need-session-id-requires
 session-id-requires c κs = id-inside c
@@ -67,7 +67,7 @@ returns-3 c =
     let w = c .before .before .before .before .before .before .before in
     let s = start w in
     permits
-    (receive-closed overIp (s .args .table) (s .args .packet .now) (lent s) (large w (c .before .before .before .before .before .before .if1 .left)) _ (c .before .before .before .before .before .refuse-before-session .ensures) (c .before .before .before .before .if2 .left) _ _
+    (receive-closed (s .args .table) (ip (s .args .packet .now)) (lent s) (large w (c .before .before .before .before .before .before .if1 .left)) _ (c .before .before .before .before .before .refuse-before-session .ensures) (c .before .before .before .before .if2 .left) _ _
     (c .before .before .before .session-id .ensures) (c .before .before .find-row .ensures) _ (c .before .if3 .taken) (c .refused-answer3 .ensures))
 
 sub-of-requires : tie.Need-sub-of-requires
@@ -78,7 +78,7 @@ hear-requires c κs =
     let e = c .before .before .before .before .before .before .before in
     let w = e .before .before .before in
     let s = start w in
-    ready overIp (s .args .table) (s .args .packet .now) (lent s) _ _ (large w (e .before .before .if1 .left)) (sym (e .before .refuse-before-session .ensures) ∙ e .if2 .left) (c .before .before .before .before .if3 .left) (c .before .before .before .sub-of .ensures)
+    ready (s .args .table) (ip (s .args .packet .now)) (lent s) _ _ (large w (e .before .before .if1 .left)) (sym (e .before .refuse-before-session .ensures) ∙ e .if2 .left) (c .before .before .before .before .if3 .left) (c .before .before .before .sub-of .ensures)
 
 same-length : tie.Need-same-length
 same-length c = search needs
@@ -95,7 +95,7 @@ returns-4 c =
     let w = e .before .before .before in
     let s = start w in
     permits
-    (receive-heard overIp (s .args .table) (s .args .packet .now) (lent s) (large w (e .before .before .if1 .left)) _ (e .before .refuse-before-session .ensures) (e .if2 .left) _ _
+    (receive-heard (s .args .table) (ip (s .args .packet .now)) (lent s) (large w (e .before .before .if1 .left)) _ (e .before .refuse-before-session .ensures) (e .if2 .left) _ _
     (c .before .before .before .before .before .before .before .before .before .before .before .before .before .session-id .ensures) (c .before .before .before .before .before .before .before .before .before .before .before .before .find-row .ensures) _ _ (c .before .before .before .before .before .before .before .before .before .before .before .if3 .left) (c .before .before .before .before .before .before .before .before .before .before .sub-of .ensures) (c .before .before .before .before .before .before .hear .ensures))
 
 pub receive-spec : {M : Type 1} → statement M

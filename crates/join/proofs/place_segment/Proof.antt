@@ -18,13 +18,13 @@ lent b = asSlices (start b .args .holding .now) (start b .args .output .now) (st
 
 -- what is held lies in the holding slice, and what was delivered in the other two
 inside : (b : tie.After-begins) → start b .args .place + start b .args .tally .held ≤ length (lent b .holding)
-inside b = omega (arith, start b .pre .0 .place-inside, start b .pre .1 .1 .held-few)
+inside b = omega (arith, start b .pre .0 .place-inside, start b .pre .1 .2 .held-few)
 
 room : (b : tie.After-begins) → start b .args .tally .bytes ≤ length (lent b .output)
-room b = omega (arith, start b .pre .0 .output-long, start b .pre .1 .1 .bytes-few)
+room b = omega (arith, start b .pre .0 .output-long, start b .pre .1 .2 .bytes-few)
 
 places : (b : tie.After-begins) → start b .args .tally .frames ≤ length (lent b .lengths)
-places b = omega (arith, start b .pre .0 .lengths-long, start b .pre .1 .1 .frames-few)
+places b = omega (arith, start b .pre .0 .lengths-long, start b .pre .1 .2 .frames-few)
 
 length-of-requires : tie.Need-length-of-requires
 length-of-requires c κs = search needs
@@ -42,7 +42,7 @@ add-lost : tie.Need-add-lost
 add-lost c =
     let w = c .before .before .before in
     let b = w .before in
-    let f = way-fits (b .begins .result) _ (start b .args .tally) (w .give-way .result) (w .give-way .ensures) (start b .pre .1 .1) in
+    let f = way-fits (b .begins .result) _ (start b .args .tally) (w .give-way .result) (w .give-way .ensures) (start b .pre .1 .2) in
     omega (arith, f .bytes-few, b .before .before .length-of .ensures .0)
 
 returns : tie.Need-returns
@@ -50,8 +50,8 @@ returns c =
     let w = c .before .before .before in
     let b = w .before in
     let a = start b .args in
-    segment-lost (a .place) (a .tally) (lent b) (a .sub .now) (a .from) (a .entry) _ _ (b .before .before .length-of .ensures .0) (b .before .ends .ensures) _ (lent b) (inside b)
-    _ _ (b .begins .ensures) (w .give-way .ensures) (c .before .if1 .taken) (start b .pre .1 .0) refl refl refl refl
+    segment-lost (a .most) (a .place) (a .tally) (lent b) (a .sub .now) (a .from) (a .entry) _ _ (b .before .before .length-of .ensures .0) (b .before .ends .ensures) _ (lent b) (inside b)
+    _ _ (b .begins .ensures) (w .give-way .ensures) (c .before .if1 .taken) (start b .pre .1 .1) refl refl refl refl
 
 settle-requires : tie.Need-settle-requires
 settle-requires c κs =
@@ -59,7 +59,7 @@ settle-requires c κs =
     let b = w .before in
     let s = start b in
     let n = b .before .before .length-of .ensures .0 in
-    (s .pre .0, (omega (arith, s .pre .1 .0, n), rw n (way-fits (b .begins .result) _ (s .args .tally) (w .give-way .result) (w .give-way .ensures) (s .pre .1 .1))))
+    (s .pre .0, (s .pre .1 .0, omega (arith, s .pre .1 .1, n), rw n (way-fits (b .begins .result) _ (s .args .tally) (w .give-way .result) (w .give-way .ensures) (s .pre .1 .2))))
 
 same-length : tie.Need-same-length
 same-length c = search needs
@@ -77,7 +77,7 @@ returns-2 c =
     let w = else .before .before in
     let b = w .before in
     let a = start b .args in
-    segment-settles (a .place) (a .tally) (lent b) (a .sub .now) (a .from) (a .entry) _ _ (b .before .before .length-of .ensures .0) (b .before .ends .ensures) _ _ (inside b)
+    segment-settles (a .most) (a .place) (a .tally) (lent b) (a .sub .now) (a .from) (a .entry) _ _ (b .before .before .length-of .ensures .0) (b .before .ends .ensures) _ _ (inside b)
     _ _ (b .begins .ensures) (w .give-way .ensures) (else .if1 .left) (room b) (places b) (call .settle .ensures)
 
 pub place-segment-spec : {M : Type 1} → statement M

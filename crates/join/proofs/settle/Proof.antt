@@ -6,7 +6,6 @@ use native.Mathlib.Omega.{arith}
 use lib.ListN.{length, length-append}
 use Rattle.octets.specs.Stretch.{part, put}
 use Rattle.octets.proofs.Stretches.{length-part, put-put, put-behind, set-put}
-use Rattle.flow.specs.Flow.{longest}
 use Rattle.join.specs.Slices.{asSlices, Slices}
 use Rattle.join.proofs.Placing.{placed-dropping, placed-delivering, placed-keeping, settled-long, settled-whole, settled-open}
 use borrow.Author.Needs.{needs}
@@ -49,9 +48,6 @@ two-copies s e d =
 add-joined : tie.Need-add-joined
 add-joined c = search needs
 
-cast-if1 : tie.Need-cast-if1
-cast-if1 c = search needs
-
 add-lost : tie.Need-add-lost
 add-lost c = search needs
 
@@ -60,7 +56,7 @@ returns c =
     let s = c .before .before .before .before .before in
     let a = s .args in
     let n = joined-length s in
-    rw (settled-long longest (a .ends) (joined s) (omega arith))
+    rw (settled-long (a .most) (a .ends) (joined s) (omega arith))
     (placed-dropping (a .place) (a .tally) (lent s) (joined s) _ refl refl refl (omega arith))
 
 add-more : tie.Need-add-more
@@ -102,7 +98,7 @@ returns-2 c =
     let s = t .before .before .before .before .before .before in
     let a = s .args in
     let n = joined-length s in
-    rw (settled-whole longest (a .ends) (joined s) (omega arith) (t .if2 .taken))
+    rw (settled-whole (a .most) (a .ends) (joined s) (omega arith) (t .if2 .taken))
     (placed-delivering (a .place) (a .tally) (lent s) (joined s) _ _ refl
     (two-copies s (c .before .before .before .before .before .before .copy .ensures) (c .before .before .copy2 .ensures))
     (rw n (set-put (a .lengths .now) (a .tally .frames) (a .tally .held + a .count) (omega arith)))
@@ -123,7 +119,7 @@ returns-3 c =
     let s = t .before .before .before .before .before .before in
     let a = s .args in
     let n = joined-length s in
-    rw (settled-open longest (a .ends) (joined s) (omega arith) (t .if2 .left))
+    rw (settled-open (a .most) (a .ends) (joined s) (omega arith) (t .if2 .left))
     (placed-keeping (a .place) (a .tally) (lent s) (joined s) _ _
     (c .before .before .copy3 .ensures ∙ put-behind (a .holding .now) (a .place) (a .tally .held) (part (a .sub .now) (a .from) (a .count)) (omega arith))
     refl refl (omega arith) refl refl refl)
@@ -133,7 +129,6 @@ settle-spec =
     tie.close
     (tie.spec
     add-joined
-    cast-if1
     add-lost
     returns
     add-more

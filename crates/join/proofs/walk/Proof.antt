@@ -18,11 +18,11 @@ use Rattle.join.proofs.walk.Statement.{statement}
 use Rattle.join.proofs.walk.Tie as tie
 
 abbrev Inv-loop : tie.InvT-loop
-Inv-loop holding₀ place output₀ lengths₀ sub width gap held count tally₀ from₀ k₀ holding output lengths tally from k =
-    (count ≡ segmentCount sub) × Walking width gap held place sub (asSlices holding₀ output₀ lengths₀) (asSlices holding output lengths) tally from k
+Inv-loop holding₀ place output₀ lengths₀ sub width most gap held count tally₀ from₀ k₀ holding output lengths tally from k =
+    (count ≡ segmentCount sub) × Walking most width gap held place sub (asSlices holding₀ output₀ lengths₀) (asSlices holding output lengths) tally from k
 
 abbrev μ-loop : tie.MeasureT-loop
-μ-loop holding₀ place output₀ lengths₀ sub width gap held count tally₀ from₀ k₀ holding output lengths tally from k = count - k
+μ-loop holding₀ place output₀ lengths₀ sub width most gap held count tally₀ from₀ k₀ holding output lengths tally from k = count - k
 
 -- the places of a turn, and the slices as they were lent
 abbrev Start : Type 0
@@ -41,7 +41,7 @@ abbrev now : Turn → Slices
 now c = asSlices (c .before .loop .holding) (c .before .loop .output) (c .before .loop .lengths)
 
 passes : (s : Start) → PspPassed (s .args .width) (s .args .sub .now)
-passes s = psp-passed (s .args .width) (s .args .sub .now) (s .pre .1 .4)
+passes s = psp-passed (s .args .width) (s .args .sub .now) (s .pre .1 .5)
 
 table-inside : (s : Start) → headerLength + s .args .width * segmentCount (s .args .sub .now) ≤ length (s .args .sub .now)
 table-inside s = entries-inside (s .args .width) (s .args .sub .now) (passes s)
@@ -49,7 +49,7 @@ table-inside s = entries-inside (s .args .width) (s .args .sub .now) (passes s)
 small : (c : tie.After-segment-count Inv-loop μ-loop) → c .before .before .before .before .before .args .width * c .segment-count .result ≤ 512
 small c = table-small (c .before .before .before .before .before .args .width) (c .segment-count .result) (c .before .before .before .before .before .pre .1 .1) (c .segment-count .ensures .1)
 
-walking : (c : Turn) → Walking (start c .args .width) (start c .args .gap) (start c .args .held) (start c .args .place) (start c .args .sub .now) (lent (start c)) (now c) (c .before .loop .tally) (c .before .loop .from) (c .before .loop .k)
+walking : (c : Turn) → Walking (start c .args .most) (start c .args .width) (start c .args .gap) (start c .args .held) (start c .args .place) (start c .args .sub .now) (lent (start c)) (now c) (c .before .loop .tally) (c .before .loop .from) (c .before .loop .k)
 walking c = c .before .loop .inv .1
 
 there : (c : Turn) → c .before .loop .k < segmentCount (start c .args .sub .now)
@@ -62,7 +62,7 @@ size e = ap lengthIn (e .entry .ensures)
 fits : (e : tie.After-entry Inv-loop μ-loop) → Fits (lengthIn (e .entry .result)) (e .before .before .loop .tally)
 fits e =
     let s = start (e .before) in
-    rw (size e) (walk-fits (s .args .width) (s .args .gap) (s .args .held) (s .args .place) (s .args .sub .now) (lent s) (passes s) (s .pre .1 .2) (s .pre .1 .3) (s .pre .0) (walking (e .before)) (there (e .before)))
+    rw (size e) (walk-fits (s .args .most) (s .args .width) (s .args .gap) (s .args .held) (s .args .place) (s .args .sub .now) (lent s) (passes s) (s .pre .1 .2) (s .pre .1 .3) (s .pre .1 .4) (s .pre .0) (walking (e .before)) (there (e .before)))
 
 -- the slices and the counts when segment k is placed ..
 abbrev placed : tie.After-length-of Inv-loop μ-loop → Slices
@@ -74,11 +74,11 @@ entered l = l .before .before .before .before .before .before .before .before .b
 one : (l : tie.After-length-of Inv-loop μ-loop) →
     (let s = start (entered l .before) in
     let n = entered l .before .before .loop in
-    Walking (s .args .width) (s .args .gap) (s .args .held) (s .args .place) (s .args .sub .now) (lent s) (placed l) (l .before .before .before .before .before .before .before .place-segment .result) (n .from + l .length-of .result) (n .k + 1))
+    Walking (s .args .most) (s .args .width) (s .args .gap) (s .args .held) (s .args .place) (s .args .sub .now) (lent s) (placed l) (l .before .before .before .before .before .before .before .place-segment .result) (n .from + l .length-of .result) (n .k + 1))
 one l =
     let e = entered l in
     let s = start (e .before) in
-    walk-turn (s .args .width) (s .args .gap) (s .args .held) (s .args .place) (s .args .sub .now) (lent s) (passes s) (s .pre .1 .2) (s .pre .1 .3) (s .pre .0) (walking (e .before)) (there (e .before)) _ _ _ _ (e .entry .ensures) (l .length-of .ensures .0) (l .before .before .before .before .before .before .before .place-segment .ensures)
+    walk-turn (s .args .most) (s .args .width) (s .args .gap) (s .args .held) (s .args .place) (s .args .sub .now) (lent s) (passes s) (s .pre .1 .2) (s .pre .1 .3) (s .pre .1 .4) (s .pre .0) (walking (e .before)) (there (e .before)) _ _ _ _ (e .entry .ensures) (l .length-of .ensures .0) (l .before .before .before .before .before .before .before .place-segment .ensures)
 
 -- .. and when the whole frames behind it are
 abbrev behind : tie.After-write-lengths Inv-loop μ-loop → tie.After-length-of Inv-loop μ-loop
@@ -102,16 +102,16 @@ within r = omega (arith, r .write-lengths .ensures .1, entered (behind r) .befor
 all : (r : tie.After-write-lengths Inv-loop μ-loop) →
     (let s = start (entered (behind r) .before) in
     let n = entered (behind r) .before .before .loop in
-    Walking (s .args .width) (s .args .gap) (s .args .held) (s .args .place) (s .args .sub .now) (lent s) (run r) (counts r)
+    Walking (s .args .most) (s .args .width) (s .args .gap) (s .args .held) (s .args .place) (s .args .sub .now) (lent s) (run r) (counts r)
     (n .from + behind r .length-of .result + r .write-lengths .result .bytes) (n .k + 1 + r .write-lengths .result .frames))
 all r =
     let s = start (entered (behind r) .before) in
-    walk-run (s .args .width) (s .args .gap) (s .args .held) (s .args .place) (s .args .sub .now) (lent s) (passes s) (s .pre .1 .2) (s .pre .1 .3) (s .pre .0) (one (behind r)) (omega arith) (within r) (r .write-lengths .ensures .0)
+    walk-run (s .args .most) (s .args .width) (s .args .gap) (s .args .held) (s .args .place) (s .args .sub .now) (lent s) (passes s) (s .pre .1 .2) (s .pre .1 .3) (s .pre .1 .4) (s .pre .0) (one (behind r)) (omega arith) (within r) (r .write-lengths .ensures .0)
 
 few : (r : tie.After-write-lengths Inv-loop μ-loop) → Within (counts r)
 few r =
     let s = start (entered (behind r) .before) in
-    walk-within (s .args .width) (s .args .gap) (s .args .held) (s .args .place) (s .args .sub .now) (lent s) (passes s) (s .pre .1 .2) (s .pre .1 .3) (s .pre .0) (all r)
+    walk-within (s .args .most) (s .args .width) (s .args .gap) (s .args .held) (s .args .place) (s .args .sub .now) (lent s) (passes s) (s .pre .1 .2) (s .pre .1 .3) (s .pre .1 .4) (s .pre .0) (all r)
 
 segment-count-requires : tie.Need-segment-count-requires Inv-loop μ-loop
 segment-count-requires c κs = omega (arith, table-inside (c .before .before .before .before))
@@ -129,7 +129,7 @@ loop-holds : tie.Need-loop-holds Inv-loop μ-loop
 loop-holds c =
     let s = c .before .before .before .before .before .before in
     let n = c .before .segment-count .ensures .0 in
-    (n, rw (c .begin .ensures) (walk-begin (s .args .width) (s .args .gap) (s .args .held) (s .args .place) (s .args .sub .now) (lent s) (passes s) (s .pre .1 .2) (s .pre .1 .3) (s .pre .0) _ _ n refl))
+    (n, rw (c .begin .ensures) (walk-begin (s .args .most) (s .args .width) (s .args .gap) (s .args .held) (s .args .place) (s .args .sub .now) (lent s) (passes s) (s .pre .1 .2) (s .pre .1 .3) (s .pre .1 .4) (s .pre .0) _ _ n refl))
 
 entry-requires : tie.Need-entry-requires Inv-loop μ-loop
 entry-requires c κs =
@@ -142,7 +142,7 @@ place-segment-requires c κs =
     let e = c .before .before .before in
     let s = start (e .before) in
     let w = walking (e .before) in
-    (walk-roomy (s .args .width) (s .args .gap) (s .args .held) (s .args .place) (s .args .sub .now) (lent s) (passes s) (s .pre .1 .2) (s .pre .1 .3) (s .pre .0) w, (omega (arith, size e, walk-body (s .args .width) (s .args .gap) (s .args .held) (s .args .place) (s .args .sub .now) (lent s) (passes s) (s .pre .1 .2) (s .pre .1 .3) (s .pre .0) w (there (e .before))), fits e))
+    (walk-roomy (s .args .most) (s .args .width) (s .args .gap) (s .args .held) (s .args .place) (s .args .sub .now) (lent s) (passes s) (s .pre .1 .2) (s .pre .1 .3) (s .pre .1 .4) (s .pre .0) w, (s .pre .1 .3, omega (arith, size e, walk-body (s .args .most) (s .args .width) (s .args .gap) (s .args .held) (s .args .place) (s .args .sub .now) (lent s) (passes s) (s .pre .1 .2) (s .pre .1 .3) (s .pre .1 .4) (s .pre .0) w (there (e .before))), fits e))
 
 length-of-requires : tie.Need-length-of-requires Inv-loop μ-loop
 length-of-requires c κs = search needs
@@ -150,7 +150,7 @@ length-of-requires c κs = search needs
 add-behind : tie.Need-add-behind Inv-loop μ-loop
 add-behind c =
     let s = start (entered c .before) in
-    omega (arith, walk-place (s .args .width) (s .args .gap) (s .args .held) (s .args .place) (s .args .sub .now) (lent s) (passes s) (s .pre .1 .2) (s .pre .1 .3) (s .pre .0) (one c), s .pre .1 .3)
+    omega (arith, walk-place (s .args .most) (s .args .width) (s .args .gap) (s .args .held) (s .args .place) (s .args .sub .now) (lent s) (passes s) (s .pre .1 .2) (s .pre .1 .3) (s .pre .1 .4) (s .pre .0) (one c), s .pre .1 .4)
 
 add-write-lengths : tie.Need-add-write-lengths Inv-loop μ-loop
 add-write-lengths c = search needs
@@ -159,36 +159,36 @@ write-lengths-requires : tie.Need-write-lengths-requires Inv-loop μ-loop
 write-lengths-requires c κs =
     let l = c .before in
     let s = start (entered l .before) in
-    let n = walk-frames (s .args .width) (s .args .gap) (s .args .held) (s .args .place) (s .args .sub .now) (lent s) (passes s) (s .pre .1 .2) (s .pre .1 .3) (s .pre .0) (one l) in
-    let long = walk-roomy (s .args .width) (s .args .gap) (s .args .held) (s .args .place) (s .args .sub .now) (lent s) (passes s) (s .pre .1 .2) (s .pre .1 .3) (s .pre .0) (one l) .lengths-long in
+    let n = walk-frames (s .args .most) (s .args .width) (s .args .gap) (s .args .held) (s .args .place) (s .args .sub .now) (lent s) (passes s) (s .pre .1 .2) (s .pre .1 .3) (s .pre .1 .4) (s .pre .0) (one l) in
+    let long = walk-roomy (s .args .most) (s .args .width) (s .args .gap) (s .args .held) (s .args .place) (s .args .sub .now) (lent s) (passes s) (s .pre .1 .2) (s .pre .1 .3) (s .pre .1 .4) (s .pre .0) (one l) .lengths-long in
     let count = entered l .before .before .before .before .segment-count in
-    ((s .pre .1 .0, rw (count .ensures .0) (table-inside s)), (omega (arith, entered l .before .loop-test .taken), omega (arith, count .ensures .1), omega (arith, n, long, count .ensures .1)))
+    ((s .pre .1 .0, rw (count .ensures .0) (table-inside s)), (s .pre .1 .3, omega (arith, entered l .before .loop-test .taken), omega (arith, count .ensures .1), omega (arith, n, long, count .ensures .1)))
 
 copy-requires : tie.Need-copy-requires Inv-loop μ-loop
 copy-requires c κs =
     let r = c .before .before .before in
     let s = start (entered (behind r) .before) in
-    run-room (s .args .width) (s .args .gap) (s .args .held) (s .args .place) (s .args .sub .now) (lent s) (passes s) (s .pre .1 .2) (s .pre .1 .3) (s .pre .0) (one (behind r)) (omega arith) (within r) (r .write-lengths .ensures .0)
+    run-room (s .args .most) (s .args .width) (s .args .gap) (s .args .held) (s .args .place) (s .args .sub .now) (lent s) (passes s) (s .pre .1 .2) (s .pre .1 .3) (s .pre .1 .4) (s .pre .0) (one (behind r)) (omega arith) (within r) (r .write-lengths .ensures .0)
 
-add-k : tie.Need-add-k Inv-loop μ-loop
-add-k c = omega (arith, few (c .before .before .before .before .before .before .before .before) .frames-few)
+add-frames : tie.Need-add-frames Inv-loop μ-loop
+add-frames c = omega (arith, few (c .before .before .before .before .before .before .before .before) .frames-few)
 
-add-t31 : tie.Need-add-t31 Inv-loop μ-loop
-add-t31 c = omega (arith, few (c .before .before .before .before .before .before .before .before .before .before) .bytes-few)
+add-bytes : tie.Need-add-bytes Inv-loop μ-loop
+add-bytes c = omega (arith, few (c .before .before .before .before .before .before .before .before .before .before) .bytes-few)
 
 add-from-2 : tie.Need-add-from-2 Inv-loop μ-loop
 add-from-2 c =
     let r = c .before .before .before .before .before .before .before .before .before .before .before in
     let s = start (entered (behind r) .before) in
-    omega (arith, walk-place (s .args .width) (s .args .gap) (s .args .held) (s .args .place) (s .args .sub .now) (lent s) (passes s) (s .pre .1 .2) (s .pre .1 .3) (s .pre .0) (all r), s .pre .1 .3)
+    omega (arith, walk-place (s .args .most) (s .args .width) (s .args .gap) (s .args .held) (s .args .place) (s .args .sub .now) (lent s) (passes s) (s .pre .1 .2) (s .pre .1 .3) (s .pre .1 .4) (s .pre .0) (all r), s .pre .1 .4)
 
-add-k-2 : tie.Need-add-k-2 Inv-loop μ-loop
-add-k-2 c =
+add-k : tie.Need-add-k Inv-loop μ-loop
+add-k c =
     let e = entered (behind (c .before .before .before .before .before .before .before .before .before .before .before)) in
     omega (arith, e .before .loop-test .taken, e .before .before .before .before .segment-count .ensures .1)
 
-add-k-3 : tie.Need-add-k-3 Inv-loop μ-loop
-add-k-3 c =
+add-k-2 : tie.Need-add-k-2 Inv-loop μ-loop
+add-k-2 c =
     let r = c .before .before .before .before .before .before .before .before .before .before .before .before in
     omega (arith, r .write-lengths .ensures .1, entered (behind r) .before .before .before .before .segment-count .ensures .1)
 
@@ -205,24 +205,24 @@ loop-again c =
 same-length : tie.Need-same-length Inv-loop μ-loop
 same-length c =
     let s = c .before .before .before .before .before .before .before .before in
-    walk-lengths (s .args .width) (s .args .gap) (s .args .held) (s .args .place) (s .args .sub .now) (lent s) (passes s) (s .pre .1 .2) (s .pre .1 .3) (s .pre .0) (c .before .loop .inv .1) .0
+    walk-lengths (s .args .most) (s .args .width) (s .args .gap) (s .args .held) (s .args .place) (s .args .sub .now) (lent s) (passes s) (s .pre .1 .2) (s .pre .1 .3) (s .pre .1 .4) (s .pre .0) (c .before .loop .inv .1) .0
 
 same-length-2 : tie.Need-same-length-2 Inv-loop μ-loop
 same-length-2 c =
     let s = c .before .before .before .before .before .before .before .before in
-    walk-lengths (s .args .width) (s .args .gap) (s .args .held) (s .args .place) (s .args .sub .now) (lent s) (passes s) (s .pre .1 .2) (s .pre .1 .3) (s .pre .0) (c .before .loop .inv .1) .1
+    walk-lengths (s .args .most) (s .args .width) (s .args .gap) (s .args .held) (s .args .place) (s .args .sub .now) (lent s) (passes s) (s .pre .1 .2) (s .pre .1 .3) (s .pre .1 .4) (s .pre .0) (c .before .loop .inv .1) .1
 
 same-length-3 : tie.Need-same-length-3 Inv-loop μ-loop
 same-length-3 c =
     let s = c .before .before .before .before .before .before .before .before in
-    walk-lengths (s .args .width) (s .args .gap) (s .args .held) (s .args .place) (s .args .sub .now) (lent s) (passes s) (s .pre .1 .2) (s .pre .1 .3) (s .pre .0) (c .before .loop .inv .1) .2
+    walk-lengths (s .args .most) (s .args .width) (s .args .gap) (s .args .held) (s .args .place) (s .args .sub .now) (lent s) (passes s) (s .pre .1 .2) (s .pre .1 .3) (s .pre .1 .4) (s .pre .0) (c .before .loop .inv .1) .2
 
 returns : tie.Need-returns Inv-loop μ-loop
 returns c =
     let s = c .before .before .before .before .before .before .before .before in
     let i = c .before .loop .inv in
     let w = i .1 in
-    (walk-end (s .args .width) (s .args .gap) (s .args .held) (s .args .place) (s .args .sub .now) (lent s) (passes s) (s .pre .1 .2) (s .pre .1 .3) (s .pre .0) w (omega (arith, i .0, c .loop-test .left)), walk-within (s .args .width) (s .args .gap) (s .args .held) (s .args .place) (s .args .sub .now) (lent s) (passes s) (s .pre .1 .2) (s .pre .1 .3) (s .pre .0) w)
+    (walk-end (s .args .most) (s .args .width) (s .args .gap) (s .args .held) (s .args .place) (s .args .sub .now) (lent s) (passes s) (s .pre .1 .2) (s .pre .1 .3) (s .pre .1 .4) (s .pre .0) w (omega (arith, i .0, c .loop-test .left)), walk-within (s .args .most) (s .args .width) (s .args .gap) (s .args .held) (s .args .place) (s .args .sub .now) (lent s) (passes s) (s .pre .1 .2) (s .pre .1 .3) (s .pre .1 .4) (s .pre .0) w)
 
 pub walk-spec : {M : Type 1} → statement M
 walk-spec =
@@ -242,11 +242,11 @@ walk-spec =
     add-write-lengths
     write-lengths-requires
     copy-requires
-    add-k
-    add-t31
+    add-frames
+    add-bytes
     add-from-2
+    add-k
     add-k-2
-    add-k-3
     loop-less
     loop-again
     same-length

@@ -14,7 +14,7 @@ add-result-3 : tie.Need-add-result-3
 add-result-3 c = search needs
 
 returns : tie.Need-returns
-returns c = whole-entry (c .args .entry)
+returns c = whole-entry (c .args .most) (c .args .entry) (c .pre)
 
 pub whole-spec : {M : Type 1} → statement M
 whole-spec = tie.close (tie.spec add-result add-result-2 add-result-3 returns)

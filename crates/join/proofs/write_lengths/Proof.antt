@@ -9,15 +9,15 @@ use Rattle.join.proofs.write_lengths.Statement.{statement}
 use Rattle.join.proofs.write_lengths.Tie as tie
 
 abbrev Inv-loop : tie.InvT-loop
-Inv-loop lengths₀ at sub width k count frames₀ bytes₀ lengths frames bytes = Running width sub k count at lengths₀ lengths frames bytes
+Inv-loop lengths₀ at sub width k count most frames₀ bytes₀ lengths frames bytes = Running most width sub k count at lengths₀ lengths frames bytes
 
 abbrev μ-loop : tie.MeasureT-loop
-μ-loop lengths₀ at sub width k count frames₀ bytes₀ lengths frames bytes = count - (k + frames)
+μ-loop lengths₀ at sub width k count most frames₀ bytes₀ lengths frames bytes = count - (k + frames)
 
 loop-holds : tie.Need-loop-holds Inv-loop μ-loop
 loop-holds c =
     let s = c .before .before in
-    run-begin (s .args .width) (s .args .sub .now) (s .args .k) (s .args .count) (s .args .at) (s .args .lengths .now) (s .pre .1 .0)
+    run-begin (s .args .most) (s .args .width) (s .args .sub .now) (s .args .k) (s .args .count) (s .args .at) (s .args .lengths .now) (s .pre .1 .1)
 
 add-loop : tie.Need-add-loop Inv-loop μ-loop
 add-loop c = search needs
@@ -34,7 +34,7 @@ whole-requires : tie.Need-whole-requires Inv-loop μ-loop
 whole-requires c κs = search needs
 
 same-length : tie.Need-same-length Inv-loop μ-loop
-same-length c = run-length (c .before .before .before .before .loop .inv) (c .before .before .before .before .before .before .before .pre .1 .2)
+same-length c = run-length (c .before .before .before .before .loop .inv) (c .before .before .before .before .before .before .before .pre .1 .0) (c .before .before .before .before .before .before .before .pre .1 .3)
 
 returns : tie.Need-returns Inv-loop μ-loop
 returns c =
@@ -57,7 +57,7 @@ slice-write-lengths : tie.Need-slice-write-lengths Inv-loop μ-loop
 slice-write-lengths c =
     let r = c .before .before .before .before .before .loop .inv in
     let s = c .before .before .before .before .before .before .before .before in
-    omega (arith, run-length r (s .pre .1 .2), s .pre .1 .2, c .before .before .before .before .loop-test .taken)
+    omega (arith, run-length r (s .pre .1 .0) (s .pre .1 .3), s .pre .1 .3, c .before .before .before .before .loop-test .taken)
 
 add-bytes : tie.Need-add-bytes Inv-loop μ-loop
 add-bytes c = search needs
@@ -70,11 +70,11 @@ loop-less c = search needs
 
 loop-again : tie.Need-loop-again Inv-loop μ-loop
 loop-again c =
-    run-turn (c .before .before .before .before .before .loop .inv) (c .before .before .before .before .before .before .before .before .pre .1 .2) (c .before .before .before .before .loop-test .taken) (c .before .before .before .entry .ensures)
+    run-turn (c .before .before .before .before .before .loop .inv) (c .before .before .before .before .before .before .before .before .pre .1 .0) (c .before .before .before .before .before .before .before .before .pre .1 .3) (c .before .before .before .before .loop-test .taken) (c .before .before .before .entry .ensures)
     (c .before .before .whole .ensures (not-false _ (c .before .if1 .left))) (c .length-of .ensures .0)
 
 same-length-2 : tie.Need-same-length-2 Inv-loop μ-loop
-same-length-2 c = run-length (c .before .loop .inv) (c .before .before .before .before .pre .1 .2)
+same-length-2 c = run-length (c .before .loop .inv) (c .before .before .before .before .pre .1 .0) (c .before .before .before .before .pre .1 .3)
 
 returns-2 : tie.Need-returns-2 Inv-loop μ-loop
 returns-2 c =

@@ -5,7 +5,7 @@ use Prim.Native.Nat.{ℕ, _≤_}
 use native.Mathlib.Omega.{arith}
 use lib.ListN.{length}
 use Rattle.refusal.specs.Refusal.{first}
-use Rattle.packet.specs.Header.{overIp, headerLength}
+use Rattle.packet.specs.Header.{ip, headerLength}
 use Rattle.packet.specs.Segments.{entryWidth}
 use Rattle.packet.specs.Psp.{pspRefusals}
 use Rattle.packet.specs.Dmpt.{dmptRefusals}
@@ -19,11 +19,11 @@ use Rattle.packet.proofs.check.Tie as tie
 cut-whole : (c : tie.After-sub-of) → headerLength ≤ length (c .sub-of .result .now)
 cut-whole c =
     let packet = c .before .before .before .before .before .args .packet .now in
-    let passed = early-passed overIp packet (sym (c .before .before .refuse-before-session .ensures) ∙ c .before .if2 .left) in
-    rw (c .sub-of .ensures) (sub-whole overIp packet (passed .not-short))
+    let passed = early-passed (ip packet) (sym (c .before .before .refuse-before-session .ensures) ∙ c .before .if2 .left) in
+    rw (c .sub-of .ensures) (sub-whole (ip packet) (passed .not-short))
 
 returns : tie.Need-returns
-returns c = check-unknown overIp (c .before .before .args .kind) (c .before .before .args .packet .now) (c .if1 .taken)
+returns c = check-unknown (c .before .before .args .kind) (ip (c .before .before .args .packet .now)) (c .if1 .taken)
 
 refuse-before-session-requires : tie.Need-refuse-before-session-requires
 refuse-before-session-requires c κs = search needs
@@ -31,11 +31,11 @@ refuse-before-session-requires c κs = search needs
 returns-2 : tie.Need-returns-2
 returns-2 c =
     let a = c .before .before .before .before .args in
-    check-early overIp (a .kind) (a .packet .now) (c .before .before .if1 .left) _ (c .before .refuse-before-session .ensures) (c .if2 .taken)
+    check-early (a .kind) (ip (a .packet .now)) (c .before .before .if1 .left) _ (c .before .refuse-before-session .ensures) (c .if2 .taken)
 
 sub-of-requires : tie.Need-sub-of-requires
 sub-of-requires c κs =
-    omega (arith, early-passed overIp (c .before .before .before .before .args .packet .now) (sym (c .before .refuse-before-session .ensures) ∙ c .if2 .left) .not-short)
+    omega (arith, early-passed (ip (c .before .before .before .before .args .packet .now)) (sym (c .before .refuse-before-session .ensures) ∙ c .if2 .left) .not-short)
 
 refuse-requires : tie.Need-refuse-requires
 refuse-requires c κs = (omega arith, omega arith, cut-whole (c .before))
@@ -43,7 +43,7 @@ refuse-requires c κs = (omega arith, omega arith, cut-whole (c .before))
 returns-3 : tie.Need-returns-3
 returns-3 c =
     let a = c .before .before .before .before .before .before .before .args in
-    check-psp overIp (a .kind) (a .packet .now) (c .before .before .before .before .before .if1 .left) _ (c .before .before .before .before .refuse-before-session .ensures) (c .before .before .before .if2 .left) (c .before .if3 .taken) _
+    check-psp (a .kind) (ip (a .packet .now)) (c .before .before .before .before .before .if1 .left) _ (c .before .before .before .before .refuse-before-session .ensures) (c .before .before .before .if2 .left) (c .before .if3 .taken) _
     (c .refuse .ensures ∙ ap (λ (l : List ℕ). first (pspRefusals entryWidth l)) (c .before .before .sub-of .ensures))
 
 refuse-requires-2 : tie.Need-refuse-requires-2
@@ -52,7 +52,7 @@ refuse-requires-2 c κs = cut-whole (c .before)
 returns-4 : tie.Need-returns-4
 returns-4 c =
     let a = c .before .before .before .before .before .before .before .args in
-    check-dmpt overIp (a .kind) (a .packet .now) (c .before .before .before .before .before .if1 .left) _ (c .before .before .before .before .refuse-before-session .ensures) (c .before .before .before .if2 .left) (c .before .if3 .left) _
+    check-dmpt (a .kind) (ip (a .packet .now)) (c .before .before .before .before .before .if1 .left) _ (c .before .before .before .before .refuse-before-session .ensures) (c .before .before .before .if2 .left) (c .before .if3 .left) _
     (c .refuse2 .ensures ∙ ap (λ (l : List ℕ). first (dmptRefusals l)) (c .before .before .sub-of .ensures))
 
 pub check-spec : {M : Type 1} → statement M

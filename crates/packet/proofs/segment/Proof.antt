@@ -6,7 +6,7 @@ use lib.ListN.{length}
 use Rattle.octets.specs.Stretch.{part}
 use Rattle.octets.proofs.Stretches.{sliced-part}
 use Rattle.packet.specs.declared.Extent.{Extent}
-use Rattle.packet.specs.Header.{overIp}
+use Rattle.packet.specs.Header.{ip}
 use Rattle.packet.specs.Check.{segmentGiven}
 use Rattle.packet.proofs.Asked.{extent-inside}
 use borrow.Author.Needs.{needs}
@@ -15,7 +15,7 @@ use Rattle.packet.proofs.segment.Tie as tie
 
 inside : (c : tie.After-segment-extent) →
     c .segment-extent .result .start + c .segment-extent .result .size ≤ length (c .before .before .args .packet .now)
-inside c = rw (c .segment-extent .ensures) (extent-inside overIp (c .before .before .args .packet .now) (c .before .before .args .k))
+inside c = rw (c .segment-extent .ensures) (extent-inside (ip (c .before .before .args .packet .now)) (c .before .before .args .k))
 
 segment-extent-requires : tie.Need-segment-extent-requires
 segment-extent-requires c κs = search needs

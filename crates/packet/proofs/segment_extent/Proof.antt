@@ -2,7 +2,7 @@
 -- entries and all bodies before it, and the length in its entry.
 use mathlib.Core.Path.{_≡_, refl, ap, sym, _∙_}
 use native.Mathlib.Omega.{arith}
-use Rattle.packet.specs.Header.{overIp}
+use Rattle.packet.specs.Header.{ip}
 use Rattle.packet.specs.Segments.{lengthIn}
 use Rattle.packet.specs.Check.{segmentCause}
 use Rattle.packet.proofs.Asked.{Given, given-facts, extent-refused, extent-found}
@@ -10,7 +10,7 @@ use borrow.Author.Needs.{needs}
 use Rattle.packet.proofs.segment_extent.Statement.{statement}
 use Rattle.packet.proofs.segment_extent.Tie as tie
 
-allowed : (c : tie.Else1) → segmentCause overIp (c .before .before .before .args .packet .now) (c .before .before .before .args .k) ≡ 0
+allowed : (c : tie.Else1) → segmentCause (ip (c .before .before .before .args .packet .now)) (c .before .before .before .args .k) ≡ 0
 allowed c = sym (c .before .segment-cause .ensures) ∙ c .if1 .left
 
 facts : (c : tie.After-sub-of) →
@@ -21,7 +21,7 @@ segment-cause-requires : tie.Need-segment-cause-requires
 segment-cause-requires c κs = search needs
 
 returns : tie.Need-returns
-returns c = sym (extent-refused overIp _ (c .before .before .before .args .k) (λ z. c .if1 .taken (c .before .segment-cause .ensures ∙ z)))
+returns c = sym (extent-refused (ip _) (c .before .before .before .args .k) (λ z. c .if1 .taken (c .before .segment-cause .ensures ∙ z)))
 
 sub-of-requires : tie.Need-sub-of-requires
 sub-of-requires c κs = given-facts _ _ (c .before .before .before .args .k) (allowed c) refl .long

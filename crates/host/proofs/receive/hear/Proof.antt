@@ -2,18 +2,20 @@
 use Prim.Native.Nat.{ℕ, _<_}
 use mathlib.Core.Path.{_≡_, refl, sym, ap, _∙_}
 use native.Mathlib.Omega.{arith}
-use lib.Dec.{eqb}
 use lib.ListN.{length-map}
 use Rattle.flow.specs.declared.Flow.{Flow}
-use Rattle.flow.specs.Flow.{flows}
-use Rattle.packet.specs.Check.{kindDmpt}
+use Rattle.flow.specs.Flow.{flows, longest}
+use Rattle.table.specs.declared.Kind.{Kind}
+use Rattle.table.specs.declared.Terms.{Terms}
+use Rattle.table.specs.Rows.{isDmpt}
 use Rattle.join.specs.Slices.{asSlices, Slices}
 use Rattle.join.specs.Placed.{Roomy}
 use Rattle.card.specs.Receive.{placeOf}
-use Rattle.card.proofs.Hearing.{place-roomy, flow-in-row, held-fits, dmpt-bare}
-use Rattle.numbers.specs.Tables.{allFlows, flowNumber, kindAt, tableIn}
+use Rattle.card.proofs.Hearing.{place-roomy, held-fits, dmpt-bare}
+use Rattle.card.proofs.ByKind.{flow-in-row}
+use Rattle.numbers.specs.Tables.{allFlows, flowNumber, tableIn}
 use Rattle.numbers.proofs.Columns.{Shaped}
-use Rattle.host.proofs.Hearing.{is-dmpt, flow-is, host-refused, host-late, host-accepted}
+use Rattle.host.proofs.Hearing.{termsIn, row-terms, flow-is, host-refused, host-late, host-accepted}
 use borrow.Author.Needs.{needs}
 use borrow.Author.Needs.{needs}
 use Rattle.host.proofs.receive.hear.Statement.{statement}
@@ -21,10 +23,17 @@ use Rattle.host.proofs.receive.hear.Tie as tie
 
 -- from where the code has judged the packet back to its start, and the slices as they were lent
 abbrev start : tie.After-refuse-packet → tie.Start
-start p = p .before .before .before .before .before .before
+start p = p .before .before .before .before .before .before .before
 
 abbrev lent : tie.Start → Slices
 lent s = asSlices (s .args .holding .now) (s .args .output .now) (s .args .lengths .now)
+
+-- the terms that the code has made, and that they are the row's
+abbrev asked-terms : tie.After-refuse-packet → Terms
+asked-terms p = record { kind = p .before .kind-in .result; longest = longest }
+
+asked : (p : tie.After-refuse-packet) → asked-terms p ≡ termsIn (start p .args .table) (start p .args .row)
+asked p = ap (λ (k : Kind). record { kind = k; longest = longest }) (p .before .kind-in .ensures)
 
 -- the lists are as long as the table's type says
 shaped : (s : tie.Start) → Shaped (s .args .table)
@@ -41,7 +50,7 @@ shaped s =
 in-row : (k : tie.After-flow-id) → k .flow-id .result < flows
 in-row k =
     let p = k .before .before in
-    let l = flow-in-row (eqb (kindAt (start p .args .table) (start p .args .row)) kindDmpt) (start p .args .sub .now) (sym (p .refuse-packet .ensures) ∙ k .before .if1 .left) in
+    let l = flow-in-row (asked-terms p) (start p .args .sub .now) (sym (p .refuse-packet .ensures) ∙ k .before .if1 .left) in
     omega (arith, l, k .flow-id .ensures .0)
 
 among : (k : tie.After-flow-id) → flowNumber (start (k .before .before) .args .row) (k .flow-id .result) < allFlows
@@ -52,11 +61,14 @@ roomy k e =
     let s = start (k .before .before) in
     rw e (place-roomy (lent s) (s .args .row) (k .flow-id .result) (s .pre .large) (s .pre .found) (in-row k))
 
-mul-dmpt : tie.Need-mul-dmpt
-mul-dmpt c = search needs
+mul-number : tie.Need-mul-number
+mul-number c = search needs
 
-element-copy-out-dmpt : tie.Need-element-copy-out-dmpt
-element-copy-out-dmpt c = search needs
+element-copy-out-number : tie.Need-element-copy-out-number
+element-copy-out-number c = search needs
+
+kind-in-requires : tie.Need-kind-in-requires
+kind-in-requires c κs = search needs
 
 refuse-packet-requires : tie.Need-refuse-packet-requires
 refuse-packet-requires c κs = search needs
@@ -68,7 +80,7 @@ returns : tie.Need-returns
 returns c =
     let p = c .before .before in
     let s = start p in
-    host-refused (s .args .table) (s .pre .whole) (s .args .row) (s .pre .found) (s .args .sub .now) (lent s) _ refl _ (p .refuse-packet .ensures) _ (c .before .if1 .taken) (c .refused-answer .ensures)
+    host-refused (s .args .table) (s .pre .whole) (s .args .row) (s .pre .found) (s .args .sub .now) (lent s) _ (asked p) _ (p .refuse-packet .ensures) _ (c .before .if1 .taken) (c .refused-answer .ensures)
 
 flow-id-requires : tie.Need-flow-id-requires
 flow-id-requires c κs = search needs
@@ -108,7 +120,7 @@ returns-2 c =
     let k = c .before .before .before .before .before .before in
     let p = k .before .before in
     let s = start p in
-    host-late (s .args .table) (s .pre .whole) (s .args .row) (s .pre .found) (s .args .sub .now) (lent s) _ refl _ (p .refuse-packet .ensures) (k .before .if1 .left) _ (k .flow-id .ensures .0) (in-row k) _ refl _ (c .before .before .judge-packet .ensures) _ (c .before .if2 .taken) (c .refused-answer2 .ensures)
+    host-late (s .args .table) (s .pre .whole) (s .args .row) (s .pre .found) (s .args .sub .now) (lent s) _ (asked p) _ (p .refuse-packet .ensures) (k .before .if1 .left) _ (k .flow-id .ensures .0) (in-row k) _ refl _ (c .before .before .judge-packet .ensures) _ (c .before .if2 .taken) (c .refused-answer2 .ensures)
 
 cast-before : tie.Need-cast-before
 cast-before c = search needs
@@ -124,11 +136,13 @@ place-packet-requires c κs =
     let p = k .before .before in
     let s = start p in
     let ready = s .pre in
-    let flow = flow-is (s .args .table) (ready .whole) (s .args .row) (ready .found) (s .args .sub .now) (lent s) _ refl _ (p .refuse-packet .ensures) (k .before .if1 .left) _ (k .flow-id .ensures .0) (in-row k) _ refl _ (c .before .before .before .before .before .before .judge-packet .ensures) in (
+    let terms-are = row-terms (s .args .table) (ready .whole) (s .args .row) (ready .found) (s .args .sub .now) (lent s) _ (asked p) in
+    let flow = flow-is (s .args .table) (ready .whole) (s .args .row) (ready .found) (s .args .sub .now) (lent s) _ (asked p) _ (p .refuse-packet .ensures) (k .before .if1 .left) _ (k .flow-id .ensures .0) (in-row k) _ refl _ (c .before .before .before .before .before .before .judge-packet .ensures) in (
       roomy k (c .before .before .place-of .ensures),
       (
+        omega arith,
         rw (ap (λ (f : Flow). f .held) flow) (held-fits (tableIn (s .args .table)) (s .args .row) (k .flow-id .result) (ready .whole) (ready .found) (in-row k)),
-        (λ d. ap (λ (f : Flow). f .held) flow ∙ dmpt-bare (tableIn (s .args .table)) (s .args .row) (k .flow-id .result) (ready .whole) (ready .found) (in-row k) (sym (is-dmpt (s .args .table) (ready .whole) (s .args .row) (ready .found) (s .args .sub .now) (lent s) _ refl) ∙ d)),
+        (λ d. ap (λ (f : Flow). f .held) flow ∙ dmpt-bare (tableIn (s .args .table)) (s .args .row) (k .flow-id .result) (ready .whole) (ready .found) (in-row k) (sym (ap (λ (x : Terms). isDmpt (x .kind)) terms-are) ∙ d)),
         ready .short,
         sym (p .refuse-packet .ensures) ∙ k .before .if1 .left,
       ),
@@ -158,17 +172,17 @@ mul-next-3 c = search needs
 element-write-next-3 : tie.Need-element-write-next-3
 element-write-next-3 c = among (c .before .before .before .before .before .before .before .before .before .before .before .before .before .before .before .before .before .before .before .before)
 
-cast-t23 : tie.Need-cast-t23
-cast-t23 c = search needs
+cast-frames : tie.Need-cast-frames
+cast-frames c = search needs
 
-cast-t46 : tie.Need-cast-t46
-cast-t46 c = search needs
+cast-bytes : tie.Need-cast-bytes
+cast-bytes c = search needs
 
-cast-t47 : tie.Need-cast-t47
-cast-t47 c = search needs
+cast-dropped : tie.Need-cast-dropped
+cast-dropped c = search needs
 
-cast-t48 : tie.Need-cast-t48
-cast-t48 c = search needs
+cast-gap : tie.Need-cast-gap
+cast-gap c = search needs
 
 same-length : tie.Need-same-length
 same-length c = search needs
@@ -184,15 +198,16 @@ returns-3 c =
     let k = c .before .before .before .before .before .before .before .before .before .before .before .before .before .before .before .before .before .before .before .before .before .before .before .before in
     let p = k .before .before in
     let s = start p in
-    host-accepted (s .args .table) (s .pre .whole) (s .args .row) (s .pre .found) (s .args .sub .now) (lent s) _ refl _ (p .refuse-packet .ensures) (k .before .if1 .left) _ (k .flow-id .ensures .0) (in-row k) _ refl _ (c .before .before .before .before .before .before .before .before .before .before .before .before .before .before .before .before .before .before .before .before .judge-packet .ensures)
+    host-accepted (s .args .table) (s .pre .whole) (s .args .row) (s .pre .found) (s .args .sub .now) (lent s) _ (asked p) _ (p .refuse-packet .ensures) (k .before .if1 .left) _ (k .flow-id .ensures .0) (in-row k) _ refl _ (c .before .before .before .before .before .before .before .before .before .before .before .before .before .before .before .before .before .before .before .before .judge-packet .ensures)
     (shaped s) _ _ _ _ _ _ (c .before .before .before .before .before .before .before .before .before .before .before .before .before .before .before .before .before .before .before .if2 .left) (c .before .before .before .before .before .before .before .before .before .before .before .before .before .before .before .before .place-of .ensures) (c .before .before .before .before .before .before .before .before .before .before .before .before .before .place-packet .ensures .0) (simp (c .before .before .before .before .before .mark-of .ensures))
 
 pub hear-spec : {M : Type 1} → statement M
 hear-spec =
     tie.close
     (tie.spec
-    mul-dmpt
-    element-copy-out-dmpt
+    mul-number
+    element-copy-out-number
+    kind-in-requires
     refuse-packet-requires
     refused-answer-requires
     returns
@@ -219,10 +234,10 @@ hear-spec =
     cast-next
     mul-next-3
     element-write-next-3
-    cast-t23
-    cast-t46
-    cast-t47
-    cast-t48
+    cast-frames
+    cast-bytes
+    cast-dropped
+    cast-gap
     same-length
     same-length-2
     same-length-3

@@ -4,7 +4,7 @@ use mathlib.Core.Path.{_≡_, sym, _∙_}
 use mathlib.Core.Bool.{false}
 use native.Mathlib.Omega.{arith}
 use lib.ListN.{length}
-use Rattle.packet.specs.Header.{overIp, idLength}
+use Rattle.packet.specs.Header.{ip, idLength}
 use Rattle.table.specs.Rows.{find}
 use Rattle.join.specs.Slices.{asSlices, Slices}
 use Rattle.card.specs.Receive.{tooSmall}
@@ -27,13 +27,13 @@ large : (w : tie.After-too-small) → w .too-small .result ≡ false → tooSmal
 large w left = sym (w .too-small .ensures) ∙ left
 
 -- refusals 13 and 2 to 4 passed
-over : (e : tie.Else2) → EarlyOver overIp (tableIn (start (e .before .before .before) .args .table)) (start (e .before .before .before) .args .packet .now)
+over : (e : tie.Else2) → EarlyOver (tableIn (start (e .before .before .before) .args .table)) (ip (start (e .before .before .before) .args .packet .now))
 over e =
     let a = start (e .before .before .before) .args in
-    early-over overIp (tableIn (a .table)) (a .packet .now) (sym (e .before .refuse-before-session .ensures) ∙ e .if2 .left)
+    early-over (tableIn (a .table)) (ip (a .packet .now)) (sym (e .before .refuse-before-session .ensures) ∙ e .if2 .left)
 
 -- so the packet's session ID lies in it, and the session stands where the code looks for it
-id-inside : (e : tie.Else2) → overIp + idLength ≤ length (start (e .before .before .before) .args .packet .now)
+id-inside : (e : tie.Else2) → idLength ≤ length (start (e .before .before .before) .args .packet .now)
 id-inside e = omega (arith, over e .passed .not-short)
 
 found : (r : tie.After-find-row) →
@@ -94,7 +94,7 @@ hear-requires c κs =
     let e = r .before .before .before in
     let w = e .before .before .before in
     let s = start w in
-    ready overIp (tableIn (s .args .table)) (s .args .packet .now) (lent s) _ _ (large w (e .before .before .if1 .left)) (sym (e .before .refuse-before-session .ensures) ∙ e .if2 .left) (c .before .before .before .before .if3 .left) (c .before .before .before .sub-of .ensures)
+    ready (tableIn (s .args .table)) (ip (s .args .packet .now)) (lent s) _ _ (large w (e .before .before .if1 .left)) (sym (e .before .refuse-before-session .ensures) ∙ e .if2 .left) (c .before .before .before .before .if3 .left) (c .before .before .before .sub-of .ensures)
 
 same-length : tie.Need-same-length
 same-length c = search needs
