@@ -1,6 +1,6 @@
 -- What becomes of a packet, and what refuses it, by the kind of its session. Each law is said of the test first, and then of the terms.
 use Prim.Native.Nat.{ℕ, _<_}
-use mathlib.Core.Path.{_≡_, refl}
+use mathlib.Core.Path.{_≡_, refl, sym, _∙_}
 use mathlib.Core.Bool.{Bool, true, false, cond}
 use mathlib.Core.List.{List, []}
 use native.Mathlib.Omega.{arith}
@@ -10,9 +10,9 @@ use Rattle.octets.specs.Stretch.{part}
 use Rattle.octets.proofs.Stretches.{part-none}
 use Rattle.flow.specs.Flow.{flows}
 use Rattle.packet.specs.Segments.{segments}
-use Rattle.packet.specs.Psp.{pspRefusals}
+use Rattle.packet.specs.Psp.{segmentRefusals, pspRefusals}
 use Rattle.packet.specs.Dmpt.{mpegs, dmptRefusals}
-use Rattle.packet.proofs.Passing.{psp-passed, dmpt-passed}
+use Rattle.packet.proofs.Passing.{psp-passed, psp-segments, dmpt-passed}
 use Rattle.table.specs.declared.Kind.{Kind}
 use Rattle.table.specs.declared.Terms.{Terms}
 use Rattle.table.specs.Rows.{isDmpt}
@@ -31,8 +31,14 @@ fate-psp terms gap held sub d = rw d refl
 pub refusals-dmpt : (terms : Terms) (sub : List ℕ) → isDmpt (terms .kind) ≡ true → first (packetRefusals terms sub) ≡ first (dmptRefusals sub)
 refusals-dmpt terms sub d = rw d refl
 
-pub refusals-psp : (terms : Terms) (sub : List ℕ) → isDmpt (terms .kind) ≡ false → first (packetRefusals terms sub) ≡ first (pspRefusals (widthIn (terms .kind)) sub)
+pub refusals-psp : (terms : Terms) (sub : List ℕ) → isDmpt (terms .kind) ≡ false →
+    first (packetRefusals terms sub) ≡ first (pspRefusals (widthIn (terms .kind)) sub)
 refusals-psp terms sub d = rw d refl
+
+-- the walk over the segments asks for 9 to 11 alone
+pub segments-pass : (terms : Terms) (sub : List ℕ) → isDmpt (terms .kind) ≡ false → first (packetRefusals terms sub) ≡ 0 →
+    first (segmentRefusals (widthIn (terms .kind)) sub) ≡ 0
+segments-pass terms sub d z = psp-segments (widthIn (terms .kind)) sub (sym (refusals-psp terms sub d) ∙ z)
 
 -- every number of these orders is some number
 numbered-by : (d : Bool) (k : Kind) (sub : List ℕ) → numbered (cond d (dmptRefusals sub) (pspRefusals (widthIn k) sub)) ≡ true

@@ -19,7 +19,7 @@ use Rattle.packet.specs.Header.{Packet, idLength, sSet, number, segmentCount, l
 use Rattle.packet.specs.Segments.{lengthAt, segments}
 use Rattle.packet.specs.Psp.{pspRefusals}
 use Rattle.packet.specs.Dmpt.{carried, mpegCount, mpegs, dmptRefusals}
-use Rattle.packet.proofs.Passing.{psp-passed, dmpt-passed, mpegs-fill}
+use Rattle.packet.proofs.Passing.{SegmentsPassed, psp-passed, dmpt-passed, mpegs-fill}
 use Rattle.table.specs.declared.Kind.{Kind}
 use Rattle.table.specs.declared.Table.{Table}
 use Rattle.table.specs.declared.Terms.{Terms}
@@ -45,11 +45,11 @@ pub record Bounded (most bytes : ℕ) (f : Fate) : Type 0 where
   pub frames-few : length (f .delivered) ≤ mostFrames
   pub held-few : length (f .held) ≤ most
 
-psp-bounded : (most width gap : ℕ) (held sub : List ℕ) → first (pspRefusals width sub) ≡ 0 → length held ≤ most → most ≤ longest → idLength + length sub ≤ longestPacket →
+psp-bounded : (most width gap : ℕ) (held sub : List ℕ) → SegmentsPassed width sub → length held ≤ most → most ≤ longest →
+    idLength + length sub ≤ longestPacket →
     Bounded most (length held + sumTo (lengthAt width sub) (segmentCount sub)) (pspFate most gap held (segments width sub))
 unfolding pspFate segments
-psp-bounded most width gap held sub z few small short =
-    let p = psp-passed width sub z in
+psp-bounded most width gap held sub p few small short =
     let a = so-far-accounts most width gap held sub p few small (segmentCount sub) (omega arith) in
     record {
       all = a .all;
@@ -72,16 +72,18 @@ dmpt-bounded most sub z short =
       held-few = omega (arith, a .held-few);
     }
 
-bounded-by : (d : Bool) (most width gap : ℕ) (held sub : List ℕ) → first (cond d (dmptRefusals sub) (pspRefusals width sub)) ≡ 0 → length held ≤ most → most ≤ longest →
-    (d ≡ true → held ≡ []) → idLength + length sub ≤ longestPacket →
-    Bounded most (length held + cond d (carried sub) (sumTo (lengthAt width sub) (segmentCount sub))) (cond d (dmptFate held (mpegs sub)) (pspFate most gap held (segments width sub)))
+bounded-by : (d : Bool) (most width gap : ℕ) (held sub : List ℕ) → first (cond d (dmptRefusals sub) (pspRefusals width sub)) ≡ 0 →
+    length held ≤ most → most ≤ longest → (d ≡ true → held ≡ []) → idLength + length sub ≤ longestPacket →
+    Bounded most (length held + cond d (carried sub) (sumTo (lengthAt width sub) (segmentCount sub)))
+    (cond d (dmptFate held (mpegs sub)) (pspFate most gap held (segments width sub)))
 bounded-by true most width gap held sub z few small bare short = rw (bare refl) (dmpt-bounded most sub z short)
-bounded-by false most width gap held sub z few small bare short = psp-bounded most width gap held sub z few small short
+bounded-by false most width gap held sub z few small bare short = psp-bounded most width gap held sub (psp-passed width sub z .segments) few small short
 
-pub fate-bounded : (terms : Terms) (gap : ℕ) (held sub : List ℕ) → first (packetRefusals terms sub) ≡ 0 → length held ≤ terms .longest → terms .longest ≤ longest →
-    (isDmpt (terms .kind) ≡ true → held ≡ []) → idLength + length sub ≤ longestPacket →
+pub fate-bounded : (terms : Terms) (gap : ℕ) (held sub : List ℕ) → first (packetRefusals terms sub) ≡ 0 → length held ≤ terms .longest →
+    terms .longest ≤ longest → (isDmpt (terms .kind) ≡ true → held ≡ []) → idLength + length sub ≤ longestPacket →
     Bounded (terms .longest) (length held + bodyBytes (terms .kind) sub) (fateOf terms gap held sub)
-fate-bounded terms gap held sub z few small bare short = bounded-by (isDmpt (terms .kind)) (terms .longest) (widthIn (terms .kind)) gap held sub z few small bare short
+fate-bounded terms gap held sub z few small bare short =
+    bounded-by (isDmpt (terms .kind)) (terms .longest) (widthIn (terms .kind)) gap held sub z few small bare short
 
 -- An accepted call: its flow's bytes and the packet's.
 module _ (t : Table) (p : Packet) (s : Slices) (a : call.Accepted t p s) where

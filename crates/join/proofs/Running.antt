@@ -3,14 +3,11 @@
 use Prim.Native.Nat.{ℕ, _+_, _*_, _/_, _%_, _<_, _≤_}
 use mathlib.Core.Path.{_≡_, refl, sym, ap, _∙_}
 use mathlib.Core.Logic.{⊎-elim}
-use mathlib.Core.Bool.{true, _&&_}
 use mathlib.Core.List.{List, [], _∷_}
 use native.Mathlib.Omega.{arith}
 use native.Mathlib.Nat.{eq-or-lt-of-le}
-use lib.Dec.{leb}
 use lib.ListN.{length, set}
-use borrow.Author.Tests.{eq-eqb, leb-true}
-use Rattle.refusal.proofs.Laws.{and-left, and-right}
+use borrow.Author.Tests.{eq-eqb}
 use Rattle.octets.specs.Stretch.{part, put}
 use Rattle.octets.specs.Count.{upTo}
 use Rattle.octets.proofs.Counts.{sum-none, sum-more, up-to-more, length-up-to}
@@ -23,18 +20,18 @@ use Rattle.join.specs.Slices.{Slices}
 use Rattle.join.specs.Placed.{Placed, Whole, Ran}
 use Rattle.join.proofs.Placing.{placed-delivering, settled-whole, fate-begins}
 
--- the code's test
-pub whole-entry : (most entry : ℕ) → most ≤ longest → (leb (bBit + eBit) entry && leb entry (bBit + eBit + most)) ≡ true → Whole most entry
-whole-entry most entry small t =
-    let least = leb (bBit + eBit) entry in
-    let top = leb entry (bBit + eBit + most) in
-    let above : bBit + eBit ≤ entry = leb-true _ _ (and-left least top t) in
-    let below : entry ≤ bBit + eBit + most = leb-true _ _ (and-right least top t) in
+-- the code's test: how far an entry lies above B and E, and that this is at most the session's longest frame
+pub whole-entry : (most entry size : ℕ) → most ≤ longest → (size < eBit → entry ≡ bBit + eBit + size) → size ≤ most → Whole most entry
+whole-entry most entry size small e short =
+    let is = e (omega arith) in
     record {
       begins = eq-eqb (entry / bBit % 2) 1 (omega arith);
       ends = eq-eqb (entry / eBit % 2) 1 (omega arith);
       short = omega arith;
     }
+
+pub whole-size : (most entry size : ℕ) → most ≤ longest → (size < eBit → entry ≡ bBit + eBit + size) → size ≤ most → size ≡ lengthIn entry
+whole-size most entry size small e short = let is = e (omega arith) in omega arith
 
 -- one length more behind those that are written
 pub written-more : (lens lens′ : List ℕ) (at : ℕ) (f : ℕ → ℕ) (n : ℕ) → at + n < length lens → lens′ ≡ put lens at (upTo f n) →

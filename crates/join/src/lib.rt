@@ -9,19 +9,22 @@ pub mod mpegs;
 ghost use mathlib.Core.Bool.{true, cond};
 ghost use mathlib.Core.List.{_++_};
 ghost use mathlib.Core.Path.{_≡_};
-ghost use Prim.Native.Nat.{_+_, _*_, _≤_};
+ghost use Prim.Native.Nat.{_+_, _*_, _<_, _≤_};
 ghost use lib.ListN.{length};
 ghost use Rattle.refusal.specs.Refusal.{first};
 ghost use Rattle.octets.specs.Stretch.{part};
 ghost use Rattle.flow.specs.Flow.{longest};
 ghost use Rattle.packet.specs.Header.{idLength, headerLength, longestPacket};
-ghost use Rattle.packet.specs.Segments.{beginsIn, endsIn, lengthIn, segments};
-ghost use Rattle.packet.specs.Psp.{pspRefusals};
+ghost use Rattle.packet.specs.Segments.{bBit, eBit, beginsIn, endsIn, lengthIn, segments};
+ghost use Rattle.packet.specs.Psp.{segmentRefusals};
 ghost use Rattle.join.specs.Join.{settled, fate, pspFate};
 ghost use Rattle.join.specs.Slices.{asSlices, mostFrames, mostBytes};
-ghost use Rattle.join.specs.Placed.{nothingYet, begun, Placed, Roomy, Fits, Within, Whole, Ran};
+ghost use Rattle.join.specs.Placed.{nothingYet, begun, Placed, Roomy, Fits, Within, Ran};
 use packet::header;
 use packet::psp;
+
+// What the entry of a whole frame of no bytes would be.
+const B_AND_E: u16 = psp::B_BIT + psp::E_BIT;
 
 // What a call has come to: how many bytes the flow holds now, and the frames and bytes delivered and the bytes dropped so far.
 pub struct Tally {
@@ -54,7 +57,8 @@ fn begin(gap: u16, held: usize) -> Tally
 // What a segment makes of what is held before it joins: with B it drops it.
 fn give_way(begins: bool, tally: Tally) -> Tally
     requires { ⌜ tally .held + tally .bytes + tally .dropped ≤ mostBytes ⌝ }
-    ensures { λ r. ⌜ r ≡ cond begins (record { held = 0; frames = tally .frames; bytes = tally .bytes; dropped = tally .dropped + tally .held }) tally ⌝ }
+    ensures { λ r. ⌜ r ≡ cond begins
+        (record { held = 0; frames = tally .frames; bytes = tally .bytes; dropped = tally .dropped + tally .held }) tally ⌝ }
 {
     if begins {
         let dropped = tally.dropped + tally.held;
@@ -172,12 +176,12 @@ fn place_segment(
     )
 }
 
-// Whether an entry is that of a whole frame which is not too long: it has B and E, and a length of at most 2,048.
-fn whole(entry: u16, most: u16) -> bool
-    requires { ⌜ most ≤ longest ⌝ }
-    ensures { λ r. ⌜ (r ≡ true → Whole most entry) ⌝ }
+// The length of a whole frame, by its entry: how far the entry lies above B and E, modulo 65,536. Of an entry that lacks one of them this
+// is no length, but 16,384 or more. So one comparison tells whether a frame is whole and not too long.
+fn whole_length(entry: u16) -> u16
+    ensures { λ r. ⌜ (r < eBit → entry ≡ bBit + eBit + r) ⌝ }
 {
-    (psp::B_BIT + psp::E_BIT <= entry) & (entry <= psp::B_BIT + psp::E_BIT + most)
+    std::num::wrapping_sub_u16(entry, B_AND_E)
 }
 
 // Whole frames one behind the other: how many, and how long together.
@@ -205,12 +209,13 @@ fn write_lengths(
     let mut bytes: usize = 0;
     while k + frames < count {
         let entry = psp::entry(sub, width, k + frames);
-        if !whole(entry, most) {
+        let size = whole_length(entry);
+        if most < size {
             return Run { frames, bytes };
         }
-        let size = psp::length_of(entry);
-        lengths[at + frames] = size as u16;
-        bytes += size;
+        let place = at + frames;
+        lengths[place] = size;
+        bytes += size as usize;
         frames += 1;
     }
     Run { frames, bytes }
@@ -231,7 +236,7 @@ pub fn walk(
 ) -> Tally
     requires { ⌜ Roomy place (asSlices (now holding) (now output) (now lengths)) ⌝ }
     requires { ⌜ (2 ≤ width) × (width ≤ 4) × (held ≤ most) × (most ≤ longest)
-        × (idLength + length (now sub) ≤ longestPacket) × (first (pspRefusals width (now sub)) ≡ 0) ⌝ }
+        × (idLength + length (now sub) ≤ longestPacket) × (first (segmentRefusals width (now sub)) ≡ 0) ⌝ }
     ensures { λ r. ⌜ Placed (pspFate most gap (part (now (holding .entry)) place held) (segments width (now (sub .entry))))
         place nothingYet (asSlices (now (holding .entry)) (now (output .entry)) (now (lengths .entry)))
         r (asSlices (now (holding .exit)) (now (output .exit)) (now (lengths .exit))) ⌝ }
@@ -255,7 +260,8 @@ pub fn walk(
             tally,
         );
         let behind = from + psp::length_of(entry);
-        let run = write_lengths(lengths, joined.frames, sub, width, k + 1, count, most);
+        let next = k + 1;
+        let run = write_lengths(lengths, joined.frames, sub, width, next, count, most);
         octets::copy(output, joined.bytes, sub, behind, run.bytes);
         let frames = joined.frames + run.frames;
         let bytes = joined.bytes + run.bytes;
@@ -266,7 +272,7 @@ pub fn walk(
             dropped: joined.dropped,
         };
         from = behind + run.bytes;
-        k = k + 1 + run.frames;
+        k = next + run.frames;
     }
     tally
 }

@@ -43,7 +43,7 @@ module _ (p : Packet) (k : ℕ) (given : segmentCause p k ≡ 0) where
   -- the stretch lies in the packet
   pub given-inside : p .lead + idLength + (bodyAt entryWidth (sub p) k + lengthAt entryWidth (sub p) k) ≤ length (p .bytes)
   given-inside =
-      omega (arith, body-inside entryWidth (sub p) psp k there, sub-length p (early .not-short))
+      omega (arith, body-inside entryWidth (sub p) (psp .segments) k there, sub-length p (early .not-short))
 
   -- it is the segment that the data call will see
   pub given-is-segment : segmentGiven p k ≡ (segmentAt entryWidth (sub p) k) .body
@@ -68,7 +68,7 @@ pub given-some : (p : Packet) (k : ℕ) → segmentCause p k ≡ 0 → segmentGi
 unfolding segmentGiven
 given-some p k given none =
     let e = segmentExtent p k in
-    body-some entryWidth (sub p) (psp p k given) k (there p k given)
+    body-some entryWidth (sub p) (psp p k given .segments) k (there p k given)
     (ap (λ (x : Extent). x .size) (sym (extent-given p k given)) ∙ sym (length-part (p .bytes) (e .start) (e .size) (extent-inside p k)) ∙ ap length none)
 
 pub given-none : (p : Packet) (k : ℕ) → (segmentCause p k ≡ 0 → ⊥) → segmentGiven p k ≡ []
@@ -86,7 +86,7 @@ pub record Given (packet s : List ℕ) (k : ℕ) : Type 0 where
 
 pub given-facts : (packet s : List ℕ) (k : ℕ) → segmentCause (ip packet) k ≡ 0 → s ≡ sub (ip packet) → Given packet s k
 given-facts packet s k given cut =
-    let entries = entries-inside entryWidth (sub (ip packet)) (psp (ip packet) k given) in
+    let entries = entries-inside entryWidth (sub (ip packet)) (psp (ip packet) k given .segments) in
     let there-is = there (ip packet) k given in
     let facts : Given packet (sub (ip packet)) k =
     record {

@@ -18,7 +18,7 @@ use Rattle.octets.proofs.Stretches.{length-rest}
 use Rattle.flow.specs.Flow.{topFlow}
 use Rattle.packet.specs.Header.{Packet, idLength, sessionId, sub, headerLength, sSet, flowId, segmentCount, notPlain, shortestPacket, longestPacket, beforeSession}
 use Rattle.packet.specs.Segments.{entryWidth, entryAt, beginsIn, endsIn, lengthIn, lengthAt, bodyAt}
-use Rattle.packet.specs.Psp.{wanted, badAt, pspRefusals}
+use Rattle.packet.specs.Psp.{wanted, badAt, segmentRefusals, pspRefusals}
 use Rattle.packet.specs.Dmpt.{mpegLength, syncByte, carried, mpegCount, mpegAt, dmptRefusals}
 use Rattle.packet.specs.Check.{kindPsp, checkRefusals, check, causeRefusals, segmentCause}
 
@@ -42,14 +42,29 @@ sub-length p h = omega (arith, length-rest (p .bytes) (p .lead + idLength))
 pub sub-whole : (p : Packet) → p .lead + shortestPacket ≤ length (p .bytes) → headerLength ≤ length (sub p)
 sub-whole p h = omega (arith, sub-length p h)
 
+-- Refusals 9 to 11 passed, PSP: what there is to know of the segments, whatever the header says beside their count.
+pub record SegmentsPassed (width : ℕ) (sub : List ℕ) : Type 0 where
+  pub some : segmentCount sub ≡ 0 → ⊥
+  pub fills : wanted width sub ≡ length sub
+  pub sound : any (badAt width sub) (segmentCount sub) ≡ false
+
+segments-of : (width : ℕ) (sub : List ℕ) → NoneApplies (segmentRefusals width sub) → SegmentsPassed width sub
+segments-of width sub n =
+    record {
+      some = eqb-false _ _ (n .0);
+      fills = eqb-true _ _ (not-false _ (n .1 .0));
+      sound = n .1 .1 .0;
+    }
+
+pub segments-passed : (width : ℕ) (sub : List ℕ) → first (segmentRefusals width sub) ≡ 0 → SegmentsPassed width sub
+segments-passed width sub z = segments-of width sub (none-applies (segmentRefusals width sub) refl z)
+
 -- Refusals 6 to 11 passed, PSP.
 pub record PspPassed (width : ℕ) (sub : List ℕ) : Type 0 where
   pub plain : notPlain sub ≡ false
   pub in-row : flowId sub ≤ topFlow
   pub counted : sSet sub ≡ true
-  pub some : segmentCount sub ≡ 0 → ⊥
-  pub fills : wanted width sub ≡ length sub
-  pub sound : any (badAt width sub) (segmentCount sub) ≡ false
+  pub segments : SegmentsPassed width sub
 
 psp-of : (width : ℕ) (sub : List ℕ) → NoneApplies (pspRefusals width sub) → PspPassed width sub
 psp-of width sub n =
@@ -57,15 +72,17 @@ psp-of width sub n =
       plain = n .0;
       in-row = ltb-false _ _ (n .1 .0);
       counted = not-false _ (n .1 .1 .0);
-      some = eqb-false _ _ (n .1 .1 .1 .0);
-      fills = eqb-true _ _ (not-false _ (n .1 .1 .1 .1 .0));
-      sound = n .1 .1 .1 .1 .1 .0;
+      segments = segments-of width sub (n .1 .1 .1);
     }
 
 pub psp-passed : (width : ℕ) (sub : List ℕ) → first (pspRefusals width sub) ≡ 0 → PspPassed width sub
 psp-passed width sub z = psp-of width sub (none-applies (pspRefusals width sub) refl z)
 
-module _ (width : ℕ) (sub : List ℕ) (p : PspPassed width sub) where
+-- 9 to 11 are the last stretch of the order, so what passes it passes them
+pub psp-segments : (width : ℕ) (sub : List ℕ) → first (pspRefusals width sub) ≡ 0 → first (segmentRefusals width sub) ≡ 0
+psp-segments width sub z = none-first (segmentRefusals width sub) (none-applies (pspRefusals width sub) refl z .1 .1 .1)
+
+module _ (width : ℕ) (sub : List ℕ) (p : SegmentsPassed width sub) where
   -- the entries lie in the packet
   pub entries-inside : headerLength + width * segmentCount sub ≤ length sub
   unfolding wanted bodyAt

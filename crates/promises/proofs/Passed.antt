@@ -36,13 +36,13 @@ module _ (packet : Packet) (passes : check kindPsp packet ≡ 0) where
   unfolding segments
   some-segment =
       rw (length-up-to (segmentAt entryWidth (sub packet)) (segmentCount (sub packet)))
-      (above-none (segmentCount (sub packet)) (passed .some))
+      (above-none (segmentCount (sub packet)) (passed .segments .some))
 
   body-filled : (k : ℕ) → k < segmentCount (sub packet) → HasBytes (segmentAt entryWidth (sub packet) k)
   unfolding segmentAt
   body-filled k l =
-      rw (length-part (sub packet) (bodyAt entryWidth (sub packet) k) (lengthAt entryWidth (sub packet) k) (body-inside entryWidth (sub packet) passed k l))
-      (above-none (lengthAt entryWidth (sub packet) k) (body-some entryWidth (sub packet) passed k l))
+      rw (length-part (sub packet) (bodyAt entryWidth (sub packet) k) (lengthAt entryWidth (sub packet) k) (body-inside entryWidth (sub packet) (passed .segments) k l))
+      (above-none (lengthAt entryWidth (sub packet) k) (body-some entryWidth (sub packet) (passed .segments) k l))
 
   segments-filled : Each HasBytes (segmentsOf entryWidth packet)
   unfolding segments

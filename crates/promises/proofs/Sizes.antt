@@ -18,7 +18,7 @@ use Rattle.packet.specs.Segments.{Segment, lengthAt, bodyAt, segmentAt, segment
 use Rattle.packet.specs.Header.{segmentCount}
 use Rattle.packet.specs.Psp.{pspRefusals}
 use Rattle.packet.specs.Dmpt.{mpegLength, mpegCount, mpegAt, mpegs, pid, nullPid, dmptRefusals}
-use Rattle.packet.proofs.Passing.{PspPassed, psp-passed, body-inside, body-some, mpeg-inside}
+use Rattle.packet.proofs.Passing.{SegmentsPassed, psp-passed, body-inside, body-some, mpeg-inside}
 use Rattle.table.specs.declared.Terms.{Terms}
 use Rattle.table.specs.Rows.{isDmpt}
 use Rattle.join.specs.Join.{Fate, delivering, dropping, keeping, settledBy, settled, fateBy, fate, atGap, mpegFate, inOrder, pspFate, dmptFate}
@@ -82,18 +82,19 @@ module _ {X : Type 0} (rule : List ℕ → X → Fate) (f : Fate) (piece : ℕ �
       (each (so-far .held) k (omega arith)))
 
 -- What becomes of a packet that is not refused, PSP and D-MPT.
-body-sized : (width : ℕ) (sub : List ℕ) → PspPassed width sub → (k : ℕ) → k < segmentCount sub → 1 ≤ length (segmentAt width sub k .body)
+body-sized : (width : ℕ) (sub : List ℕ) → SegmentsPassed width sub → (k : ℕ) → k < segmentCount sub → 1 ≤ length (segmentAt width sub k .body)
 unfolding segmentAt
 body-sized width sub p k there =
     let some = body-some width sub p k there in
     let whole = length-part sub (bodyAt width sub k) (lengthAt width sub k) (body-inside width sub p k there) in
     omega (arith, some, whole)
 
-psp-sized : (most width gap : ℕ) (held sub : List ℕ) → most ≤ longest → first (pspRefusals width sub) ≡ 0 → FramesSized (pspFate most gap held (segments width sub))
+psp-sized : (most width gap : ℕ) (held sub : List ℕ) → most ≤ longest → SegmentsPassed width sub →
+    FramesSized (pspFate most gap held (segments width sub))
 unfolding pspFate segments
-psp-sized most width gap held sub small z =
+psp-sized most width gap held sub small p =
     in-order-sized (fate most) (atGap gap held) (segmentAt width sub) (segmentCount sub) (gap-sized gap held)
-    (λ before k there. fate-sized most small before (segmentAt width sub k) (body-sized width sub (psp-passed width sub z) k there))
+    (λ before k there. fate-sized most small before (segmentAt width sub k) (body-sized width sub p k there))
     (segmentCount sub) (omega arith)
 
 dmpt-sized : (held sub : List ℕ) → first (dmptRefusals sub) ≡ 0 → FramesSized (dmptFate held (mpegs sub))
@@ -106,7 +107,7 @@ dmpt-sized held sub z =
 sized-by : (d : Bool) (most width gap : ℕ) (held sub : List ℕ) → most ≤ longest → first (cond d (dmptRefusals sub) (pspRefusals width sub)) ≡ 0 →
     FramesSized (cond d (dmptFate held (mpegs sub)) (pspFate most gap held (segments width sub)))
 sized-by true most width gap held sub small z = dmpt-sized held sub z
-sized-by false most width gap held sub small z = psp-sized most width gap held sub small z
+sized-by false most width gap held sub small z = psp-sized most width gap held sub small (psp-passed width sub z .segments)
 
 pub packet-sized : (terms : Terms) (gap : ℕ) (held sub : List ℕ) → terms .longest ≤ longest → first (packetRefusals terms sub) ≡ 0 →
     FramesSized (fateOf terms gap held sub)

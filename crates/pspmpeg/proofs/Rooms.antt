@@ -45,7 +45,7 @@ few-by : (d : Bool) (width : ℕ) (sub : List ℕ) → first (cond d (dmptRefusa
     cond d (carried sub) (sumTo (lengthAt width sub) (segmentCount sub)) ≤ length sub
 unfolding wanted bodyAt
 few-by true width sub z = omega arith
-few-by false width sub z = let p = psp-passed width sub z in omega (arith, p .fills)
+few-by false width sub z = omega (arith, psp-passed width sub z .segments .fills)
 
 body-few : (terms : Terms) (sub : List ℕ) → first (packetRefusals terms sub) ≡ 0 → bodyBytes (terms .kind) sub ≤ length sub
 body-few terms sub z = few-by (isDmpt (terms .kind)) (widthIn (terms .kind)) sub z

@@ -3,7 +3,7 @@ use mathlib.Core.Path.{sym, _∙_}
 use native.Mathlib.Omega.{arith}
 use Rattle.octets.specs.Stretch.{part}
 use Rattle.join.proofs.Carrying.{dmpt-header, dmpt-holds-none, placed-anywhere}
-use Rattle.card.proofs.ByKind.{fate-dmpt, fate-psp, refusals-dmpt, refusals-psp}
+use Rattle.card.proofs.ByKind.{fate-dmpt, fate-psp, refusals-dmpt, segments-pass}
 use borrow.Author.Needs.{needs}
 use Rattle.card.proofs.place_packet.Statement.{statement}
 use Rattle.card.proofs.place_packet.Tie as tie
@@ -48,7 +48,9 @@ walk-requires-2 c κs =
     let t = c .before .before .before in
     let d = t .before in
     let s = start d in
-    (s .pre .0, (omega arith, omega arith, s .pre .1 .1, s .pre .1 .0, s .pre .1 .3, sym (refusals-psp (s .args .terms) (s .args .sub .now) (sym (d .is-dmpt .ensures) ∙ t .if1 .left)) ∙ s .pre .1 .4))
+    let asked = s .pre .1 in
+    let segments = segments-pass (s .args .terms) (s .args .sub .now) (sym (d .is-dmpt .ensures) ∙ t .if1 .left) (asked .4) in
+    (s .pre .0, (omega arith, omega arith, asked .1, asked .0, asked .3, segments))
 
 same-length-3 : tie.Need-same-length-3
 same-length-3 c = search needs
