@@ -2,28 +2,24 @@
 -- any other, and nothing has changed.
 use Prim.Native.Nat.{ℕ, zero, suc, _+_, _<_, _≤_}
 use mathlib.Core.Path.{_≡_, refl, sym, _∙_}
-use mathlib.Core.Bool.{Bool, true, false, cond}
+use mathlib.Core.Bool.{false, not}
 use mathlib.Core.List.{List, [], _∷_, _++_}
 use native.Mathlib.Omega.{arith}
 use lib.ListN.{length}
 use borrow.Author.Tests.{ltb-true, not-false}
 use Rattle.refusal.specs.Refusal.{_when_, first}
-use Rattle.refusal.proofs.Laws.{numbered, none-applies, none-first, none-apart}
+use Rattle.refusal.proofs.Laws.{NoneApplies, numbered-both, none-applies, none-first, none-apart}
 use Rattle.flow.specs.Flow.{flows}
 use Rattle.packet.specs.Header.{Packet, idLength, headerLength, sub, sessionId, beforeSession, longestPacket}
 use Rattle.packet.proofs.Passing.{EarlyPassed, early-passed, sub-length, sub-whole}
-use Rattle.packet.specs.Psp.{pspRefusals}
-use Rattle.packet.specs.Dmpt.{dmptRefusals}
-use Rattle.table.specs.declared.Kind.{Kind}
 use Rattle.table.specs.declared.Table.{Table}
-use Rattle.table.specs.declared.Terms.{Terms}
-use Rattle.table.specs.Rows.{rows, isDmpt, termsAt}
+use Rattle.table.specs.Rows.{rows, termsAt}
 use Rattle.table.specs.Broken.{broken}
 use Rattle.table.specs.Calls.{isOpen}
 use Rattle.join.specs.Slices.{Slices}
-use Rattle.card.specs.Hear.{widthIn, judgedOf}
-use Rattle.card.specs.Receive.{rowOf, flowTo, flowOf, heardBy, tooSmall, packetRefusals, dataRefusals, carriedOut, refused, receivedBy, received}
-use Rattle.card.proofs.ByKind.{flow-in-row}
+use Rattle.card.specs.Hear.{judgedOf}
+use Rattle.card.specs.Receive.{rowOf, flowTo, flowOf, heardBy, tooSmall, earlyRefusals, packetRefusals, flowRefusals, dataRefusals, carriedOut, refused, receivedBy, received}
+use Rattle.card.proofs.ByKind.{numbered-packet, flow-in-row}
 
 -- The answer's number is that of the order.
 by-code : (c : ℕ) (t : Table) (r : ℕ) (sub : List ℕ) (s : Slices) → receivedBy c t r sub s .answer .code ≡ c
@@ -52,6 +48,28 @@ module _ (t : Table) (p : Packet) (s : Slices) where
       let given : first (dataRefusals t p s) ≡ suc c = sym (by-code (first (dataRefusals t p s)) t (rowOf t p) (sub p) s) ∙ z in
       rw given refl
 
+-- One record for each stretch of the order, so that a number more in one of them moves nothing elsewhere. Refusals 13 and 2 to 4 passed:
+pub record EarlyOver (t : Table) (p : Packet) : Type 0 where
+  pub whole : broken t ≡ false
+  pub passed : EarlyPassed p
+
+early-of : (t : Table) (p : Packet) → NoneApplies (earlyRefusals t p) → EarlyOver t p
+early-of t p n = record { whole = n .0; passed = early-passed p (none-first (beforeSession p) (n .1)) }
+
+pub early-over : (t : Table) (p : Packet) → first (earlyRefusals t p) ≡ 0 → EarlyOver t p
+early-over t p z = early-of t p (none-applies (earlyRefusals t p) refl z)
+
+-- refusals 6 to 11 passed, and 12:
+record FlowOver (t : Table) (r : ℕ) (after : List ℕ) : Type 0 where
+  passed : first (packetRefusals (termsAt t r) after) ≡ 0
+  in-time : judgedOf (flowOf t r after) after .late ≡ false
+
+flow-of : (t : Table) (r : ℕ) (after : List ℕ) → NoneApplies (flowRefusals t r after) → FlowOver t r after
+flow-of t r after n =
+    let late = 12 when judgedOf (flowOf t r after) after .late ∷ [] in
+    let both = none-apart (packetRefusals (termsAt t r) after) late n in
+    record { passed = none-first (packetRefusals (termsAt t r) after) (both .0); in-time = both .1 .0 }
+
 -- What an accepted call is known to have.
 pub record Accepted (t : Table) (p : Packet) (s : Slices) : Type 0 where
   pub large : tooSmall s ≡ false
@@ -61,27 +79,24 @@ pub record Accepted (t : Table) (p : Packet) (s : Slices) : Type 0 where
   pub passed : first (packetRefusals (termsAt t (rowOf t p)) (sub p)) ≡ 0
   pub in-time : judgedOf (flowOf t (rowOf t p) (sub p)) (sub p) .late ≡ false
 
-numbered-by : (d late : Bool) (k : Kind) (sub : List ℕ) → numbered (cond d (dmptRefusals sub) (pspRefusals (widthIn k) sub) ++ (12 when late ∷ [])) ≡ true
-numbered-by true late k sub = refl
-numbered-by false late k sub = refl
-
-numbered-flow : (terms : Terms) (late : Bool) (sub : List ℕ) → numbered (packetRefusals terms sub ++ (12 when late ∷ [])) ≡ true
-numbered-flow terms late sub = numbered-by (isDmpt (terms .kind)) late (terms .kind) sub
-
 pub accepted : (t : Table) (p : Packet) (s : Slices) → received t p s .answer .code ≡ 0 → Accepted t p s
 accepted t p s z =
     let r = rowOf t p in
-    let after = sub p in
-    let late = judgedOf (flowOf t r after) after .late in
-    let none = none-applies (dataRefusals t p s) (numbered-flow (termsAt t r) late after) (sym (received-code t p s) ∙ z) in
-    let last = none-apart (packetRefusals (termsAt t r) after) (12 when late ∷ []) (none .1 .1 .1 .1 .1 .1) in
+    let late = 12 when judgedOf (flowOf t r (sub p)) (sub p) .late ∷ [] in
+    let unopened = 5 when not (isOpen t (sessionId p)) ∷ [] in
+    let some = numbered-both (packetRefusals (termsAt t r) (sub p)) late (numbered-packet (termsAt t r) (sub p)) refl in
+    let none = none-applies (dataRefusals t p s) some (sym (received-code t p s) ∙ z) in
+    let parts = none-apart (earlyRefusals t p) (unopened ++ flowRefusals t r (sub p)) (none .1) in
+    let early = early-of t p (parts .0) in
+    let behind = none-apart unopened (flowRefusals t r (sub p)) (parts .1) in
+    let flow = flow-of t r (sub p) (behind .1) in
     record {
       large = none .0;
-      whole = none .1 .0;
-      early = early-passed p (none-first (beforeSession p) (none .1 .1 .0, (none .1 .1 .1 .0, (none .1 .1 .1 .1 .0, tt))));
-      found = ltb-true r rows (not-false (isOpen t (sessionId p)) (none .1 .1 .1 .1 .1 .0));
-      passed = none-first (packetRefusals (termsAt t r) after) (last .0);
-      in-time = last .1 .0;
+      whole = early .whole;
+      early = early .passed;
+      found = ltb-true r rows (not-false (isOpen t (sessionId p)) (behind .0 .0));
+      passed = flow .passed;
+      in-time = flow .in-time;
     }
 
 module _ (t : Table) (p : Packet) (s : Slices) (a : Accepted t p s) where

@@ -7,9 +7,9 @@ use mathlib.Core.List.{List, _∷_}
 use native.Mathlib.Omega.{arith}
 use borrow.Author.Tests.{lt-ltb, le-ltb}
 use Rattle.refusal.specs.Refusal.{Refusal, _when_, first}
-use Rattle.refusal.proofs.Laws.{none-applies, none-first, first-passed, first-stopped}
-use Rattle.packet.specs.Header.{Packet, sub, sessionId, beforeSession}
-use Rattle.packet.proofs.Passing.{EarlyPassed, early-passed, sub-length, sub-whole}
+use Rattle.refusal.proofs.Laws.{first-passed, first-stopped}
+use Rattle.packet.specs.Header.{Packet, sub, sessionId}
+use Rattle.packet.proofs.Passing.{sub-length, sub-whole}
 use Rattle.table.specs.declared.Table.{Table}
 use Rattle.table.specs.Rows.{rows, find}
 use Rattle.table.specs.Broken.{broken}
@@ -18,6 +18,7 @@ use Rattle.join.specs.Slices.{Slices}
 use Rattle.card.specs.declared.Received.{Received}
 use Rattle.card.specs.Receive.{Outcome, rowOf, tooSmall, earlyRefusals, flowRefusals, dataRefusals, refusedAnswer, receivedBy, received, PermitsReceive}
 use Rattle.card.specs.Ready.{Ready}
+use Rattle.card.proofs.Accepted.{early-over}
 use Rattle.card.proofs.Hearing.{refused-by, refused-answer}
 
 -- an outcome that is the definition's is permitted, field by field
@@ -35,17 +36,7 @@ permits e =
       its-lengths = ap (λ (o : Outcome). o .slices .lengths) e;
     }
 
--- refusals 13 and 2 to 4 passed
-pub record EarlyOver (t : Table) (p : Packet) : Type 0 where
-  pub whole : broken t ≡ false
-  pub passed : EarlyPassed p
-
-pub early-over : (t : Table) (p : Packet) → first (earlyRefusals t p) ≡ 0 → EarlyOver t p
-early-over t p z =
-    let n = none-applies (earlyRefusals t p) refl z in
-    record { whole = n .0; passed = early-passed p (none-first (beforeSession p) (n .1)) }
-
--- so the step of one flow has what it asks for
+-- behind refusal 5 the step of one flow has what it asks for
 pub ready : (t : Table) (p : Packet) (s : Slices) (r : ℕ) (after : List ℕ) → tooSmall s ≡ false → first (earlyRefusals t p) ≡ 0 →
     r < rows → after ≡ sub p → Ready t r after s
 ready t p s r after large z found e =

@@ -21,6 +21,12 @@ pub and-right : (a b : Bool) → (a && b) ≡ true → b ≡ true
 and-right true b h = h
 and-right false b h = absurd (true≢false (sym h))
 
+pub numbered-both : (xs ys : List Refusal) → numbered xs ≡ true → numbered ys ≡ true → numbered (xs ++ ys) ≡ true
+numbered-both [] ys n m = m
+numbered-both (r ∷ xs) ys n m =
+    let head = not (eqb (r .number) 0) in
+    rw (and-left head (numbered xs) n) (numbered-both xs ys (and-right head (numbered xs) n) m)
+
 not-zero : (n : ℕ) → not (eqb n 0) ≡ true → n ≡ 0 → ⊥
 not-zero n h z = let e : not (eqb n 0) ≡ false = simp (eq-eqb n 0 z) in true≢false (sym h ∙ e)
 

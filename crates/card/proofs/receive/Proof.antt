@@ -7,7 +7,8 @@ use lib.ListN.{length}
 use Rattle.packet.specs.Header.{ip, idLength}
 use Rattle.join.specs.Slices.{asSlices, Slices}
 use Rattle.card.specs.Receive.{tooSmall}
-use Rattle.card.proofs.Receiving.{permits, early-over, ready, receive-small, receive-early, receive-closed, receive-heard}
+use Rattle.card.proofs.Accepted.{early-over}
+use Rattle.card.proofs.Receiving.{permits, ready, receive-small, receive-early, receive-closed, receive-heard}
 use borrow.Author.Needs.{needs}
 use Rattle.card.proofs.receive.Statement.{statement}
 use Rattle.card.proofs.receive.Tie as tie

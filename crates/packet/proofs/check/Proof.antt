@@ -1,11 +1,11 @@
 -- `packet::check` asks about the kind, then 2 to 4, then the kind's own refusals: the order of `checkRefusals`.
-use mathlib.Core.Path.{ap, sym, _∙_}
+use mathlib.Core.Path.{_≡_, ap, sym, _∙_}
 use mathlib.Core.List.{List}
 use Prim.Native.Nat.{ℕ, _≤_}
 use native.Mathlib.Omega.{arith}
 use lib.ListN.{length}
 use Rattle.refusal.specs.Refusal.{first}
-use Rattle.packet.specs.Header.{ip, headerLength}
+use Rattle.packet.specs.Header.{Packet, ip, headerLength, beforeSession}
 use Rattle.packet.specs.Segments.{entryWidth}
 use Rattle.packet.specs.Psp.{pspRefusals}
 use Rattle.packet.specs.Dmpt.{dmptRefusals}
@@ -15,12 +15,24 @@ use borrow.Author.Needs.{needs}
 use Rattle.packet.proofs.check.Statement.{statement}
 use Rattle.packet.proofs.check.Tie as tie
 
+-- where 2 to 4 have passed; where the packet is cut; and the way back from there
+abbrev Passed : Type 0
+Passed = tie.Else2
+
+abbrev start : Passed → tie.Start
+start c = c .before .before .before .before
+
+abbrev packetOf : Passed → Packet
+packetOf c = ip (start c .args .packet .now)
+
+none-early : (c : Passed) → first (beforeSession (packetOf c)) ≡ 0
+none-early c = sym (c .before .refuse-before-session .ensures) ∙ c .if2 .left
+
 -- what is cut from a packet that passed 2 to 4 has a whole header
 cut-whole : (c : tie.After-sub-of) → headerLength ≤ length (c .sub-of .result .now)
 cut-whole c =
-    let packet = c .before .before .before .before .before .args .packet .now in
-    let passed = early-passed (ip packet) (sym (c .before .before .refuse-before-session .ensures) ∙ c .before .if2 .left) in
-    rw (c .sub-of .ensures) (sub-whole (ip packet) (passed .not-short))
+    let p = packetOf (c .before) in
+    rw (c .sub-of .ensures) (sub-whole p (early-passed p (none-early (c .before)) .not-short))
 
 returns : tie.Need-returns
 returns c = check-unknown (c .before .before .args .kind) (ip (c .before .before .args .packet .now)) (c .if1 .taken)
@@ -34,26 +46,29 @@ returns-2 c =
     check-early (a .kind) (ip (a .packet .now)) (c .before .before .if1 .left) _ (c .before .refuse-before-session .ensures) (c .if2 .taken)
 
 sub-of-requires : tie.Need-sub-of-requires
-sub-of-requires c κs =
-    omega (arith, early-passed (ip (c .before .before .before .before .args .packet .now)) (sym (c .before .refuse-before-session .ensures) ∙ c .if2 .left) .not-short)
+sub-of-requires c κs = omega (arith, early-passed (packetOf c) (none-early c) .not-short)
 
 refuse-requires : tie.Need-refuse-requires
 refuse-requires c κs = (omega arith, omega arith, cut-whole (c .before))
 
 returns-3 : tie.Need-returns-3
 returns-3 c =
-    let a = c .before .before .before .before .before .before .before .args in
-    check-psp (a .kind) (ip (a .packet .now)) (c .before .before .before .before .before .if1 .left) _ (c .before .before .before .before .refuse-before-session .ensures) (c .before .before .before .if2 .left) (c .before .if3 .taken) _
-    (c .refuse .ensures ∙ ap (λ (l : List ℕ). first (pspRefusals entryWidth l)) (c .before .before .sub-of .ensures))
+    let cut = c .before .before in
+    let p = cut .before in
+    let refused = c .refuse .ensures ∙ ap (λ (l : List ℕ). first (pspRefusals entryWidth l)) (cut .sub-of .ensures) in
+    check-psp (start p .args .kind) (packetOf p) (p .before .before .if1 .left) _ (p .before .refuse-before-session .ensures) (p .if2 .left)
+    (c .before .if3 .taken) _ refused
 
 refuse-requires-2 : tie.Need-refuse-requires-2
 refuse-requires-2 c κs = cut-whole (c .before)
 
 returns-4 : tie.Need-returns-4
 returns-4 c =
-    let a = c .before .before .before .before .before .before .before .args in
-    check-dmpt (a .kind) (ip (a .packet .now)) (c .before .before .before .before .before .if1 .left) _ (c .before .before .before .before .refuse-before-session .ensures) (c .before .before .before .if2 .left) (c .before .if3 .left) _
-    (c .refuse2 .ensures ∙ ap (λ (l : List ℕ). first (dmptRefusals l)) (c .before .before .sub-of .ensures))
+    let cut = c .before .before in
+    let p = cut .before in
+    let refused = c .refuse2 .ensures ∙ ap (λ (l : List ℕ). first (dmptRefusals l)) (cut .sub-of .ensures) in
+    check-dmpt (start p .args .kind) (packetOf p) (p .before .before .if1 .left) _ (p .before .refuse-before-session .ensures) (p .if2 .left)
+    (c .before .if3 .left) _ refused
 
 pub check-spec : {M : Type 1} → statement M
 check-spec =

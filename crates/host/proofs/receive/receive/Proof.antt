@@ -8,7 +8,8 @@ use Rattle.packet.specs.Header.{ip, idLength}
 use Rattle.table.specs.Rows.{find}
 use Rattle.join.specs.Slices.{asSlices, Slices}
 use Rattle.card.specs.Receive.{tooSmall}
-use Rattle.card.proofs.Receiving.{EarlyOver, early-over, ready}
+use Rattle.card.proofs.Accepted.{EarlyOver, early-over}
+use Rattle.card.proofs.Receiving.{ready}
 use Rattle.numbers.specs.Tables.{tableIn}
 use Rattle.host.proofs.Hearing.{host-small, host-early, host-closed, host-heard, find-by-id}
 use borrow.Author.Needs.{needs}
