@@ -6,10 +6,9 @@ use mathlib.Core.Bool.{cond}
 use mathlib.Core.List.{List, [], _∷_, _++_}
 use lib.Dec.{leb}
 use Rattle.table.specs.declared.Kind.{Kind}
-use Rattle.table.specs.declared.Kind.the-variants as psp
 use Rattle.card.specs.History.{Card, Call, answer, after}
 use Rattle.promises.specs.Words.{handsTo}
-use Rattle.promises.specs.Demand.{Sending, Run, openedCard}
+use Rattle.promises.specs.Demand.{Sending, kindIn, Run, openedCard}
 
 -- What the calls for a flow are answered: number and gap, in order.
 pub record Verdict : Type 0 where
@@ -19,7 +18,8 @@ pub record Verdict : Type 0 where
 unfoldable pub verdictsOut : Kind → ℕ → ℕ → Card → List Call → List Verdict
 verdictsOut kind session flow c [] = []
 verdictsOut kind session flow c (x ∷ more) =
-    cond (handsTo kind session flow x) (record { code = (answer c x) .code; gap = (answer c x) .gap } ∷ []) [] ++ verdictsOut kind session flow (after c x) more
+    cond (handsTo kind session flow x) (record { code = (answer c x) .code; gap = (answer c x) .gap } ∷ []) []
+    ++ verdictsOut kind session flow (after c x) more
 
 -- What they ought to be, told along the sender's packets: the first arrival is accepted with gap 0. From then on one at or beyond the place expected
 -- next is accepted, and its gap is how many packets it passed over; any other is late.
@@ -35,4 +35,6 @@ verdictsOf (x ∷ more) = record { code = 0; gap = 0 } ∷ verdictsFrom (suc x) 
 
 -- `gaps-are-told`
 abbrev pub GapsAreTold : Type 0
-GapsAreTold = (s : Sending) (r : Run s) → verdictsOut psp.Psp (s .line .session) (s .line .flow) (openedCard s r) (r .calls) ≡ verdictsOf (r .arrivals)
+GapsAreTold =
+    (s : Sending) (r : Run s) →
+    verdictsOut (kindIn (s .line)) (s .line .session) (s .line .flow) (openedCard s r) (r .calls) ≡ verdictsOf (r .arrivals)

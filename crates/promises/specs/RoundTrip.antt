@@ -9,7 +9,6 @@ use Rattle.octets.specs.Stretch.{joined, cutBy}
 use Rattle.octets.specs.Each.{Each}
 use Rattle.flow.specs.Numbers.{modulus, numberAt}
 use Rattle.packet.specs.Header.{Packet, ip, idLength}
-use Rattle.table.specs.declared.Kind.the-variants as kind
 use Rattle.card.specs.History.{Call, opens, answer, after, afterAll, emptyCard}
 use Rattle.sender.specs.declared.Position.{Position}
 use Rattle.sender.specs.Send.{Asked, sent}
@@ -17,7 +16,7 @@ use Rattle.sender.specs.Series.{Job, Turn, Sound, Usable, startOfFrame, seriesP
 use Rattle.sender.specs.Rules.{Pieces, Line, KeepsRules}
 use Rattle.promises.specs.Words.{packetsTo, framesOut, LongEnough, StaysOpen}
 use Rattle.promises.specs.Arrivals.{Kept}
-use Rattle.promises.specs.Demand.{Sending, opening, Run, WholeIn, comesOut}
+use Rattle.promises.specs.Demand.{Sending, opening, kindIn, Run, WholeIn, comesOut}
 
 -- An address and frames that 31 and 33 do not refuse, a number of two bytes, and calls enough to send them: each sends at least one byte, and those
 -- behind the last frame are refused by 35 and send nothing.
@@ -54,7 +53,8 @@ pub record SenderKeepsRules : Type 0 where
 pub record SendingsGoOn : Type 0 where
   pub joined-up : (line : Line) (frames more : List Pieces) (unfinished : Pieces) (packets behind : List Packet) →
       KeepsRules line frames [] packets →
-      KeepsRules (record { session = line .session; flow = line .flow; start = numberAt (line .start) (length packets) }) more unfinished behind →
+      KeepsRules (record { session = line .session; flow = line .flow; start = numberAt (line .start) (length packets) })
+      more unfinished behind →
       KeepsRules line (frames ++ more) unfinished (packets ++ behind)
   pub numbered-on : (job : Job) (number : ℕ) (at : Position) (turns : List Turn) → number < modulus →
       seriesNumber job number at turns ≡ numberAt number (length (seriesPackets job number at turns))
@@ -70,8 +70,8 @@ pub record InOrder (g : Given) : Type 0 where
   pub calls : List Call
   pub opens-now : (answer (afterAll (emptyCard holding) before) (opens (opening (lineOf g)))) .code ≡ 0
   pub stays-open : StaysOpen (g .job .session) calls
-  pub long-enough : LongEnough kind.Psp (g .job .session) (g .job .flow) holding calls
-  pub all-arrive : packetsTo kind.Psp (g .job .session) (g .job .flow) calls ≡ packetsGiven g
+  pub long-enough : LongEnough (kindIn (lineOf g)) (g .job .session) (g .job .flow) holding calls
+  pub all-arrive : packetsTo (kindIn (lineOf g)) (g .job .session) (g .job .flow) calls ≡ packetsGiven g
 
 -- what was sent, as a sending of these frames
 abbrev pub sendingOf : (g : Given) (frames : List Pieces) → IsSent g frames → Sending
@@ -87,7 +87,8 @@ sendingOf g frames is-sent =
 -- `round-trip`
 pub record RoundTrip : Type 0 where
   pub in-order : (g : Given) (o : InOrder g) →
-      framesOut kind.Psp (g .job .session) (g .job .flow) (after (afterAll (emptyCard (o .holding)) (o .before)) (opens (opening (lineOf g)))) (o .calls)
+      framesOut (kindIn (lineOf g)) (g .job .session) (g .job .flow)
+      (after (afterAll (emptyCard (o .holding)) (o .before)) (opens (opening (lineOf g)))) (o .calls)
       ≡ framesGiven g
   pub over-a-network : (g : Given) (frames : List Pieces) (is-sent : IsSent g frames) (r : Run (sendingOf g frames is-sent)) →
       Kept (WholeIn (sendingOf g frames is-sent) r) 0 frames (comesOut (sendingOf g frames is-sent) r)
