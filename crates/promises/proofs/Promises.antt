@@ -1,6 +1,7 @@
 -- The promises, by name. What each says stands in specs/, in the file that is named beside it; why it is so, in the file of this folder that it is cited from.
 -- No axiom is used, and no premise but those that the statements have. They speak of the very definitions that the contracts of `open`, `close`,
--- `receive`, `send`, `write`, `read` and `hand_out` cite, so they hold of the code.
+-- `receive`, `send`, `write`, `read` and `hand_out` cite, so they hold of the code. `marked` and `besides-marked` (specs/Marked.antt) are computed, as the closed
+-- instances of these theorems are: they stand with them, in the crate `instances`.
 use Rattle.promises.specs.Arrivals.{InTimeIsMeant}
 use Rattle.promises.specs.Demand.{Demand3, FewerLost}
 use Rattle.promises.specs.Gaps.{GapsAreTold}
@@ -12,7 +13,6 @@ use Rattle.promises.specs.Refusals.{RefusalsChangeNothing}
 use Rattle.promises.specs.Unique.{UniqueOpen, UniqueClose, UniqueReceive, UniqueSend, UniqueCheck, UniqueSegment, UniqueCapture, UniqueFlow}
 use Rattle.promises.specs.RoundTrip.{SenderKeepsRules, SendingsGoOn, KeepsLimit, RoundTrip}
 use Rattle.promises.specs.Modulator.{CoreToModulator, SentMayTravel, UniqueMpeg}
-use Rattle.promises.specs.Marked.{Marked, BesidesMarked}
 use Rattle.promises.specs.Captures.{ReadsBack}
 use Rattle.mpeg.specs.Run.{RunsAreRead, ReadIsRun, AllComeBack, CallsMakeRuns, JudgedByFrames, SentMayGo, NullsBetween}
 use Rattle.mpeg.specs.HandOut.{HandsOutPackets}
@@ -31,7 +31,6 @@ use Rattle.promises.proofs.Refusals as refusals
 use Rattle.promises.proofs.Uniqueness as unique
 use Rattle.promises.proofs.RoundTrip as trip
 use Rattle.promises.proofs.Modulator as modulator
-use Rattle.promises.proofs.Marked as cases
 use Rattle.capture.proofs.ReadsBack as capture
 
 -- Demand 3, and what goes with it: specs/Demand.antt, with specs/Arrivals.antt for what the network does, and specs/Gaps.antt.
@@ -149,10 +148,3 @@ unique-mpeg = modulator.unique-mpeg
 -- Capture files: specs/Captures.antt.
 pub reads-back : ReadsBack
 reads-back = record { read-then-written = capture.reads-back; written-passes = capture.written-sound; written-then-read = capture.written-reads }
-
--- The marked cases, and those beside them: specs/Marked.antt.
-pub marked : Marked
-marked = cases.marked
-
-pub besides-marked : BesidesMarked
-besides-marked = cases.besides-marked

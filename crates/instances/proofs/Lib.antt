@@ -1,0 +1,10 @@
+pub mod Marked
+pub mod DemandInstance
+pub mod ModulatorInstance
+pub mod DmptInstance
+pub mod RoundTripInstance
+pub mod AccountInstance
+pub mod IsolationInstance
+pub mod EdgeInstance
+pub mod LimitsInstance
+pub mod CaptureInstance
