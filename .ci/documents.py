@@ -1,8 +1,9 @@
 """Whether the documents name what is there.
 
 In README.md, docs/ and the pages of examples/, second/ and bench/, every path in backquotes that begins with a folder of this repository exists, and every
-`file`: `name`, `name` names declarations of that file. Every must-fail edit and every wrong definition stands in docs/PROMISES.md, and every one named
-there exists. README.md shows host/example.c as it is. Prints what is wrong and ends with status 1; ends with 0 where nothing is."""
+`file`: `name`, `name` names declarations of that file. Every wrong program and every wrong definition stands in docs/PROMISES.md, and every one named
+there exists; each says after 'promise:' for which promises it stands, and they are those of the rows that name it. README.md shows host/example.c as it
+is. Prints what is wrong and ends with status 1; ends with 0 where nothing is."""
 import glob
 import os
 import re
@@ -40,19 +41,45 @@ def wrong_in(document):
 
 
 def edits():
-    """The must-fail edits, as crate/name, and the wrong definitions, as wrong-definitions/name."""
-    found = glob.glob("crates/*/must-fail/*.edit") + glob.glob("tests/wrong-definitions/*.edit")
-    return {os.path.join(p.split("/")[1], os.path.basename(p)[:-5]) for p in found}
+    """The wrong programs, as crate/name, and the wrong definitions, as wrong-definitions/name: each with its file."""
+    found = glob.glob("crates/*/must-fail/*.edit") + glob.glob("tests/wrong-programs/*/*.edit") + glob.glob("tests/wrong-definitions/*.edit")
+    folders = {path: os.path.dirname(path.replace("/must-fail", "")) for path in found}
+    return {os.path.join(os.path.basename(folder), os.path.basename(path)[:-5]): path for path, folder in folders.items()}
+
+
+def named_edits(text):
+    crates = "|".join(sorted(os.listdir("crates")) + ["wrong-definitions"])
+    return [n for n in re.findall(rf"`((?:{crates})/[a-z0-9_]+)`", text) if not os.path.exists(n)]
+
+
+def rows(text):
+    """The rows of the tables that rule something out: the promise, and what is ruled out. A promise goes by the first name that its row has as file: name
+    in the column 'Proves it'; a row without one gives none."""
+    heads = None
+    for line in text.split("\n"):
+        cells = [cell.strip() for cell in line.split("|")[1:-1]]
+        if not line.startswith("|"):
+            heads = None
+        elif heads is None:
+            heads = {cell.split(",")[0]: at for at, cell in enumerate(cells)}
+        elif {"Proves it", "Ruled out"} <= set(heads):
+            proved = NAMED.search(cells[heads["Proves it"]])
+            yield proved and re.match(r"`([^`]+)`", proved[2])[1], cells[heads["Ruled out"]]
 
 
 def wrong_edits():
-    text = open("docs/PROMISES.md", encoding="utf-8").read()
-    crates = "|".join(sorted(os.listdir("crates")) + ["wrong-definitions"])
-    named = {n for n in re.findall(rf"`((?:{crates})/[a-z0-9_]+)`", text) if not os.path.exists(n)}
-    for edit in sorted(edits() - named):
+    text, there_are, promises = open("docs/PROMISES.md", encoding="utf-8").read(), edits(), {}
+    for edit in sorted(set(there_are) - set(named_edits(text))):
         yield f"docs/PROMISES.md: {edit} is not named"
-    for edit in sorted(named - edits()):
+    for edit in sorted(set(named_edits(text)) - set(there_are)):
         yield f"docs/PROMISES.md: there is no edit {edit}"
+    for promise, ruled_out in rows(text):
+        for edit in named_edits(ruled_out):
+            promises.setdefault(edit, set()).update([promise] if promise else [])
+    for edit, path in sorted(there_are.items()):
+        said = re.search(r"(?m)^promise: (.*)$", open(path, encoding="utf-8").read())
+        if set(said[1].split() if said else []) != promises.get(edit, set()):
+            yield f"{path}: the rows of docs/PROMISES.md that name it have the promises: {' '.join(sorted(promises.get(edit, set()))) or 'none'}"
 
 
 def wrong_example():
