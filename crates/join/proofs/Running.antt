@@ -21,17 +21,17 @@ use Rattle.join.specs.Placed.{Placed, Whole, Ran}
 use Rattle.join.proofs.Placing.{placed-delivering, settled-whole, fate-begins}
 
 -- the code's test: how far an entry lies above B and E, and that this is at most the session's longest frame
-pub whole-entry : (most entry size : ℕ) → most ≤ longest → (size < eBit → entry ≡ bBit + eBit + size) → size ≤ most → Whole most entry
+pub whole-entry : (most entry size : ℕ) → most ≤ longest → (size + (bBit + eBit)) % 65536 ≡ entry → size ≤ most → Whole most entry
 whole-entry most entry size small e short =
-    let is = e (omega arith) in
+    let is : entry ≡ size + (bBit + eBit) = omega arith in
     record {
       begins = eq-eqb (entry / bBit % 2) 1 (omega arith);
       ends = eq-eqb (entry / eBit % 2) 1 (omega arith);
       short = omega arith;
     }
 
-pub whole-size : (most entry size : ℕ) → most ≤ longest → (size < eBit → entry ≡ bBit + eBit + size) → size ≤ most → size ≡ lengthIn entry
-whole-size most entry size small e short = let is = e (omega arith) in omega arith
+pub whole-size : (most entry size : ℕ) → most ≤ longest → (size + (bBit + eBit)) % 65536 ≡ entry → size ≤ most → size ≡ lengthIn entry
+whole-size most entry size small e short = omega arith
 
 -- one length more behind those that are written
 pub written-more : (lens lens′ : List ℕ) (at : ℕ) (f : ℕ → ℕ) (n : ℕ) → at + n < length lens → lens′ ≡ put lens at (upTo f n) →

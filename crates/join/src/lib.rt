@@ -9,7 +9,7 @@ pub mod mpegs;
 ghost use mathlib.Core.Bool.{true, cond};
 ghost use mathlib.Core.List.{_++_};
 ghost use mathlib.Core.Path.{_≡_};
-ghost use Prim.Native.Nat.{_+_, _*_, _<_, _≤_};
+ghost use Prim.Native.Nat.{_+_, _*_, _%_, _≤_};
 ghost use lib.ListN.{length};
 ghost use Rattle.refusal.specs.Refusal.{first};
 ghost use Rattle.octets.specs.Stretch.{part};
@@ -179,7 +179,7 @@ fn place_segment(
 // The length of a whole frame, by its entry: how far the entry lies above B and E, modulo 65,536. Of an entry that lacks one of them this
 // is no length, but 16,384 or more. So one comparison tells whether a frame is whole and not too long.
 fn whole_length(entry: u16) -> u16
-    ensures { λ r. ⌜ (r < eBit → entry ≡ bBit + eBit + r) ⌝ }
+    ensures { λ r. ⌜ (r + (bBit + eBit)) % 65536 ≡ entry ⌝ }
 {
     std::num::wrapping_sub_u16(entry, B_AND_E)
 }
@@ -221,7 +221,7 @@ fn write_lengths(
     Run { frames, bytes }
 }
 
-// All segments of a packet that passed the check, in order, on a flow that holds so many bytes. Behind a segment nothing is held but at the
+// All segments of a packet that 9 to 11 do not refuse, in order, on a flow that holds so many bytes. Behind a segment nothing is held but at the
 // end, and whole frames lie in the packet as they must in the output: so those behind it are copied together.
 pub fn walk(
     holding: &mut [u8],
