@@ -14,7 +14,7 @@ use Rattle.table.specs.declared.Mode.the-variants as mode
 use Rattle.table.specs.declared.Request.{Request}
 use Rattle.table.specs.declared.Opening.{Opening}
 use Rattle.table.specs.declared.Closing.{Closing}
-use Rattle.table.specs.Calls.{opened, closed}
+use Rattle.table.specs.Calls.{asking, opened, closed}
 use Rattle.join.specs.Slices.{Slices}
 use Rattle.card.specs.declared.Received.{Received}
 use Rattle.card.specs.Receive.{Outcome, received}
@@ -35,7 +35,7 @@ abbrev pub modeIn : ℕ → Mode
 modeIn kind = cond (eqb kind kindPsp) mode.Psp mode.Dmpt
 
 abbrev pub requestIn : ℕ → ℕ → Request
-requestIn id kind = record { id = id; mode = modeIn kind }
+requestIn id kind = asking (modeIn kind) id
 
 abbrev pub openingOut : HostTable → Opening → HostOpening
 openingOut given o = record { code = o .code; table = tableAfter (o .code) given (o .table) }

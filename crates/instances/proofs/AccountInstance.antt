@@ -14,13 +14,13 @@ use Rattle.packet.specs.Dmpt.{mpegAt, mpegs}
 use Rattle.table.specs.declared.Mode.the-variants as mode
 use Rattle.table.specs.Rows.{empty}
 use Rattle.table.specs.Broken.{broken}
-use Rattle.table.specs.Calls.{opened, closed}
+use Rattle.table.specs.Calls.{asking, opened, closed}
 use Rattle.join.specs.Join.{settledBy, settled, fateBy, fate, atGap, mpegFate, inOrder, pspFate, dmptFate}
 use Rattle.card.specs.Hear.{hear}
 use Rattle.card.specs.Receive.{carriedOut, refused, receivedBy, received}
 use Rattle.card.specs.History.{Call, opens, closes, answer, after, afterAll, emptyCard}
 use Rattle.promises.specs.Account.{Lent, cardFor, tableAfterAll, countedBy, bytesTaken, bytesDelivered, bytesDropped, heldInAll, takenBy, deliveredBy, droppedBy, gathered, bytesHeld}
-use Rattle.promises.specs.Marked.{asking, A, B, single, hand}
+use Rattle.promises.specs.Marked.{A, B, single, hand}
 
 -- the beginning of a frame behind a gap of 4
 abbrev begins : List ℕ

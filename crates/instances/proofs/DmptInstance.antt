@@ -16,13 +16,13 @@ use Rattle.table.specs.declared.Kind.the-variants as kind
 use Rattle.table.specs.declared.Mode.the-variants as mode
 use Rattle.table.specs.Rows.{isDmpt, rowAt, closedRow}
 use Rattle.table.specs.Broken.{broken}
-use Rattle.table.specs.Calls.{opened}
+use Rattle.table.specs.Calls.{asking, opened}
 use Rattle.join.specs.Join.{settledBy, settled, fateBy, fate, atGap, mpegFate, inOrder, pspFate, dmptFate}
 use Rattle.card.specs.Hear.{hear}
 use Rattle.card.specs.Receive.{rowOf, carriedOut, refused, receivedBy, received}
 use Rattle.card.specs.History.{Card, opens, framesOf, answer, after, afterAll, emptyCard}
 use Rattle.promises.specs.Dmpt.{carrying, nulls}
-use Rattle.promises.specs.Marked.{asking, hand}
+use Rattle.promises.specs.Marked.{hand}
 
 -- Session 0x103 is open as D-MPT beside 0x101 and 0x102, which holds half a frame. Its packet has S clear, and yet some number; and it has
 -- two MPEG packets, the first of PID 0x1FFE and the second of PID 0x1FFF, with a bit set above that is none of the PID's.

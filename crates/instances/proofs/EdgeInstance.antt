@@ -1,6 +1,6 @@
 -- Closed instances at edges that the others do not touch: what is counted of a value, the bound at its two ends, a gap that a session is told, a close of
--- another session and a malformed packet while a frame is half there, flow 3, a row that came free, D-MPT with numbers, and a frame that is cut twice. It cites
--- definitions alone, so that it can be held against wrong ones.
+-- another session and a malformed packet while a frame is half there, flow 3, a row that came free, D-MPT with numbers, bytes before the
+-- session ID, and a frame that is cut twice. It cites definitions alone, so that it can be held against wrong ones.
 use Prim.Native.Nat.{ℕ}
 use mathlib.Core.Path.{_≡_, refl}
 use mathlib.Core.List.{List, [], _∷_, _++_}
@@ -9,17 +9,19 @@ use lib.ListN.{take, set, replicate}
 use Rattle.octets.specs.Stretch.{part, rest, put, joined, lengths}
 use Rattle.octets.specs.Count.{any, least, sumTo, upTo}
 use Rattle.flow.specs.Numbers.{ahead, next}
+use Rattle.packet.specs.Header.{Packet}
 use Rattle.packet.specs.Segments.{bodyAt, segmentAt, segments}
 use Rattle.packet.specs.Psp.{wanted}
 use Rattle.packet.specs.Dmpt.{mpegAt, mpegs}
 use Rattle.table.specs.declared.Mode.the-variants as mode
 use Rattle.table.specs.Rows.{find}
 use Rattle.table.specs.Broken.{broken}
-use Rattle.table.specs.Calls.{opened, closed}
+use Rattle.table.specs.Calls.{asking, opened, closed}
+use Rattle.join.specs.Slices.{mostBytes, mostFrames}
 use Rattle.join.specs.Join.{settledBy, settled, fateBy, fate, atGap, mpegFate, inOrder, pspFate, dmptFate}
 use Rattle.card.specs.Hear.{hear}
 use Rattle.card.specs.Receive.{carriedOut, refused, receivedBy, received}
-use Rattle.card.specs.History.{Card, Call, opens, closes, answer, after, afterAll}
+use Rattle.card.specs.History.{Card, Call, opens, closes, hands, answer, after, afterAll}
 use Rattle.sender.specs.Cut.{frameStart, cut}
 use Rattle.sender.specs.Packet.{packetOf}
 use Rattle.sender.specs.Send as sender
@@ -27,7 +29,7 @@ use Rattle.sender.specs.Series.{Job, startOfFrame, seriesPackets}
 use Rattle.promises.specs.Account.{times}
 use Rattle.promises.specs.Arrivals.{Window}
 use Rattle.promises.specs.Isolation.{Told, told, cardAfter}
-use Rattle.promises.specs.Marked.{asking, A, B, hand, whole3, of6, of9, of3, limit16}
+use Rattle.promises.specs.Marked.{A, B, hand, whole3, of6, of9, of3, limit16}
 
 -- A value is counted as often as it stands there, and another is not.
 each-value : (times 0x21 (0x21 ∷ 0x22 ∷ 0x21 ∷ []) ≡ 2) × (times 0x23 (0x21 ∷ 0x22 ∷ []) ≡ 0)
@@ -53,6 +55,20 @@ fresh-101 = after (cardAfter (replicate 49152 0) []) (opens (asking mode.Psp 0x1
 gap-is-told : told 0x101 fresh-101 (hand A ∷ hand (whole3 4) ∷ []) ≡ one-frame 6 0 0 of6 ∷ one-frame 3 2 4 of3 ∷ []
 unfolding part rest put joined lengths any least sumTo upTo ahead next bodyAt segmentAt segments wanted broken opened settledBy settled fateBy fate atGap inOrder pspFate hear carriedOut refused receivedBy received answer after afterAll told
 gap-is-told = refl
+
+-- Packets with four bytes before the session ID, and such without, on one flow: the session is told the same.
+abbrev four-before : List ℕ → Packet
+four-before packet = record { lead = 4; bytes = 0x00 ∷ 0x03 ∷ 0x00 ∷ 0x00 ∷ packet }
+
+abbrev hand-behind : List ℕ → Call
+hand-behind packet = hands (record { packet = four-before packet; output = replicate mostBytes 0; lengths = replicate mostFrames 0 })
+
+abbrev late : Told
+late = record { code = 12; frames = 0; bytes = 0; dropped = 0; gap = 0; output = []; lengths = [] }
+
+lead-is-passed-over : told 0x101 fresh-101 (hand-behind A ∷ hand B ∷ hand-behind B ∷ []) ≡ one-frame 6 0 0 of6 ∷ one-frame 9 0 0 of9 ∷ late ∷ []
+unfolding part rest put joined lengths any least sumTo upTo ahead next bodyAt segmentAt segments wanted broken opened settledBy settled fateBy fate atGap inOrder pspFate hear carriedOut refused receivedBy received answer after afterAll told
+lead-is-passed-over = refl
 
 -- Between A and B another session is closed, and a packet with number 3 is refused, whose last byte is cut: B finds what A left, and the number is expected.
 abbrev half-there : List Call

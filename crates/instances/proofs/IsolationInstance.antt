@@ -13,13 +13,13 @@ use Rattle.packet.specs.Segments.{bodyAt, segmentAt, segments}
 use Rattle.packet.specs.Psp.{wanted}
 use Rattle.table.specs.declared.Mode.the-variants as mode
 use Rattle.table.specs.Broken.{broken}
-use Rattle.table.specs.Calls.{isOpen, opened, closed}
+use Rattle.table.specs.Calls.{asking, isOpen, opened, closed}
 use Rattle.join.specs.Join.{settledBy, settled, fateBy, fate, atGap, inOrder, pspFate}
 use Rattle.card.specs.Hear.{hear}
 use Rattle.card.specs.Receive.{carriedOut, refused, receivedBy, received}
 use Rattle.card.specs.History.{Card, Call, opens, closes, hands, answer, after, afterAll}
 use Rattle.promises.specs.Isolation.{own, Told, told, cardAfter}
-use Rattle.promises.specs.Marked.{asking, A, B, hand, of6, of9}
+use Rattle.promises.specs.Marked.{A, B, hand, of6, of9}
 
 -- A and B, then the half of a frame on flow 2, then the close: alone but for a session in row 0 that is never heard of again, so that it is in row 1
 abbrev half-a-frame : List ℕ

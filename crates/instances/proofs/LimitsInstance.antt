@@ -12,12 +12,12 @@ use Rattle.packet.specs.Segments.{bodyAt, segmentAt, segments}
 use Rattle.packet.specs.Psp.{wanted}
 use Rattle.table.specs.declared.Mode.the-variants as mode
 use Rattle.table.specs.Broken.{broken}
-use Rattle.table.specs.Calls.{opened, closed}
+use Rattle.table.specs.Calls.{asking, opened, closed}
 use Rattle.join.specs.Join.{settledBy, settled, fateBy, fate, atGap, inOrder, pspFate}
 use Rattle.card.specs.Hear.{hear}
 use Rattle.card.specs.Receive.{carriedOut, refused, receivedBy, received}
 use Rattle.card.specs.History.{Call, opens, closes, hands, framesOf, answer, after}
-use Rattle.promises.specs.Marked.{asking, A, B, beginning, hand, handed-card, opened-card}
+use Rattle.promises.specs.Marked.{A, B, beginning, hand, handed-card, opened-card}
 
 -- 127 whole frames of one byte in one packet, which is all that the count can say
 abbrev entries : ℕ → List ℕ

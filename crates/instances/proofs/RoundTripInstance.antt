@@ -15,7 +15,7 @@ use Rattle.packet.specs.Header.{ip}
 use Rattle.packet.specs.Psp.{wanted}
 use Rattle.table.specs.declared.Mode.the-variants as mode
 use Rattle.table.specs.Broken.{broken}
-use Rattle.table.specs.Calls.{opened}
+use Rattle.table.specs.Calls.{asking, opened}
 use Rattle.join.specs.Join.{settledBy, settled, fateBy, fate, atGap, inOrder, pspFate}
 use Rattle.card.specs.Hear.{hear}
 use Rattle.card.specs.Receive.{carriedOut, refused, receivedBy, received}
@@ -25,7 +25,7 @@ use Rattle.sender.specs.Packet.{packetOf}
 use Rattle.sender.specs.Send as sender
 use Rattle.sender.specs.Series.{Usable, startOfFrame, seriesPackets}
 use Rattle.promises.specs.Words.{packetsTo, framesOut, LongEnough}
-use Rattle.promises.specs.Marked.{asking, A, B, hand, of6, of9, m12, limit16}
+use Rattle.promises.specs.Marked.{A, B, hand, of6, of9, m12, limit16}
 use Rattle.promises.specs.RoundTrip.{Given, framesGiven, packetsGiven, InOrder}
 
 -- The frames of the last marked case, of 6 and 9 bytes, are sent with the limit 16 and with calls enough, fifteen, of which two send a

@@ -11,9 +11,8 @@ use Rattle.octets.specs.Bytes.{be32At}
 use Rattle.packet.specs.Header.{ip}
 use Rattle.table.specs.declared.Table.{Table}
 use Rattle.table.specs.declared.Mode.{Mode}
-use Rattle.table.specs.declared.Request.{Request}
 use Rattle.table.specs.declared.Mode.the-variants as mode
-use Rattle.table.specs.Calls.{opened, closed}
+use Rattle.table.specs.Calls.{asking, opened, closed}
 use Rattle.join.specs.Slices.{asSlices}
 use Rattle.card.specs.declared.Received.{Received}
 use Rattle.card.specs.Receive.{PermitsReceive}
@@ -21,9 +20,6 @@ use Rattle.card.specs.History.{Arrival, Call, opens, closes, hands, handed, ans
 use Rattle.capture.specs.File.{Entry, openPsp, openDmpt, closing, idBody, bodyIn, kinds, takesLength}
 use Rattle.listing.specs.Run.{Running, asks, callOf, outputAfter, lengthsAfter, runOne}
 use Rattle.listing.specs.Walk.{asRunning, answered, Counts, RunsTo}
-
-abbrev asked-for : Mode → ℕ → Request
-asked-for asked id = record { id = id; mode = asked }
 
 abbrev entryOf : ℕ → List ℕ → Entry
 entryOf kind body = record { kind = kind; body = body }
@@ -52,11 +48,11 @@ module _ (t : Table) (holding output lens : List ℕ) (kind : ℕ) (body : List 
 
   -- an entry that opens, as PSP or as D-MPT
   opened-as : (asked : Mode) (id : ℕ) (r : Received) → callOf before (entryOf kind body) ≡ opens (asks asked (entryOf kind body)) → id ≡ be32At body 0 →
-      r ≡ answered (opened t (asked-for asked id) .code) 0 (opened t (asked-for asked id) .table) → RunsTo before (entryOf kind body) r holding output lens
+      r ≡ answered (opened t (asking asked id) .code) 0 (opened t (asking asked id) .table) → RunsTo before (entryOf kind body) r holding output lens
   unfolding answer after
   opened-as asked id r x i e =
-      let e′ : r ≡ answered (opened t (asked-for asked (be32At body 0)) .code) 0 (opened t (asked-for asked (be32At body 0)) .table) =
-      e ∙ ap (λ (y : ℕ). answered (opened t (asked-for asked y) .code) 0 (opened t (asked-for asked y) .table)) i in
+      let e′ : r ≡ answered (opened t (asking asked (be32At body 0)) .code) 0 (opened t (asking asked (be32At body 0)) .table) =
+      e ∙ ap (λ (y : ℕ). answered (opened t (asking asked y) .code) 0 (opened t (asking asked y) .table)) i in
       subst (λ (y : Received). RunsTo before (entryOf kind body) y holding output lens) (sym e′)
       (ran-as before (entryOf kind body) (opens (asks asked (entryOf kind body))) _ holding output lens x
       (record { its-code = refl; its-frames = refl; its-bytes = refl; its-dropped = refl; its-gap = refl }) refl)
@@ -69,7 +65,7 @@ module _ (t : Table) (holding output lens : List ℕ) (kind : ℕ) (body : List 
     pub psp-body : takesLength (bodyIn kinds kind) (length body) ≡ true → 0 + 3 < length body
     psp-body = id-inside (rw (eq-eqb kind openPsp psp) refl)
 
-    pub opens-psp : (id : ℕ) (r : Received) → id ≡ be32At body 0 → r ≡ answered (opened t (asked-for mode.Psp id) .code) 0 (opened t (asked-for mode.Psp id) .table) →
+    pub opens-psp : (id : ℕ) (r : Received) → id ≡ be32At body 0 → r ≡ answered (opened t (asking mode.Psp id) .code) 0 (opened t (asking mode.Psp id) .table) →
         RunsTo before (entryOf kind body) r holding output lens
     opens-psp id r = opened-as mode.Psp id r (rw (eq-eqb kind openPsp psp) refl)
 
@@ -78,7 +74,7 @@ module _ (t : Table) (holding output lens : List ℕ) (kind : ℕ) (body : List 
       pub dmpt-body : takesLength (bodyIn kinds kind) (length body) ≡ true → 0 + 3 < length body
       dmpt-body = id-inside (rw (ne-eqb kind openPsp other, eq-eqb kind openDmpt dmpt) refl)
 
-      pub opens-dmpt : (id : ℕ) (r : Received) → id ≡ be32At body 0 → r ≡ answered (opened t (asked-for mode.Dmpt id) .code) 0 (opened t (asked-for mode.Dmpt id) .table) →
+      pub opens-dmpt : (id : ℕ) (r : Received) → id ≡ be32At body 0 → r ≡ answered (opened t (asking mode.Dmpt id) .code) 0 (opened t (asking mode.Dmpt id) .table) →
           RunsTo before (entryOf kind body) r holding output lens
       opens-dmpt id r = opened-as mode.Dmpt id r (rw (ne-eqb kind openPsp other, eq-eqb kind openDmpt dmpt) refl)
 

@@ -10,6 +10,7 @@ use Rattle.packet.specs.Header.{ip}
 use Rattle.table.specs.declared.Mode.{Mode}
 use Rattle.table.specs.declared.Request.{Request}
 use Rattle.table.specs.declared.Mode.the-variants as mode
+use Rattle.table.specs.Calls.{asking}
 use Rattle.join.specs.Slices.{mostBytes, mostFrames}
 use Rattle.card.specs.Receive.{holdingSize}
 use Rattle.card.specs.History.{Card, Call, opens, closes, hands, Answer, answer, after, emptyCard}
@@ -20,9 +21,9 @@ pub record Running : Type 0 where
   pub output : List ℕ
   pub lengths : List ℕ
 
--- what an entry asks to be opened: its session ID, as this
+-- the open that an entry stands for: of its session ID, as PSP or as D-MPT
 abbrev pub asks : Mode → Entry → Request
-asks asked e = record { id = be32At (e .body) 0; mode = asked }
+asks asked e = asking asked (be32At (e .body) 0)
 
 -- the call that an entry stands for
 abbrev pub callOf : Running → Entry → Call

@@ -2,7 +2,7 @@
 ghost use mathlib.Core.Path.{_≡_};
 ghost use mathlib.Core.Bool.{true};
 ghost use lib.ListN.{length};
-ghost use Rattle.table.specs.Calls.{opened, closed};
+ghost use Rattle.table.specs.Calls.{asking, opened, closed};
 ghost use Rattle.capture.specs.File.{bodyIn, kinds, takesLength};
 ghost use Rattle.listing.specs.Walk.{asRunning, answered, RunsTo};
 use card::Received;
@@ -26,7 +26,7 @@ fn plain(code: u32, dropped: u32, table: Table) -> Received
 
 // Opens a session.
 fn open(table: Table, id: u32, mode: Mode) -> Received
-    ensures { λ r. ⌜ r ≡ answered ((opened table (record { id = id; mode = mode })) .code) 0 ((opened table (record { id = id; mode = mode })) .table) ⌝ }
+    ensures { λ r. ⌜ r ≡ answered ((opened table (asking mode id)) .code) 0 ((opened table (asking mode id)) .table) ⌝ }
 {
     let request = Request { id, mode };
     let opening = table::open(table, request);

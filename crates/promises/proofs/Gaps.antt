@@ -26,7 +26,7 @@ use Rattle.promises.proofs.Alone.{readAlone}
 use Rattle.promises.proofs.Hearing.{alone-late, alone-heard}
 use Rattle.promises.proofs.Passed.{judged-by-place}
 use Rattle.promises.proofs.Arrivals.{next-place}
-use Rattle.promises.specs.Demand.{kindIn}
+use Rattle.promises.specs.Demand.{kindOn}
 use Rattle.promises.proofs.Demand.{all-sent, run-read}
 
 -- a late packet is answered by 12 and gap 0, and any other by 0 and the gap that the flow finds
@@ -88,7 +88,7 @@ module _ (start : ℕ) (packets : List Packet) (by-place : (f : Flow) (x : ℕ) 
 
 pub gaps-are-told : GapsAreTold
 gaps-are-told s r =
-    verdicts-read (kindIn (s .line)) (s .line .session) (s .line .flow) _ (r .calls)
+    verdicts-read (kindOn (s .line)) (s .line .session) (s .line .flow) _ (r .calls)
     ∙ run-read s r verdictsRead
     ∙ window-verdicts (s .line .start) (s .packets)
     (judged-by-place (s .line) (s .frames) (s .unfinished) (s .packets) (s .keeps-rules)) (r .arrivals) (all-sent s r) (r .in-window)

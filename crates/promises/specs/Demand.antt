@@ -12,7 +12,7 @@ use Rattle.packet.specs.Header.{Packet}
 use Rattle.table.specs.declared.Kind.{Kind}
 use Rattle.table.specs.declared.Mode.the-variants as mode
 use Rattle.table.specs.declared.Request.{Request}
-use Rattle.table.specs.Calls.{kindOf}
+use Rattle.table.specs.Calls.{kindOf, asking}
 use Rattle.card.specs.History.{Card, Call, opens, answer, after, afterAll, emptyCard}
 use Rattle.sender.specs.Rules.{Pieces, Line, packetAt, KeepsRules}
 use Rattle.promises.specs.Words.{packetsTo, framesOut, LongEnough, StaysOpen}
@@ -26,12 +26,12 @@ pub record Sending : Type 0 where
   pub packets : List Packet
   pub keeps-rules : KeepsRules line frames unfinished packets
 
--- what its session was opened with, and so the kind of its row
+-- What its session was opened with, and so the kind of its row. (Both are said here alone: whoever needs the kind asks the line.)
 abbrev pub opening : Line → Request
-opening line = record { id = line .session; mode = mode.Psp }
+opening line = asking mode.Psp (line .session)
 
-abbrev pub kindIn : Line → Kind
-kindIn line = kindOf (opening line .mode)
+abbrev pub kindOn : Line → Kind
+kindOn line = kindOf (opening line .mode)
 
 -- A run of a card: any calls from an empty table, then the session's opening as PSP, then any calls again, none of which closes it. Among them
 -- its flow gets the sender's packets, and no others, in the order of `arrivals`. What else is called, for other sessions and other flows, before and
@@ -44,8 +44,8 @@ pub record Run (s : Sending) : Type 0 where
   pub arrivals : List ℕ
   pub opens-now : (answer (afterAll (emptyCard holding) before) (opens (opening (s .line)))) .code ≡ 0
   pub stays-open : StaysOpen (s .line .session) calls
-  pub long-enough : LongEnough (kindIn (s .line)) (s .line .session) (s .line .flow) holding calls
-  pub only-these : packetsTo (kindIn (s .line)) (s .line .session) (s .line .flow) calls ≡ map (packetAt (s .packets)) arrivals
+  pub long-enough : LongEnough (kindOn (s .line)) (s .line .session) (s .line .flow) holding calls
+  pub only-these : packetsTo (kindOn (s .line)) (s .line .session) (s .line .flow) calls ≡ map (packetAt (s .packets)) arrivals
   pub in-window : Window arrivals
 
 -- the card when the session has been opened, and what comes out of the flow from then on
@@ -53,7 +53,7 @@ abbrev pub openedCard : (s : Sending) → Run s → Card
 openedCard s r = after (afterAll (emptyCard (r .holding)) (r .before)) (opens (opening (s .line)))
 
 abbrev pub comesOut : (s : Sending) → Run s → List (List ℕ)
-comesOut s r = framesOut (kindIn (s .line)) (s .line .session) (s .line .flow) (openedCard s r) (r .calls)
+comesOut s r = framesOut (kindOn (s .line)) (s .line .session) (s .line .flow) (openedCard s r) (r .calls)
 
 -- frame number i arrived whole in this run
 abbrev pub WholeIn : (s : Sending) → Run s → ℕ → Type 0

@@ -8,7 +8,7 @@ use lib.Dec.{leb}
 use Rattle.table.specs.declared.Kind.{Kind}
 use Rattle.card.specs.History.{Card, Call, answer, after}
 use Rattle.promises.specs.Words.{handsTo}
-use Rattle.promises.specs.Demand.{Sending, kindIn, Run, openedCard}
+use Rattle.promises.specs.Demand.{Sending, kindOn, Run, openedCard}
 
 -- What the calls for a flow are answered: number and gap, in order.
 pub record Verdict : Type 0 where
@@ -37,4 +37,4 @@ verdictsOf (x ∷ more) = record { code = 0; gap = 0 } ∷ verdictsFrom (suc x) 
 abbrev pub GapsAreTold : Type 0
 GapsAreTold =
     (s : Sending) (r : Run s) →
-    verdictsOut (kindIn (s .line)) (s .line .session) (s .line .flow) (openedCard s r) (r .calls) ≡ verdictsOf (r .arrivals)
+    verdictsOut (kindOn (s .line)) (s .line .session) (s .line .flow) (openedCard s r) (r .calls) ≡ verdictsOf (r .arrivals)

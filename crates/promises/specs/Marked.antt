@@ -12,10 +12,9 @@ use Rattle.octets.specs.Count.{upTo}
 use Rattle.octets.specs.Each.{Each}
 use Rattle.flow.specs.Flow.{flows}
 use Rattle.packet.specs.Header.{ip}
-use Rattle.table.specs.declared.Mode.{Mode}
 use Rattle.table.specs.declared.Mode.the-variants as mode
-use Rattle.table.specs.declared.Request.{Request}
 use Rattle.table.specs.Rows.{rowAt, flowAt, find}
+use Rattle.table.specs.Calls.{asking}
 use Rattle.join.specs.Slices.{mostBytes, mostFrames}
 use Rattle.card.specs.Receive.{holdingSize, placeOf}
 use Rattle.card.specs.History.{Card, Call, opens, hands, framesOf, answer, after, emptyCard}
@@ -84,10 +83,6 @@ refuses code held = record { code = code; frames = 0; bytes = 0; dropped = 0; ga
 pub data Case : Type 0 where
   hears : List (List ℕ) → List ℕ → Seen → Case
   sends : Job → ℕ → List Turn → List (List ℕ) → Case
-
--- a session asked for by its ID
-abbrev pub asking : Mode → ℕ → Request
-asking asked id = record { id = id; mode = asked }
 
 abbrev pub opened-card : Card
 opened-card = after (emptyCard (replicate holdingSize 0)) (opens (asking mode.Psp 0x101))

@@ -16,7 +16,7 @@ use Rattle.sender.specs.Series.{Job, Turn, Sound, Usable, startOfFrame, seriesP
 use Rattle.sender.specs.Rules.{Pieces, Line, KeepsRules}
 use Rattle.promises.specs.Words.{packetsTo, framesOut, LongEnough, StaysOpen}
 use Rattle.promises.specs.Arrivals.{Kept}
-use Rattle.promises.specs.Demand.{Sending, opening, kindIn, Run, WholeIn, comesOut}
+use Rattle.promises.specs.Demand.{Sending, opening, kindOn, Run, WholeIn, comesOut}
 
 -- An address and frames that 31 and 33 do not refuse, a number of two bytes, and calls enough to send them: each sends at least one byte, and those
 -- behind the last frame are refused by 35 and send nothing.
@@ -70,8 +70,8 @@ pub record InOrder (g : Given) : Type 0 where
   pub calls : List Call
   pub opens-now : (answer (afterAll (emptyCard holding) before) (opens (opening (lineOf g)))) .code ≡ 0
   pub stays-open : StaysOpen (g .job .session) calls
-  pub long-enough : LongEnough (kindIn (lineOf g)) (g .job .session) (g .job .flow) holding calls
-  pub all-arrive : packetsTo (kindIn (lineOf g)) (g .job .session) (g .job .flow) calls ≡ packetsGiven g
+  pub long-enough : LongEnough (kindOn (lineOf g)) (g .job .session) (g .job .flow) holding calls
+  pub all-arrive : packetsTo (kindOn (lineOf g)) (g .job .session) (g .job .flow) calls ≡ packetsGiven g
 
 -- what was sent, as a sending of these frames
 abbrev pub sendingOf : (g : Given) (frames : List Pieces) → IsSent g frames → Sending
@@ -87,7 +87,7 @@ sendingOf g frames is-sent =
 -- `round-trip`
 pub record RoundTrip : Type 0 where
   pub in-order : (g : Given) (o : InOrder g) →
-      framesOut (kindIn (lineOf g)) (g .job .session) (g .job .flow)
+      framesOut (kindOn (lineOf g)) (g .job .session) (g .job .flow)
       (after (afterAll (emptyCard (o .holding)) (o .before)) (opens (opening (lineOf g)))) (o .calls)
       ≡ framesGiven g
   pub over-a-network : (g : Given) (frames : List Pieces) (is-sent : IsSent g frames) (r : Run (sendingOf g frames is-sent)) →

@@ -1,5 +1,6 @@
 -- Words that the promises share: which calls of a history are for a session or for one of its flows, what comes out of these, and when
--- they have room. A packet under 8 bytes is for no session: it is refused, by 2 or by what comes before 2, and nobody reads a session ID in it.
+-- they have room. A packet with under 8 bytes from its session ID on is for no session: it is refused, by 2 or by what comes before 2,
+-- and nobody reads a session ID in it.
 use Prim.Native.Nat.{ℕ, _≤_}
 use mathlib.Core.Path.{_≡_}
 use mathlib.Core.Bool.{Bool, true, false, cond, not, _&&_}

@@ -28,7 +28,10 @@ kindOf mode.Dmpt = kind.Dmpt
 abbrev pub isOpen : Table → ℕ → Bool
 isOpen t id = ltb (find t id) rows
 
--- Opening.
+-- Opening. A session is asked for by its ID, as PSP or as D-MPT.
+abbrev pub asking : Mode → ℕ → Request
+asking asked id = record { id = id; mode = asked }
+
 abbrev pub openRefusals : Table → Request → List Refusal
 openRefusals t r =
     13 when broken t
