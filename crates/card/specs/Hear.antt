@@ -25,7 +25,8 @@ judgedBy false f n = unnumbered f
 abbrev pub judgedOf : Flow → List ℕ → Judged
 judgedOf f sub = judgedBy (sSet sub) f (number sub)
 
--- How a session's packets are laid out, by its kind: the width of a segment's entry, and the flow that a packet is for.
+-- How a session's packets are laid out, by its kind: the width of a segment's entry, and the flow that a packet is for. Both are the same
+-- for every kind so far.
 abbrev pub widthIn : Kind → ℕ
 widthIn kind = entryWidth
 

@@ -59,10 +59,11 @@ dataAnswer o =
 abbrev pub framesOf : Answer → List (List ℕ)
 framesOf a = framesFound (a .frames) (a .lengths) (a .output)
 
--- what a packet comes to, handed to the card as it stands
+-- the slices of a data call: the card's holding slice, and the two that are lent with the packet
 abbrev pub lentWith : Card → Arrival → Slices
 lentWith c a = asSlices (c .holding) (a .output) (a .lengths)
 
+-- what a packet comes to, handed to the card as it stands
 abbrev pub handed : Card → Arrival → Outcome
 handed c a = received (c .table) (a .packet) (lentWith c a)
 

@@ -36,8 +36,8 @@ pub record Outcome : Type 0 where
   pub answer : Received
   pub slices : Slices
 
--- Where a packet goes. Its session's row is r (6, where the session is not open), and that row's terms say how it is read; its flow there has
--- a record, and the bytes that this flow holds are the first ones of its place; and so the flow hears the packet.
+-- Where a packet goes. Its session's row is r (6, where the session is not open), and that row's terms say how it is read; its flow there
+-- has a record, and the bytes that this flow holds are the first ones of its place; and so the flow hears the packet.
 abbrev pub rowOf : Table → Packet → ℕ
 rowOf t p = find t (sessionId p)
 
@@ -116,7 +116,8 @@ received t p s = receivedBy (first (dataRefusals t p s)) t (rowOf t p) (sub p) s
 abbrev pub framesFound : ℕ → List ℕ → List ℕ → List (List ℕ)
 framesFound count lens output = cutBy (part lens 0 count) output
 
--- What the call permits, whole: t and s are the table and the slices when it is called, p the packet, and o has table and slices when it returns.
+-- What the call permits, whole: t and s are the table and the slices when it is called, p the packet, and o has table and slices when it
+-- returns.
 pub record PermitsReceive (t : Table) (p : Packet) (s : Slices) (o : Outcome) : Type 0 where
   pub its-number : o .answer .code ≡ (received t p s) .answer .code
   pub its-frames : o .answer .frames ≡ (received t p s) .answer .frames

@@ -125,7 +125,7 @@ pub fn is_dmpt(kind: Kind) -> bool
     }
 }
 
-// The terms on which a row's session was opened.
+// The terms of a row's session: its kind, and the one longest frame that every session has so far.
 pub fn terms_of(row: Row) -> Terms
     ensures { λ r. ⌜ r ≡ termsOf row ⌝ }
 {
