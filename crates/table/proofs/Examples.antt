@@ -51,11 +51,11 @@ unfolding opened broken any least
 there = (refl, refl, refl, refl, refl, refl, refl)
 
 -- opening: ID 0, also in a full table; an open ID, also in a full table and as another kind; a seventh session; a refused open changes nothing
-opens : ((openedAs empty 7 mode.Psp) .code ≡ 0) × ((openedAs empty 0 mode.Psp) .code ≡ 21) × ((openedAs six 0 mode.Psp) .code ≡ 21)
+opens-answered : ((openedAs empty 7 mode.Psp) .code ≡ 0) × ((openedAs empty 0 mode.Psp) .code ≡ 21) × ((openedAs six 0 mode.Psp) .code ≡ 21)
     × ((openedAs one 7 mode.Dmpt) .code ≡ 22) × ((openedAs six 7 mode.Psp) .code ≡ 22) × ((openedAs six 13 mode.Psp) .code ≡ 23)
     × ((openedAs six 13 mode.Psp) .table ≡ six) × ((openedAs one 7 mode.Dmpt) .table ≡ one) × ((openedAs empty 4294967295 mode.Dmpt) .code ≡ 0)
 unfolding opened broken any least
-opens = (refl, refl, refl, refl, refl, refl, refl, refl, refl)
+opens-answered = (refl, refl, refl, refl, refl, refl, refl, refl, refl)
 
 -- the lowest free row, after a close in the middle; an ID closed and openedAs again, which starts fresh
 again : (find ((openedAs ((closed six 9) .table) 13 mode.Psp) .table) 13 ≡ 2)
@@ -64,13 +64,13 @@ unfolding opened closed broken any least sumTo
 again = (refl, refl)
 
 -- closing: what the flows hold is dropped, in one flow and in two; the row is emptied; a session that is not open, and ID 0
-closes : ((closed (withFlow one 0 3 (flow-of true 5 2048)) 7) .dropped ≡ 2048)
+closes-answered : ((closed (withFlow one 0 3 (flow-of true 5 2048)) 7) .dropped ≡ 2048)
     × ((closed (withFlow (withFlow one 0 3 (flow-of true 5 2048)) 0 1 (flow-of true 5 10)) 7) .dropped ≡ 2058)
     × ((closed (withFlow one 0 3 (flow-of true 5 2048)) 7) .code ≡ 0) × ((closed (withFlow one 0 3 (flow-of true 5 2048)) 7) .table ≡ empty)
     × ((closed one 7) .table ≡ empty) × ((closed one 7) .dropped ≡ 0) × ((closed one 8) .code ≡ 25) × ((closed one 0) .code ≡ 25) × ((closed empty 0) .code ≡ 25)
     × ((closed (withFlow one 0 3 (flow-of true 5 10)) 8) .dropped ≡ 0)
 unfolding opened closed broken any least sumTo
-closes = (refl, refl, refl, refl, refl, refl, refl, refl, refl, refl)
+closes-answered = (refl, refl, refl, refl, refl, refl, refl, refl, refl, refl)
 
 -- 13 comes first, and from a row that has nothing to do with the call: row 5 is closed and not all zero
 elsewhere : ((openedAs (withFlow one 5 3 (flow-of true 0 0)) 9 mode.Psp) .code ≡ 13) × ((openedAs (withFlow one 5 3 (flow-of true 0 0)) 0 mode.Psp) .code ≡ 13)
