@@ -57,7 +57,7 @@ static void put_header(struct calls *calls, size_t row, size_t flow, bool number
     put_16(packet + 2, FIRST_SESSION + (uint32_t)row);
     packet[4] = (uint8_t)((numbered ? 0x40 : 0) | (one_in(calls, 8) ? 0x08 : 0) | flow);
     packet[5] = (uint8_t)((one_in(calls, 8) ? 0x80 : 0) | count);
-    put_16(packet + 6, some_number(calls, calls->table.expected[row][flow]));
+    put_16(packet + 6, some_number(calls, calls->table.rows[row].flows[flow].expected));
 }
 
 /* Lengths that fill a frame to 2,048 or pass it come up, as do short ones, and rarely none. */
@@ -86,7 +86,7 @@ static size_t make_psp(struct calls *calls)
 
     put_header(calls, row, flow, true, count);
     for (uint32_t segment = 0; segment < count; segment++) {
-        uint32_t held = segment == 0 ? calls->table.held[row][flow] : 0;
+        uint32_t held = segment == 0 ? calls->table.rows[row].flows[flow].held : 0;
         uint32_t part = count > 3 ? 1 + below(calls, 31) : some_length(calls, held);
         bool begins = segment > 0 || one_in(calls, 2);
         bool ends = segment + 1 < count || one_in(calls, 2);

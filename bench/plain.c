@@ -64,49 +64,44 @@ static struct plain_counts refused(uint32_t code)
 
 /* --- the table --- */
 
-/* Rule 13, in three parts. The first asks of every flow what holds whatever its row is; no early exit, so that the compiler can take
- * eight flows at a time. */
-static bool some_flow_is_broken(const struct sklyapina_table *table)
+/* Rule 13, in two parts. The first asks of each row what its kind asks for: whether a flow may have accepted a number, and how much it
+ * may then hold. One that has not is all zeros. */
+static bool flow_is_broken(const struct sklyapina_flow *flow, bool may_have_number, uint16_t most)
 {
-    const uint16_t *heard = table->heard[0];
-    const uint16_t *expected = table->expected[0];
-    const uint16_t *held = table->held[0];
-    bool broken = false;
-
-    for (size_t flow = 0; flow < SKLYAPINA_ROWS * SKLYAPINA_FLOWS; flow++)
-        broken |= (heard[flow] > 1) | (held[flow] > SKLYAPINA_LONGEST_FRAME)
-            | ((heard[flow] == 0) & ((expected[flow] | held[flow]) != 0));
-    return broken;
+    if (flow->heard == 1)
+        return !may_have_number || flow->held > most;
+    return (flow->heard | flow->expected | flow->held) != 0;
 }
 
-/* The second asks what the row's kind asks for besides. A flow that heard nothing is known to hold nothing. */
-static bool row_is_broken(const struct sklyapina_table *table, size_t row)
+static bool flows_are_broken(const struct sklyapina_flow *flows, bool first_may, bool others_may, uint16_t most)
 {
-    const uint16_t *heard = table->heard[row];
-
-    if (table->kind[row] == SKLYAPINA_KIND_PSP)
-        return table->id[row] == 0;
-    if (table->kind[row] == SKLYAPINA_KIND_DMPT)
-        return table->id[row] == 0 || table->held[row][0] != 0 || (heard[1] | heard[2] | heard[3]) != 0;
-    return (table->kind[row] | table->id[row]) != 0 || (heard[0] | heard[1] | heard[2] | heard[3]) != 0;
+    return flow_is_broken(&flows[0], first_may, most) || flow_is_broken(&flows[1], others_may, most)
+        || flow_is_broken(&flows[2], others_may, most) || flow_is_broken(&flows[3], others_may, most);
 }
 
-/* The third: a closed row's ID is 0 and an open one's is not, so only open rows are compared by ID. */
+static bool row_is_broken(const struct sklyapina_row *row)
+{
+    if (row->kind == SKLYAPINA_KIND_PSP)
+        return row->id == 0 || flows_are_broken(row->flows, true, true, SKLYAPINA_LONGEST_FRAME);
+    if (row->kind == SKLYAPINA_KIND_DMPT)
+        return row->id == 0 || flows_are_broken(row->flows, true, false, 0);
+    return (row->kind | row->id) != 0 || flows_are_broken(row->flows, false, false, 0);
+}
+
+/* The second: a closed row's ID is 0 and an open one's is not, so only open rows are compared by ID. */
 static bool some_id_is_open_twice(const struct sklyapina_table *table)
 {
     for (size_t row = 1; row < SKLYAPINA_ROWS; row++)
         for (size_t earlier = 0; earlier < row; earlier++)
-            if (table->id[row] == table->id[earlier] && table->id[row] != 0)
+            if (table->rows[row].id == table->rows[earlier].id && table->rows[row].id != 0)
                 return true;
     return false;
 }
 
 static bool table_is_broken(const struct sklyapina_table *table)
 {
-    if (some_flow_is_broken(table))
-        return true;
     for (size_t row = 0; row < SKLYAPINA_ROWS; row++)
-        if (row_is_broken(table, row))
+        if (row_is_broken(&table->rows[row]))
             return true;
     return some_id_is_open_twice(table);
 }
@@ -116,33 +111,21 @@ static size_t row_of(const struct sklyapina_table *table, uint32_t id)
 {
     size_t row = 0;
 
-    while (row < SKLYAPINA_ROWS && table->id[row] != id)
+    while (row < SKLYAPINA_ROWS && table->rows[row].id != id)
         row++;
     return row;
 }
 
-/* Where the numbers of one flow stand. */
-struct flow {
-    uint16_t *heard;
-    uint16_t *expected;
-    uint16_t *held;
-};
-
-static struct flow flow_of(struct sklyapina_table *table, size_t row, size_t flow)
-{
-    return (struct flow){ &table->heard[row][flow], &table->expected[row][flow], &table->held[row][flow] };
-}
-
 /* The gap before a number; from LATE_FROM on, the packet is late. */
-static uint32_t gap_before(struct flow flow, unsigned number)
+static uint32_t gap_before(const struct sklyapina_flow *flow, unsigned number)
 {
-    return *flow.heard ? (uint16_t)(number - *flow.expected) : 0;
+    return flow->heard ? (uint16_t)(number - flow->expected) : 0;
 }
 
-static void expect_next(struct flow flow, unsigned number)
+static void expect_next(struct sklyapina_flow *flow, unsigned number)
 {
-    *flow.heard = 1;
-    *flow.expected = (uint16_t)(number + 1);
+    flow->heard = 1;
+    flow->expected = (uint16_t)(number + 1);
 }
 
 /* --- PSP --- */
@@ -260,13 +243,13 @@ static void join_start(struct joining *joining, struct plain_counts *counts)
 
 /* The join rule, for a packet that was accepted. Only its first segment may lack B and only its last may
  * lack E. */
-static struct plain_counts join(struct flow flow, uint8_t *place, const uint8_t *packet,
+static struct plain_counts join(struct sklyapina_flow *flow, uint8_t *place, const uint8_t *packet,
                                 uint32_t gap, struct delivery to)
 {
     struct plain_counts counts = { .gap = gap };
     const uint8_t *entries = packet + HEADER_SIZE;
     const uint8_t *bodies = entries + 2 * (packet[5] & COUNT);
-    struct joining joining = { entries, bodies, bodies, place, *flow.held };
+    struct joining joining = { entries, bodies, bodies, place, flow->held };
     bool begins = big_endian_16(entries) & BEGINS;
 
     if (gap > 0 || begins) {
@@ -278,22 +261,22 @@ static struct plain_counts join(struct flow flow, uint8_t *place, const uint8_t 
     join_whole(&joining, &counts, to);
     if (joining.entry < joining.past)
         join_start(&joining, &counts);
-    *flow.held = (uint16_t)joining.held;
+    flow->held = (uint16_t)joining.held;
     return counts;
 }
 
-static struct plain_counts receive_psp(struct sklyapina_table *table, size_t row, uint8_t *places, const uint8_t *packet,
+static struct plain_counts receive_psp(struct sklyapina_flow *flows, uint8_t *places, const uint8_t *packet,
                                        size_t length, struct delivery to)
 {
     uint32_t code = check_psp(packet, length);
     size_t number_of_flow = packet[4] & FLOW;
     unsigned number = big_endian_16(packet + 6);
-    struct flow flow;
+    struct sklyapina_flow *flow;
     uint32_t gap;
 
     if (code != ACCEPTED)
         return refused(code);
-    flow = flow_of(table, row, number_of_flow);
+    flow = &flows[number_of_flow];
     gap = gap_before(flow, number);
     if (gap >= LATE_FROM)
         return refused(LATE);
@@ -320,7 +303,7 @@ static uint32_t check_dmpt(const uint8_t *packet, size_t length)
     return ACCEPTED;
 }
 
-static struct plain_counts receive_dmpt(struct flow flow, const uint8_t *packet, size_t length,
+static struct plain_counts receive_dmpt(struct sklyapina_flow *flow, const uint8_t *packet, size_t length,
                                         struct delivery to)
 {
     uint32_t code = check_dmpt(packet, length);
@@ -375,9 +358,9 @@ struct plain_counts plain_receive_in_place(struct sklyapina_table *table,
     row = row_of(table, session);
     if (row == SKLYAPINA_ROWS)
         return refused(SESSION_NOT_OPEN);
-    if (table->kind[row] == SKLYAPINA_KIND_DMPT)
-        return receive_dmpt(flow_of(table, row, 0), packet, packet_length, to);
-    return receive_psp(table, row, holding + row * SKLYAPINA_FLOWS * SKLYAPINA_LONGEST_FRAME, packet,
+    if (table->rows[row].kind == SKLYAPINA_KIND_DMPT)
+        return receive_dmpt(&table->rows[row].flows[0], packet, packet_length, to);
+    return receive_psp(table->rows[row].flows, holding + row * SKLYAPINA_FLOWS * SKLYAPINA_LONGEST_FRAME, packet,
                        packet_length, to);
 }
 

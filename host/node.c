@@ -115,14 +115,14 @@ static void print_session(const struct card *card, size_t row, const char *state
     printf(" %lu %lu %lu %lu %lu", session->packets, session->frames, session->bytes, session->dropped,
            session->missing);
     for (size_t flow = 0; flow < SKLYAPINA_FLOWS; flow++)
-        printf(" %u", (unsigned int)card->table.held[row][flow]);
+        printf(" %u", (unsigned int)card->table.rows[row].flows[flow].held);
     printf("\n");
 }
 
 static void print_open_sessions(const struct card *card)
 {
     for (size_t row = 0; row < SKLYAPINA_ROWS; row++)
-        if (card->table.kind[row] != SKLYAPINA_KIND_CLOSED)
+        if (card->table.rows[row].kind != SKLYAPINA_KIND_CLOSED)
             print_session(card, row, "open");
 }
 
@@ -185,7 +185,7 @@ static size_t row_of(const struct sklyapina_table *table, uint32_t id)
 {
     size_t row = 0;
 
-    while (row < SKLYAPINA_ROWS && (table->kind[row] == SKLYAPINA_KIND_CLOSED || table->id[row] != id))
+    while (row < SKLYAPINA_ROWS && (table->rows[row].kind == SKLYAPINA_KIND_CLOSED || table->rows[row].id != id))
         row++;
     return row;
 }

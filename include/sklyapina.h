@@ -2,7 +2,7 @@
  * packets and sending them, as document 01 defines it; and MPEG packets for the modulator, as document 02 asks
  * for them (W3).
  *
- * The library is target/staticlib/libhost.a, made by `rt staticlib host`. It is for x86-64, and needs no
+ * The library is target/staticlib/libsklyapina.a, made by `rt staticlib sklyapina`. It is for x86-64, and needs no
  * other library but the C library's memcpy, memmove and memset.
  *
  * Of every call it is proved:
@@ -10,7 +10,7 @@
  * - It answers, whatever it is given: any numbers, any bytes, any lengths. Either it does its work and
  *   answers SKLYAPINA_NONE, or it refuses with the one number of enum sklyapina_refusal that the papers
  *   give, and then nothing has changed: the table in the answer is the one that was passed, number by
- *   number, and no element of any array was written.
+ *   number, and every element of every array is as it was.
  * - It reads and writes only inside the arrays that it is lent.
  *
  * And it keeps nothing, since its language has no means to: no pointer outlives its call, nothing is
@@ -25,8 +25,9 @@
  *   address of any object of the element's type.
  * - An array that a call may write overlaps no other array of that call.
  *
- * Nothing compares this file with the library's source, crates/host/src: each declaration here is a copy by
- * hand. tests/calls and host/run link the two and compare what comes out. */
+ * Nothing compares this file with the library's source, crates/sklyapina/src and the structs of the crates
+ * below it: each declaration here is a copy by hand. tests/calls and host/run link the two and compare what
+ * comes out. */
 #ifndef SKLYAPINA_H
 #define SKLYAPINA_H
 
@@ -49,7 +50,7 @@ enum {
     SKLYAPINA_MPEG_LENGTH = 188      /* bytes of an MPEG packet */
 };
 
-/* What a session is, and what the packet check takes a packet for. */
+/* What a row of the table is, what an open asks for, and what the packet check takes a packet for. */
 enum sklyapina_kind {
     SKLYAPINA_KIND_CLOSED = 0, /* in tables only: no session */
     SKLYAPINA_KIND_PSP = 1,    /* frames, whole or in segments */
@@ -93,7 +94,7 @@ enum sklyapina_refusal {
     SKLYAPINA_ALREADY_OPEN = 22,
     SKLYAPINA_ALL_ROWS_OPEN = 23,
     SKLYAPINA_KIND_UNKNOWN = 24,  /* an open or a packet check with a kind that is neither PSP nor D-MPT */
-    SKLYAPINA_CLOSE_OF_NONE = 25, /* this session is not open */
+    SKLYAPINA_CLOSE_OF_NONE = 25, /* this session is not open, or the ID is 0 */
 
     /* A send. */
     SKLYAPINA_ADDRESS_OUTSIDE = 31,  /* session ID 0, or a flow above 3 */
@@ -118,17 +119,27 @@ enum sklyapina_refusal {
  * `struct sklyapina_table table = { 0 };` is how a card starts (in C++ `{}`).
  *
  * The caller keeps the table, and hands it to each call that asks for it; the answer has the table
- * afterwards, which takes its place. Nobody needs to write in it. Whoever does is found out by rule 13 wherever
- * no call of this library could have left what stands there: an open row with ID 0; an ID open in two rows; a closed row
- * that is not all zeros; a flow that holds more than 2,048 bytes; a flow that heard nothing and yet expects a
- * number other than 0 or holds bytes; a D-MPT row that holds bytes, or of which another flow than 0 heard
- * something; a kind above 2 or a mark above 1. Such a table is refused as a whole, and never trusted. */
+ * afterwards, which takes its place. Nobody needs to write in it. A table is refused as a whole, by 13, where an
+ * open row has ID 0; an ID is open in two rows; a closed row (kind 0) is not all zeros; a flow holds more than
+ * 2,048 bytes; a flow with heard 0 has expected or held other than 0; a D-MPT row holds bytes, or has heard 1 in
+ * flow 1, 2 or 3; a kind is above 2, or heard is above 1. Any other table is believed: 13 cannot notice a change to
+ * numbers that a call might have left, and it never looks at the holding places.
+ *
+ * The table has no padding: two tables are the same if and only if memcmp says so. */
+struct sklyapina_flow {
+    uint16_t heard;    /* 1 if the flow accepted a sequence number since its session was opened, else 0 */
+    uint16_t expected; /* the sequence number that should come next; 0 while heard is 0 */
+    uint16_t held;     /* bytes of an unfinished frame in the flow's place */
+};
+
+struct sklyapina_row {
+    uint32_t id;   /* the session's ID; 0 in a closed row */
+    uint32_t kind; /* enum sklyapina_kind */
+    struct sklyapina_flow flows[SKLYAPINA_FLOWS];
+};
+
 struct sklyapina_table {
-    uint32_t id[SKLYAPINA_ROWS];   /* the session's ID; 0 in a closed row */
-    uint32_t kind[SKLYAPINA_ROWS]; /* enum sklyapina_kind */
-    uint16_t heard[SKLYAPINA_ROWS][SKLYAPINA_FLOWS];    /* 1 if the flow accepted a number since it was opened, or 0 */
-    uint16_t expected[SKLYAPINA_ROWS][SKLYAPINA_FLOWS]; /* the sequence number that should come next */
-    uint16_t held[SKLYAPINA_ROWS][SKLYAPINA_FLOWS];     /* bytes of an unfinished frame in the flow's place */
+    struct sklyapina_row rows[SKLYAPINA_ROWS];
 };
 
 /* Is this packet well formed for a session of this kind? It knows no table, so it says nothing of
@@ -194,9 +205,9 @@ struct sklyapina_closing sklyapina_close(struct sklyapina_table table, uint32_t 
  * bytes    how long they are together: so many bytes of output were written
  * dropped  how many bytes, of this packet or held from earlier ones, will never be delivered
  * gap      how many packets are missing before this one, by its sequence number
- * table    the table afterwards: one flow has changed
+ * table    the table afterwards: at most the packet's flow has changed (nothing, for D-MPT with the S bit clear)
  *
- * and in holding only the place of that flow was written, no more of it than the flow holds now. Refused:
+ * and in holding at most the first bytes of that flow's place have changed, as many as the flow holds now. Refused:
  * all counts are 0, and table and arrays are as they were. */
 struct sklyapina_received {
     uint32_t code;
@@ -306,22 +317,36 @@ struct sklyapina_mpeg_packet sklyapina_mpeg_null(void);
 #define SKLYAPINA_ASSERT _Static_assert
 #endif
 
-/* The library was compiled for these sizes and places. */
+/* The library was compiled for these sizes and places. sklyapina_sent, sklyapina_mpeg_written and
+ * sklyapina_mpeg_read_back have padding, whose bytes mean nothing: compare their fields. */
 SKLYAPINA_ASSERT(sizeof(size_t) == 8, "the library is for 64-bit machines");
+SKLYAPINA_ASSERT(sizeof(struct sklyapina_flow) == 6, "flow");
+SKLYAPINA_ASSERT(offsetof(struct sklyapina_flow, heard) == 0, "flow");
+SKLYAPINA_ASSERT(offsetof(struct sklyapina_flow, expected) == 2, "flow");
+SKLYAPINA_ASSERT(offsetof(struct sklyapina_flow, held) == 4, "flow");
+SKLYAPINA_ASSERT(sizeof(struct sklyapina_row) == 32, "row");
+SKLYAPINA_ASSERT(offsetof(struct sklyapina_row, id) == 0, "row");
+SKLYAPINA_ASSERT(offsetof(struct sklyapina_row, kind) == 4, "row");
+SKLYAPINA_ASSERT(offsetof(struct sklyapina_row, flows) == 8, "row");
 SKLYAPINA_ASSERT(sizeof(struct sklyapina_table) == 192, "table");
-SKLYAPINA_ASSERT(offsetof(struct sklyapina_table, kind) == 24, "table");
-SKLYAPINA_ASSERT(offsetof(struct sklyapina_table, heard) == 48, "table");
-SKLYAPINA_ASSERT(offsetof(struct sklyapina_table, expected) == 96, "table");
-SKLYAPINA_ASSERT(offsetof(struct sklyapina_table, held) == 144, "table");
+SKLYAPINA_ASSERT(offsetof(struct sklyapina_table, rows) == 0, "table");
 SKLYAPINA_ASSERT(sizeof(struct sklyapina_opening) == 196, "opening");
 SKLYAPINA_ASSERT(offsetof(struct sklyapina_opening, table) == 4, "opening");
 SKLYAPINA_ASSERT(sizeof(struct sklyapina_closing) == 200, "closing");
+SKLYAPINA_ASSERT(offsetof(struct sklyapina_closing, dropped) == 4, "closing");
 SKLYAPINA_ASSERT(offsetof(struct sklyapina_closing, table) == 8, "closing");
 SKLYAPINA_ASSERT(sizeof(struct sklyapina_received) == 212, "received");
+SKLYAPINA_ASSERT(offsetof(struct sklyapina_received, frames) == 4, "received");
+SKLYAPINA_ASSERT(offsetof(struct sklyapina_received, bytes) == 8, "received");
+SKLYAPINA_ASSERT(offsetof(struct sklyapina_received, dropped) == 12, "received");
 SKLYAPINA_ASSERT(offsetof(struct sklyapina_received, gap) == 16, "received");
 SKLYAPINA_ASSERT(offsetof(struct sklyapina_received, table) == 20, "received");
 SKLYAPINA_ASSERT(sizeof(struct sklyapina_position) == 16, "position");
+SKLYAPINA_ASSERT(offsetof(struct sklyapina_position, frame) == 0, "position");
+SKLYAPINA_ASSERT(offsetof(struct sklyapina_position, offset) == 8, "position");
 SKLYAPINA_ASSERT(sizeof(struct sklyapina_stretch) == 16, "stretch");
+SKLYAPINA_ASSERT(offsetof(struct sklyapina_stretch, place) == 0, "stretch");
+SKLYAPINA_ASSERT(offsetof(struct sklyapina_stretch, length) == 8, "stretch");
 SKLYAPINA_ASSERT(sizeof(struct sklyapina_sent) == 40, "sent");
 SKLYAPINA_ASSERT(offsetof(struct sklyapina_sent, length) == 8, "sent");
 SKLYAPINA_ASSERT(offsetof(struct sklyapina_sent, position) == 16, "sent");

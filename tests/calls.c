@@ -7,13 +7,13 @@
 
 static void next_table(struct sklyapina_table *table)
 {
-    for (size_t row = 0; row < SKLYAPINA_ROWS; row++) {
-        table->id[row] = (uint32_t)next_number(4);
-        table->kind[row] = (uint32_t)next_number(4);
-        for (size_t flow = 0; flow < SKLYAPINA_FLOWS; flow++) {
-            table->heard[row][flow] = (uint16_t)next_number(2);
-            table->expected[row][flow] = (uint16_t)next_number(2);
-            table->held[row][flow] = (uint16_t)next_number(2);
+    for (struct sklyapina_row *row = table->rows; row < table->rows + SKLYAPINA_ROWS; row++) {
+        row->id = (uint32_t)next_number(4);
+        row->kind = (uint32_t)next_number(4);
+        for (struct sklyapina_flow *flow = row->flows; flow < row->flows + SKLYAPINA_FLOWS; flow++) {
+            flow->heard = (uint16_t)next_number(2);
+            flow->expected = (uint16_t)next_number(2);
+            flow->held = (uint16_t)next_number(2);
         }
     }
 }
@@ -93,25 +93,30 @@ static void make_call(unsigned call, const uint64_t *in, uint64_t *out)
 
 static void print_table(const struct sklyapina_table *table)
 {
-    for (size_t row = 0; row < SKLYAPINA_ROWS; row++) {
-        printf("  row %zu: id %lu, kind %lu;", row, (unsigned long)table->id[row],
-               (unsigned long)table->kind[row]);
+    for (size_t place = 0; place < SKLYAPINA_ROWS; place++) {
+        const struct sklyapina_row *row = &table->rows[place];
+        printf("  row %zu: id %lu, kind %lu;", place, (unsigned long)row->id, (unsigned long)row->kind);
         for (size_t flow = 0; flow < SKLYAPINA_FLOWS; flow++) {
-            printf(" %u %u %u%s", table->heard[row][flow], table->expected[row][flow], table->held[row][flow],
+            printf(" %u %u %u%s", row->flows[flow].heard, row->flows[flow].expected, row->flows[flow].held,
                    flow + 1 < SKLYAPINA_FLOWS ? "," : "\n");
         }
     }
 }
 
+static bool same_row(const struct sklyapina_row *one, const struct sklyapina_row *other)
+{
+    bool same = one->id == other->id && one->kind == other->kind;
+    for (size_t flow = 0; flow < SKLYAPINA_FLOWS; flow++)
+        same = same && one->flows[flow].heard == other->flows[flow].heard
+            && one->flows[flow].expected == other->flows[flow].expected
+            && one->flows[flow].held == other->flows[flow].held;
+    return same;
+}
+
 static void compare_tables(const struct sklyapina_table *library, const struct sklyapina_table *second)
 {
     for (size_t row = 0; row < SKLYAPINA_ROWS; row++) {
-        bool same = library->id[row] == second->id[row] && library->kind[row] == second->kind[row];
-        for (size_t flow = 0; flow < SKLYAPINA_FLOWS; flow++)
-            same = same && library->heard[row][flow] == second->heard[row][flow]
-                && library->expected[row][flow] == second->expected[row][flow]
-                && library->held[row][flow] == second->held[row][flow];
-        if (same)
+        if (same_row(&library->rows[row], &second->rows[row]))
             continue;
         print_call();
         printf("the table that comes back differs in row %zu; library:\n", row);

@@ -178,30 +178,30 @@ fn closes(recorder: &mut Recorder) -> Recorded<()> {
 fn broken_tables(recorder: &mut Recorder) -> Recorded<()> {
     let mut dice = Dice::new(0x13);
     for breach in tables::breaches() {
-        three_calls(recorder, &mut dice, breach.case, &breach, &breach.broken)?;
-        three_calls(recorder, &mut dice, "just not broken", &breach, &breach.neighbour)?;
+        calls_of_each_sort(recorder, &mut dice, breach.case, &breach, &breach.broken)?;
+        calls_of_each_sort(recorder, &mut dice, "just not broken", &breach, &breach.neighbour)?;
     }
     Ok(())
 }
 
-/// A packet for the flow in question, an open of a new ID, and a close of the row: all would succeed on a sound table
-/// that has room.
-fn three_calls(
+/// A packet for the flow in question and a close of its row; both for the next row too, which is open, since a broken table
+/// is refused as a whole; and an open of a new ID. On a sound table all would succeed that find the row open, or room.
+fn calls_of_each_sort(
     recorder: &mut Recorder,
     dice: &mut Dice,
     case: &'static str,
     breach: &tables::Breach,
     table: &RawTable,
 ) -> Recorded<()> {
-    let addressed = match breach.neighbour.rows[breach.row].kind {
-        CLOSED => table.rows[(breach.row + 1) % ROWS],
-        _ => RawRow { kind: breach.neighbour.rows[breach.row].kind, ..table.rows[breach.row] },
-    };
-    let packet = aimed::for_flow(dice, &addressed, breach.flow, 0);
-    recorder.receive(case, table, &packet)?;
+    // A packet is of the kind that the row has where nothing is wrong with it.
+    let in_question = RawRow { kind: breach.neighbour.rows[breach.row].kind, ..table.rows[breach.row] };
+    for addressed in [in_question, table.rows[(breach.row + 1) % ROWS]] {
+        let packet = aimed::for_flow(dice, &addressed, breach.flow, 0);
+        recorder.receive(case, table, &packet)?;
+        recorder.close(case, table, addressed.id)?;
+    }
     let id = new_id(dice, table);
     recorder.open(case, table, id, dice.pick(&[PSP, DMPT]))?;
-    recorder.close(case, table, addressed.id)?;
     Ok(())
 }
 

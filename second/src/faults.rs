@@ -57,6 +57,7 @@ pub enum Fault {
     LongestSentFrameRefused,
     // Tables in plain numbers.
     ForeignKindTrusted,
+    KindOfSixteenBits,
     ForeignMarkTrusted,
     TwinsTrusted,
     ClosedRowUnjudged,
@@ -198,8 +199,9 @@ pub const FILES: [(Fault, &str, &str); 41] = [
 ];
 
 /// The faults that only calls can show, with tables, slices and positions of the caller's.
-pub const CALLS: [(Fault, &str, &str); 22] = [
+pub const CALLS: [(Fault, &str, &str); 23] = [
     (Fault::ForeignKindTrusted, "foreign-kind-trusted", "A row of a kind above 2 is taken for an open PSP row."),
+    (Fault::KindOfSixteenBits, "kind-of-16-bits", "A row's kind is judged by its lower 16 bits."),
     (Fault::ForeignMarkTrusted, "foreign-mark-trusted", "A flow's mark above 1 is taken for 1."),
     (Fault::TwinsTrusted, "twins-trusted", "An open ID may stand in two rows."),
     (Fault::ClosedRowUnjudged, "closed-row-unjudged", "A closed row may have something in it."),

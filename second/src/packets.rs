@@ -16,8 +16,8 @@ const MOST_SEGMENTS: usize = 127;
 const MOST_MPEG_PACKETS: usize = 21;
 const SESSION: u32 = 0x0000_0101;
 
-/// Kinds that there are not; 257, 65,538 and 2^31 + 1 would be 1 or 2 to who reads only some of the bits.
-const OTHER_KINDS: [u32; 8] = [0, 3, 255, 257, 65_538, 1 << 31, (1 << 31) + 1, u32::MAX];
+/// Kinds that there are not; 257, 65,537, 65,538 and 2^31 + 1 would be 1 or 2 to who reads only some of the bits.
+const OTHER_KINDS: [u32; 9] = [0, 3, 255, 257, 65_537, 65_538, 1 << 31, (1 << 31) + 1, u32::MAX];
 /// One packet in so many is asked as one of them.
 const PACKETS_PER_OTHER_KIND: usize = 6;
 

@@ -1,8 +1,9 @@
-//! The table in plain numbers, as the card's host program hands it over and is given it back; refusal 13.
+//! The table as the card's host program keeps it, hands it over and is given it back; refusal 13.
 //!
-//! Document 01, 'The card in numbers' and 'Refusal numbers'. `card` keeps sessions in a map, where most of what makes a
-//! table broken cannot be written down. Here every number can: kinds that there are not, marks that are neither 0 nor 1,
-//! closed rows with something in them. A sound table and its holding slice become a card, and a card becomes a table.
+//! Document 01, 'The card in numbers' and 'Refusal numbers': six rows, each with an ID, a kind and four flows. `card` keeps
+//! sessions in a map, where most of what makes a table broken cannot be written down. Here all of it can, as the kind and
+//! the mark are numbers like the rest: kinds that there are not, marks that are neither 0 nor 1, closed rows with something
+//! in them. A sound table and its holding slice become a card, and a card becomes a table.
 
 use crate::card::{Card, Flow, Session, FLOWS, LONGEST_FRAME, ROWS};
 use crate::faults::{Fault, Faults};
@@ -60,7 +61,8 @@ impl RawRow {
     }
 
     fn is_broken(&self, faults: Faults) -> bool {
-        match self.kind {
+        let kind = if faults.has(Fault::KindOfSixteenBits) { self.kind & 0xFFFF } else { self.kind };
+        match kind {
             CLOSED => *self != RawRow::default() && !faults.has(Fault::ClosedRowUnjudged),
             PSP => self.open_is_broken(faults),
             DMPT => self.open_is_broken(faults) || self.dmpt_is_broken(faults),
@@ -179,6 +181,8 @@ mod tests {
     #[test]
     fn a_closed_row_that_is_not_all_zero_is_broken() {
         assert!(broken_by(|table| table.rows[0].id = 1));
+        assert!(broken_by(|table| table.rows[0].kind = PSP));
+        assert!(broken_by(|table| table.rows[0].kind = DMPT));
         for flow in 0..FLOWS {
             assert!(broken_by(|table| table.rows[5].flows[flow].heard = 1));
             assert!(broken_by(|table| table.rows[5].flows[flow].expected = 1));
@@ -204,9 +208,10 @@ mod tests {
 
     #[test]
     fn foreign_kinds_and_marks_are_broken() {
-        for kind in [3, 255, 256, 257, 1 << 31, u32::MAX] {
+        for kind in [3, 255, 256, 257, 65_536, 65_537, 65_538, 1 << 31, u32::MAX] {
             assert!(broken_by(|table| table.rows[0].kind = kind));
             assert!(broken_by(|table| table.rows[1].kind = kind));
+            assert!(broken_by(|table| table.rows[3].kind = kind));
         }
         for heard in [2, 255, 256, 0x0101, 65_535] {
             assert!(broken_by(|table| table.rows[1].flows[0].heard = heard));

@@ -12,9 +12,11 @@
 //!   as in a write.
 //! - 0, the end: how many calls there were (4 bytes).
 //!
-//! Numbers are big-endian. Arrays keep what they have from call to call; between calls only fills and writes change them.
-//! Before each call that may write output or lengths, their beginnings are filled anew: what the call before wrote there
-//! would hide a call that writes the same though it is refused, or does not write though it should.
+//! A table is written row by row: ID and kind, 4 bytes each; then for each of its flows the mark, the expected number and
+//! how many bytes it holds, 2 bytes each. Numbers are big-endian. Arrays keep what they have from call to call; between
+//! calls only fills and writes change them. Before each call that may write output or lengths, their beginnings are filled
+//! anew: what the call before wrote there would hide a call that writes the same though it is refused, or does not write
+//! though it should.
 
 use std::io::{self, Write};
 

@@ -8,8 +8,8 @@ use crate::dice::Dice;
 use crate::raw::{RawFlow, RawRow, RawTable, CLOSED, DMPT, PSP};
 
 /// Kinds that there are not; some would be 0, 1 or 2 to who reads only some of the bits.
-pub const FOREIGN_KINDS: [u32; 12] =
-    [3, 4, 255, 256, 257, 258, 65_536, 65_537, 1 << 31, (1 << 31) + 1, (1 << 31) + 2, u32::MAX];
+pub const FOREIGN_KINDS: [u32; 13] =
+    [3, 4, 255, 256, 257, 258, 65_536, 65_537, 65_538, 1 << 31, (1 << 31) + 1, (1 << 31) + 2, u32::MAX];
 /// Marks that there are not.
 pub const FOREIGN_MARKS: [u16; 9] = [2, 3, 255, 256, 0x0101, 0x8000, 0x8001, 65_534, 65_535];
 /// Expected numbers, and numbers of bytes, that are not 0; some are to who reads only some of the bits.
@@ -128,6 +128,7 @@ fn row_breaches(dice: &mut Dice, row: usize) -> Vec<Breach> {
     };
     for kind in [PSP, DMPT] {
         add("broken: open row with ID 0", with_row(dice, row, kind), &|table| table.rows[row].id = 0);
+        add("broken: open row with ID 0", with_row(dice, row, CLOSED), &|table| table.rows[row].kind = kind);
     }
     for kind in FOREIGN_KINDS {
         for before in [CLOSED, PSP, DMPT] {
@@ -199,7 +200,7 @@ fn flow_breaches(dice: &mut Dice, row: usize, flow: usize) -> Vec<Breach> {
     all
 }
 
-/// What a D-MPT row may not have in a flow: bytes; in flows 1 to 3 also a number, even one that is 0.
+/// What a D-MPT row may not have in a flow: bytes, and a number expected by a fresh one; flows 1 to 3 are always fresh.
 fn dmpt_breaches(dice: &mut Dice, row: usize, flow: usize) -> Vec<Breach> {
     let mut all = Vec::new();
     let mut add = |case: &'static str, sound: RawFlow, put: RawFlow| {
@@ -211,15 +212,20 @@ fn dmpt_breaches(dice: &mut Dice, row: usize, flow: usize) -> Vec<Breach> {
     for held in HELD {
         add("broken: D-MPT row with bytes held", sound, RawFlow { held, ..sound });
     }
+    for expected in EXPECTED {
+        let fresh = RawFlow { heard: 0, expected, held: 0 };
+        let sound = if flow == 0 { RawFlow { heard: 1, ..fresh } } else { sound };
+        add("broken: fresh flow with a number expected", sound, fresh);
+    }
     if flow > 0 {
         for expected in [0, 1, 65_535] {
             let heard = RawFlow { heard: 1, expected, held: 0 };
             add("broken: D-MPT row with flow 1 to 3 heard", sound, heard);
         }
     } else {
-        for expected in EXPECTED {
-            let heard = RawFlow { heard: 1, expected, held: 0 };
-            add("broken: fresh flow with a number expected", heard, RawFlow { heard: 0, ..heard });
+        for held in HELD {
+            let fresh = RawFlow { heard: 0, expected: 0, held };
+            add("broken: D-MPT row with bytes held", RawFlow::default(), fresh);
         }
     }
     all
@@ -275,6 +281,31 @@ mod tests {
         for breach in breaches() {
             assert!(breach.broken.is_broken(Faults::NONE), "{breach:?}");
             assert!(!breach.neighbour.is_broken(Faults::NONE), "{breach:?}");
+        }
+    }
+
+    /// The 14 numbers of a row: ID, kind, and three of each flow.
+    fn numbers(row: &RawRow) -> Vec<u32> {
+        let flows = row.flows.iter().flat_map(|flow| [flow.heard, flow.expected, flow.held]);
+        [row.id, row.kind].into_iter().chain(flows.map(u32::from)).collect()
+    }
+
+    #[test]
+    fn each_number_of_a_closed_row_is_a_breach_by_itself() {
+        let zeros = vec![0; 14];
+        for row in 0..ROWS {
+            let rows = breaches().into_iter().filter(|breach| breach.row == row).map(|breach| breach.broken.rows[row]);
+            let rows: Vec<Vec<u32>> = rows.map(|row| numbers(&row)).collect();
+            for place in 0..zeros.len() {
+                let others_zero = |row: &&Vec<u32>| {
+                    let mut others = (*row).clone();
+                    others[place] = 0;
+                    others == zeros
+                };
+                let here: Vec<u32> = rows.iter().filter(others_zero).map(|row| row[place]).collect();
+                let expected = if place == 1 { vec![1, 2, 3, 65_537, 65_538, u32::MAX] } else { vec![1] };
+                assert!(expected.iter().all(|number| here.contains(number)), "row {row}, number {place}: {here:?}");
+            }
         }
     }
 

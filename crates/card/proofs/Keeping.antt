@@ -13,7 +13,7 @@ use Rattle.refusal.specs.Refusal.{first}
 use Rattle.refusal.proofs.Laws.{and-left}
 use Rattle.flow.specs.declared.Flow.{Flow}
 use Rattle.flow.specs.declared.Judged.{Judged}
-use Rattle.flow.specs.Flow.{flows, judge}
+use Rattle.flow.specs.Flow.{flows, heardMark, judge}
 use Rattle.flow.proofs.Judging.{judge-sound}
 use Rattle.packet.specs.Header.{Packet, sSet, number, sub, sessionId}
 use Rattle.packet.specs.Dmpt.{dmptRefusals}
@@ -28,7 +28,7 @@ use Rattle.join.proofs.Carrying.{dmpt-header, dmpt-holds-none}
 use Rattle.card.specs.Hear.{widthIn, hear, recordAfter}
 use Rattle.card.specs.Receive.{rowOf, flowTo, flowOf, heardBy, carriedOut, refused, received}
 use Rattle.card.proofs.ByKind.{refusals-dmpt, refusals-psp}
-use Rattle.card.proofs.Hearing.{dmpt-bare}
+use Rattle.card.proofs.Taking.{dmpt-bare}
 use Rattle.card.proofs.Accepted.{Accepted, accepted, flow-there, received-accepted, received-refused}
 use Rattle.card.proofs.Limits.{accepted-bounded, held-none}
 
@@ -50,23 +50,23 @@ module _ (t : Table) (p : Packet) (s : Slices) (a : Accepted t p s) where
       (least-passes (openIn t (sessionId p)) rows (a .found)))
 
   -- a D-MPT packet: flow 0, and nothing is held before or after
-  dmpt-flow : isDmpt (rowAt t row .kind) ≡ true → flowTo t row after ≡ 0
+  dmpt-flow : isDmpt (termsAt t row .kind) ≡ true → flowTo t row after ≡ 0
   dmpt-flow d = dmpt-passed after (sym (refusals-dmpt (termsAt t row) after d) ∙ a .passed) .only-flow
 
-  dmpt-after : isDmpt (rowAt t row .kind) ≡ true → heardBy t row after s .fate .held ≡ []
+  dmpt-after : isDmpt (termsAt t row .kind) ≡ true → heardBy t row after s .fate .held ≡ []
   unfolding hear
   dmpt-after d =
       let passed : first (dmptRefusals after) ≡ 0 = sym (refusals-dmpt (termsAt t row) after d) ∙ a .passed in
       rw (d, held-none t p s a d) (dmpt-holds-none after (dmpt-header after passed))
 
   -- S is clear on D-MPT alone, and there the record stays as it was
-  clear-dmpt : sSet after ≡ false → isDmpt (rowAt t row .kind) ≡ true
-  clear-dmpt c = by-kind (isDmpt (rowAt t row .kind)) refl
+  clear-dmpt : sSet after ≡ false → isDmpt (termsAt t row .kind) ≡ true
+  clear-dmpt c = by-kind (isDmpt (termsAt t row .kind)) refl
     where
-      by-kind : (d : Bool) → isDmpt (rowAt t row .kind) ≡ d → isDmpt (rowAt t row .kind) ≡ true
+      by-kind : (d : Bool) → isDmpt (termsAt t row .kind) ≡ d → isDmpt (termsAt t row .kind) ≡ true
       by-kind true e = e
       by-kind false e =
-          absurd (true≢false (sym (psp-passed (widthIn (rowAt t row .kind)) after (sym (refusals-psp (termsAt t row) after e) ∙ a .passed) .counted) ∙ c))
+          absurd (true≢false (sym (psp-passed (widthIn (termsAt t row .kind)) after (sym (refusals-psp (termsAt t row) after e) ∙ a .passed) .counted) ∙ c))
 
   clear-record : sSet after ≡ false → recordAfter (heardBy t row after s) ≡ flow
   unfolding hear
@@ -83,7 +83,7 @@ module _ (t : Table) (p : Packet) (s : Slices) (a : Accepted t p s) where
       (ap (λ (l : List Row). record { rows = l }) (set-getD (t .rows) row noRow))
 
   -- a number that was accepted was heard
-  set-heard : sSet after ≡ true → recordAfter (heardBy t row after s) .heard ≡ true
+  set-heard : sSet after ≡ true → recordAfter (heardBy t row after s) .heard ≡ heardMark
   unfolding hear
   set-heard set =
       let in-time : judge flow (number after) .late ≡ false = rw set at (a .in-time) in

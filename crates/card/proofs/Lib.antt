@@ -1,5 +1,5 @@
 pub mod ByKind
-pub mod Hearing
+pub mod Taking
 pub mod Receiving
 pub mod Unique
 pub mod Accepted

@@ -31,7 +31,7 @@ use Rattle.join.proofs.Walking.{so-far-accounts, all-few}
 use Rattle.join.proofs.Carrying as carrying
 use Rattle.card.specs.Hear.{widthIn, judgedBy, judgedOf, fateOf, hear}
 use Rattle.card.specs.Receive.{placeOf, rowOf, flowTo, flowOf, heldBy, heardBy, packetRefusals, carriedOut, refused, received}
-use Rattle.card.proofs.Hearing.{large-enough, place-roomy, held-fits, dmpt-bare}
+use Rattle.card.proofs.Taking.{large-enough, place-roomy, held-fits, dmpt-bare}
 use Rattle.card.proofs.Accepted as call
 
 -- how many body bytes a packet brings: the segment bodies, or everything behind the header
@@ -100,12 +100,12 @@ module _ (t : Table) (p : Packet) (s : Slices) (a : call.Accepted t p s) where
       length-part (s .holding) (placeOf row (flowTo t row after)) (flowOf t row after .held)
       (omega (arith, roomy .place-inside, held-fits t row (flowTo t row after) (a .whole) (a .found) k))
 
-  pub held-none : isDmpt (rowAt t row .kind) ≡ true → heldBy t row after s ≡ []
+  pub held-none : isDmpt (termsAt t row .kind) ≡ true → heldBy t row after s ≡ []
   held-none d =
       ap (part (s .holding) (placeOf row (flowTo t row after))) (dmpt-bare t row (flowTo t row after) (a .whole) (a .found) (call.flow-there t p s a) d)
       ∙ part-none (s .holding) (placeOf row (flowTo t row after))
 
-  pub accepted-bounded : Bounded (termsAt t row .longest) (flowOf t row after .held + bodyBytes (rowAt t row .kind) after) (heardBy t row after s .fate)
+  pub accepted-bounded : Bounded (termsAt t row .longest) (flowOf t row after .held + bodyBytes (termsAt t row .kind) after) (heardBy t row after s .fate)
   unfolding hear
   accepted-bounded =
       let k = call.flow-there t p s a in

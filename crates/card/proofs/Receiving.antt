@@ -1,25 +1,28 @@
--- The ways out of the data call: for each return of the code the line of the order that it answers, with what the code has found as
--- arguments. All of the outcome is compared at once, as one record.
-use Prim.Native.Nat.{ℕ, _<_, _≤_}
+-- The data call is where its session is sought and what the session's row makes of the packet: the returns of `seek`, each with the line of
+-- the order that it answers; and the outcome put together, all of it compared at once, as one record.
+use Prim.Native.Nat.{ℕ, zero, suc, _<_, _≤_}
 use mathlib.Core.Path.{_≡_, refl, sym, ap, _∙_}
-use mathlib.Core.Bool.{true, false, not}
-use mathlib.Core.List.{List, _∷_}
+use mathlib.Core.Bool.{Bool, true, false, not}
+use mathlib.Core.List.{List, [], _∷_}
 use native.Mathlib.Omega.{arith}
 use borrow.Author.Tests.{lt-ltb, le-ltb}
+use lib.Seq.{set-getD}
 use Rattle.refusal.specs.Refusal.{Refusal, _when_, first}
-use Rattle.refusal.proofs.Laws.{first-passed, first-stopped}
-use Rattle.packet.specs.Header.{Packet, sub, sessionId}
+use Rattle.refusal.proofs.Laws.{first-passed, first-stopped, none-applies, none-first, none-apart}
+use Rattle.packet.specs.Header.{Packet, sub, sessionId, beforeSession}
 use Rattle.packet.proofs.Passing.{sub-length, sub-whole}
+use Rattle.table.specs.declared.Row.{Row}
 use Rattle.table.specs.declared.Table.{Table}
-use Rattle.table.specs.Rows.{rows, find}
+use Rattle.table.specs.Rows.{rows, noRow, rowAt, find, withRow}
 use Rattle.table.specs.Broken.{broken}
 use Rattle.table.specs.Calls.{isOpen}
+use Rattle.table.proofs.Keeping.{rows-sound}
 use Rattle.join.specs.Slices.{Slices}
-use Rattle.card.specs.declared.Received.{Received}
-use Rattle.card.specs.Receive.{Outcome, rowOf, tooSmall, earlyRefusals, flowRefusals, dataRefusals, refusedAnswer, receivedBy, received, PermitsReceive}
-use Rattle.card.specs.Ready.{Ready}
+use Rattle.card.specs.declared.Found.{Found}
+use Rattle.card.specs.Receive.{Outcome, rowOf, tooSmall, earlyRefusals, flowRefusals}
+use Rattle.card.specs.Receive.{carriedOut, refused, receivedBy, received, PermitsReceive}
+use Rattle.card.specs.Inside.{seekRefusals, notFound, Seeks, TakenOutcome, notTaken, takenAs, takes, Ready}
 use Rattle.card.proofs.Accepted.{early-over}
-use Rattle.card.proofs.Hearing.{refused-by, refused-answer}
 
 -- an outcome that is the definition's is permitted, field by field
 pub permits : {t : Table} {p : Packet} {s : Slices} {o : Outcome} → o ≡ received t p s → PermitsReceive t p s o
@@ -36,61 +39,116 @@ permits e =
       its-lengths = ap (λ (o : Outcome). o .slices .lengths) e;
     }
 
--- behind refusal 5 the step of one flow has what it asks for
-pub ready : (t : Table) (p : Packet) (s : Slices) (r : ℕ) (after : List ℕ) → tooSmall s ≡ false → first (earlyRefusals t p) ≡ 0 →
-    r < rows → after ≡ sub p → Ready t r after s
-ready t p s r after large z found e =
-    let over = early-over t p z in
-    let e-passed = over .passed in
+-- The returns of `seek`.
+module _ (t : Table) (p : Packet) (small : Bool) where
+  not-found : (c : ℕ) (found : Found) → c ≡ first (seekRefusals t p small) → (c ≡ 0 → ⊥) → found ≡ notFound c → Seeks t p small found
+  not-found c found given some e = rw e (record { its-number = given; its-row = λ z. absurd (some z); in-table = omega arith })
+
+  pub seek-small : (found : Found) → small ≡ true → found ≡ notFound 1 → Seeks t p small found
+  seek-small found short e = not-found 1 found (simp short) (λ z. omega arith) e
+
+  module _ (large : small ≡ false) where
+    pub seek-broken : (found : Found) → broken t ≡ true → found ≡ notFound 13 → Seeks t p small found
+    seek-broken found bad e = not-found 13 found (simp (large, bad)) (λ z. omega arith) e
+
+    module _ (whole : broken t ≡ false) (early : ℕ) (judged : early ≡ first (beforeSession p)) where
+      abbrev unopened : List Refusal
+      unopened = 5 when not (isOpen t (sessionId p)) ∷ []
+
+      pub seek-early : (found : Found) → (early ≡ 0 → ⊥) → found ≡ notFound early → Seeks t p small found
+      seek-early found some e =
+          let stops = first-stopped (beforeSession p) unopened (λ z. some (judged ∙ z)) in
+          not-found early found (simp (large, whole) (judged ∙ sym stops)) some e
+
+      module _ (passed : early ≡ 0) (id row : ℕ) (session : id ≡ sessionId p) (sought : row ≡ find t id) where
+        row-is : row ≡ rowOf t p
+        row-is = sought ∙ ap (find t) session
+
+        by-session : first (seekRefusals t p small) ≡ first unopened
+        by-session = simp (large, whole) (first-passed (beforeSession p) unopened refl (sym judged ∙ passed))
+
+        pub seek-closed : (found : Found) → rows ≤ row → found ≡ notFound 5 → Seeks t p small found
+        seek-closed found none e =
+            let shut = le-ltb (rowOf t p) rows (omega (arith, row-is)) in
+            not-found 5 found (rw by-session (simp shut)) (λ z. omega arith) e
+
+        pub seek-there : row < rows → Seeks t p small (record { code = 0; row = row })
+        seek-there there =
+            let live = lt-ltb (rowOf t p) rows (omega (arith, row-is)) in
+            record { its-number = sym (by-session ∙ simp live); its-row = λ z. row-is; in-table = there }
+
+-- Where nothing was refused, the row has what it asks for.
+seek-order : (t : Table) (p : Packet) (small : Bool) → first (seekRefusals t p small) ≡ 0 →
+    (small ≡ false) × (first (earlyRefusals t p) ≡ 0)
+seek-order t p small z =
+    let unopened = 5 when not (isOpen t (sessionId p)) ∷ [] in
+    let none = none-applies (seekRefusals t p small) refl z in
+    (none .0, none-first (earlyRefusals t p) (none-apart (earlyRefusals t p) unopened (none .1) .0))
+
+pub ready : (t : Table) (p : Packet) (s : Slices) (found : Found) → Seeks t p (tooSmall s) found → found .code ≡ 0 →
+    Ready (rowAt t (found .row)) p s
+ready t p s found seeks z =
+    let order = seek-order t p (tooSmall s) (sym (seeks .its-number) ∙ z) in
+    let over = early-over t p (order .1) in
     record {
-      large = large;
-      whole = over .whole;
-      found = found;
-      header = rw e (sub-whole p (e-passed .not-short));
-      short = rw e (omega (arith, sub-length p (e-passed .not-short), e-passed .not-long));
+      large = order .0;
+      sound = rows-sound t (over .whole) (found .row) (seeks .in-table);
+      named = omega (arith, over .passed .not-short);
+      header = sub-whole p (over .passed .not-short);
+      short = omega (arith, sub-length p (over .passed .not-short), over .passed .not-long);
     }
 
--- The returns of `receive`.
+-- The outcome: the row's answer, and the table with the row put back.
+abbrev pub gathered : Table → ℕ → TakenOutcome → Outcome
+gathered t r o =
+    record {
+      answer = record {
+        code = o .taken .code;
+        frames = o .taken .frames;
+        bytes = o .taken .bytes;
+        dropped = o .taken .dropped;
+        gap = o .taken .gap;
+        table = withRow t r (o .taken .row);
+      };
+      slices = o .slices;
+    }
+
+put-back : (t : Table) (r : ℕ) → withRow t r (rowAt t r) ≡ t
+put-back t r = ap (λ (l : List Row). record { rows = l }) (set-getD (t .rows) r noRow)
+
+gathered-refused : (c : ℕ) (t : Table) (r : ℕ) (s : Slices) →
+    gathered t r (record { taken = notTaken c (rowAt t r); slices = s }) ≡ refused c t s
+unfolding refused
+gathered-refused c t r s = rw (put-back t r) refl
+
+gathered-by : (n : ℕ) (t : Table) (r : ℕ) (after : List ℕ) (s : Slices) →
+    gathered t r (takenAs n r (rowAt t r) after s) ≡ receivedBy n t r after s
+unfolding receivedBy carriedOut
+gathered-by zero t r after s = refl
+gathered-by (suc c) t r after s = gathered-refused (suc c) t r s
+
 module _ (t : Table) (p : Packet) (s : Slices) where
-  -- an order that gives c refuses with c
-  refuses : (c : ℕ) (answer : Received) → c ≡ first (dataRefusals t p s) → (c ≡ 0 → ⊥) →
-      answer ≡ refusedAnswer c t →
-      _≡_ {A = Outcome} (record { answer = answer; slices = s }) (received t p s)
+  abbrev behind : List Refusal
+  behind = flowRefusals t (rowOf t p) (sub p)
+
+  -- the order is that of `seek`, and behind it that of the row
+  sought : first (seekRefusals t p (tooSmall s)) ≡ 0 → received t p s ≡ receivedBy (first behind) t (rowOf t p) (sub p) s
   unfolding received
-  refuses c answer given some e =
-      rw (← given) (refused-answer c t s answer e ∙ sym (refused-by c t (rowOf t p) (sub p) s some))
+  sought z = ap (λ (n : ℕ). receivedBy n t (rowOf t p) (sub p) s) (first-passed (seekRefusals t p (tooSmall s)) behind refl z)
 
-  pub receive-small : (answer : Received) → tooSmall s ≡ true → answer ≡ refusedAnswer 1 t →
-      _≡_ {A = Outcome} (record { answer = answer; slices = s }) (received t p s)
-  receive-small answer small e = refuses 1 answer (simp small) (λ z. omega arith) e
+  unsought : (c : ℕ) → suc c ≡ first (seekRefusals t p (tooSmall s)) → received t p s ≡ refused (suc c) t s
+  unfolding received receivedBy
+  unsought c given =
+      ap (λ (n : ℕ). receivedBy n t (rowOf t p) (sub p) s)
+      (first-stopped (seekRefusals t p (tooSmall s)) behind (λ z. omega (arith, given, z)) ∙ sym given)
 
-  module _ (large : tooSmall s ≡ false) (early : ℕ) (found : early ≡ first (earlyRefusals t p)) where
-    abbrev behind : List Refusal
-    behind = 5 when not (isOpen t (sessionId p)) ∷ flowRefusals t (rowOf t p) (sub p)
+  received-by : (c r : ℕ) → c ≡ first (seekRefusals t p (tooSmall s)) → (c ≡ 0 → r ≡ rowOf t p) →
+      gathered t r (takes c r (rowAt t r) p s) ≡ received t p s
+  unfolding takes
+  received-by zero r given there = rw (there refl) (gathered-by (first behind) t (rowOf t p) (sub p) s ∙ sym (sought (sym given)))
+  received-by (suc c) r given there = gathered-refused (suc c) t r s ∙ sym (unsought c given)
 
-    pub receive-early : (answer : Received) → (early ≡ 0 → ⊥) → answer ≡ refusedAnswer early t →
-        _≡_ {A = Outcome} (record { answer = answer; slices = s }) (received t p s)
-    receive-early answer some e =
-        refuses early answer
-        (simp large (found ∙ sym (first-stopped (earlyRefusals t p) behind (λ z. some (found ∙ z))))) some e
-
-    module _ (passed : early ≡ 0) (id row : ℕ) (session : id ≡ sessionId p) (seek : row ≡ find t id) where
-      row-is : row ≡ rowOf t p
-      row-is = seek ∙ ap (find t) session
-
-      by-session : first (dataRefusals t p s) ≡ first behind
-      by-session = simp large (first-passed (earlyRefusals t p) behind refl (sym found ∙ passed))
-
-      pub receive-closed : (answer : Received) → rows ≤ row → answer ≡ refusedAnswer 5 t →
-          _≡_ {A = Outcome} (record { answer = answer; slices = s }) (received t p s)
-      receive-closed answer none e =
-          let shut = le-ltb (rowOf t p) rows (omega (arith, row-is)) in
-          refuses 5 answer (rw by-session (simp shut)) (λ z. omega arith) e
-
-      pub receive-heard : (after : List ℕ) (o : Outcome) → row < rows → after ≡ sub p →
-          o ≡ receivedBy (first (flowRefusals t row after)) t row after s → o ≡ received t p s
-      unfolding received
-      receive-heard after o there rest e =
-          let live = lt-ltb (rowOf t p) rows (omega (arith, row-is)) in
-          let order : first (dataRefusals t p s) ≡ first (flowRefusals t (rowOf t p) (sub p)) = by-session ∙ simp live in
-          e ∙ rw (row-is, rest, order) refl
+pub receive-is : (t : Table) (p : Packet) (s : Slices) (found : Found) (o : TakenOutcome) → Seeks t p (tooSmall s) found →
+    o ≡ takes (found .code) (found .row) (rowAt t (found .row)) p s → gathered t (found .row) o ≡ received t p s
+receive-is t p s found o seeks e =
+    ap (gathered t (found .row)) e ∙ received-by t p s (found .code) (found .row) (seeks .its-number) (seeks .its-row)

@@ -21,7 +21,7 @@ use Rattle.table.specs.Rows.{rows, noRow, rowAt, rowWith, flowAt, termsAt}
 use Rattle.join.specs.Slices.{mostFrames, mostBytes, Slices}
 use Rattle.card.specs.Hear.{Heard, recordAfter}
 use Rattle.card.specs.Receive.{placeOf, Outcome, rowOf, flowTo, heardBy, carriedOut, received, framesFound}
-use Rattle.card.proofs.Hearing.{Large, large-enough}
+use Rattle.card.proofs.Taking.{Large, large-enough}
 use Rattle.card.proofs.Accepted.{accepted, flow-there, received-accepted}
 use Rattle.card.proofs.Limits.{accepted-bounded}
 
@@ -49,7 +49,8 @@ pub record StepOf (r k : ℕ) (h : Heard) (t : Table) (s : Slices) (o : Outcome)
   pub gap-is : o .answer .gap ≡ h .judged .gap
   -- the table
   pub its-record : flowAt (rowAt (o .answer .table) r) k ≡ recordAfter h
-  pub its-session : (rowAt (o .answer .table) r .id ≡ rowAt t r .id) × (termsAt (o .answer .table) r ≡ termsAt t r)
+  pub its-session : (rowAt (o .answer .table) r .id ≡ rowAt t r .id) × (rowAt (o .answer .table) r .kind ≡ rowAt t r .kind)
+      × (termsAt (o .answer .table) r ≡ termsAt t r)
   pub other-flows : (j : ℕ) → (j ≡ k → ⊥) → flowAt (rowAt (o .answer .table) r) j ≡ flowAt (rowAt t r) j
   pub other-rows : (i : ℕ) → (i ≡ r → ⊥) → rowAt (o .answer .table) i ≡ rowAt t i
   pub same-shape : Shaped (o .answer .table)
@@ -128,7 +129,7 @@ module _ (r k : ℕ) (h : Heard) (t : Table) (s : Slices) (shaped : Shaped t) (t
         dropped-are = refl;
         gap-is = refl;
         its-record = rw row-there (getD-set-same (rowAt t r .flows) k (recordAfter h) _ (omega (arith, shaped .four r there)));
-        its-session = rw row-there (refl, refl);
+        its-session = rw row-there (refl, refl, refl);
         other-flows = λ j other. rw row-there (getD-set-other (rowAt t r .flows) k j (recordAfter h) _ other);
         other-rows = λ i other. getD-set-other (t .rows) r i _ _ other;
         same-shape = shape-kept;

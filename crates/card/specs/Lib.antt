@@ -1,4 +1,4 @@
 pub mod Hear
 pub mod Receive
 pub mod History
-pub mod Ready
+pub mod Inside

@@ -15,9 +15,10 @@ use Rattle.flow.specs.Flow.{longest, flows}
 use Rattle.packet.specs.Header.{Packet, sub, sessionId, beforeSession}
 use Rattle.packet.specs.Psp.{pspRefusals}
 use Rattle.packet.specs.Dmpt.{dmptRefusals}
+use Rattle.table.specs.declared.Row.{Row}
 use Rattle.table.specs.declared.Table.{Table}
 use Rattle.table.specs.declared.Terms.{Terms}
-use Rattle.table.specs.Rows.{rows, isDmpt, termsAt, rowAt, flowAt, find, withFlow}
+use Rattle.table.specs.Rows.{rows, isDmpt, termsOf, rowAt, flowAt, find, withFlow}
 use Rattle.table.specs.Broken.{broken}
 use Rattle.table.specs.Calls.{isOpen}
 use Rattle.join.specs.Slices.{Slices, mostFrames, mostBytes}
@@ -37,21 +38,34 @@ pub record Outcome : Type 0 where
   pub slices : Slices
 
 -- Where a packet goes. Its session's row is r (6, where the session is not open), and that row's terms say how it is read; its flow there
--- has a record, and the bytes that this flow holds are the first ones of its place; and so the flow hears the packet.
+-- has a record, and the bytes that this flow holds are the first ones of its place; and so the flow hears the packet. All but `rowOf` is
+-- said of a row by itself, and then of row r of a table.
 abbrev pub rowOf : Table → Packet → ℕ
 rowOf t p = find t (sessionId p)
 
+abbrev pub flowNumber : Row → List ℕ → ℕ
+flowNumber row sub = flowIn ((termsOf row) .kind) sub
+
+abbrev pub flowFor : Row → List ℕ → Flow
+flowFor row sub = flowAt row (flowNumber row sub)
+
+abbrev pub heldFor : Row → ℕ → List ℕ → Slices → List ℕ
+heldFor row r sub s = part (s .holding) (placeOf r (flowNumber row sub)) ((flowFor row sub) .held)
+
+abbrev pub heardIn : Row → ℕ → List ℕ → Slices → Heard
+heardIn row r sub s = hear (termsOf row) (flowFor row sub) (heldFor row r sub s) sub
+
 abbrev pub flowTo : Table → ℕ → List ℕ → ℕ
-flowTo t r sub = flowIn (rowAt t r .kind) sub
+flowTo t r sub = flowNumber (rowAt t r) sub
 
 abbrev pub flowOf : Table → ℕ → List ℕ → Flow
-flowOf t r sub = flowAt (rowAt t r) (flowTo t r sub)
+flowOf t r sub = flowFor (rowAt t r) sub
 
 abbrev pub heldBy : Table → ℕ → List ℕ → Slices → List ℕ
-heldBy t r sub s = part (s .holding) (placeOf r (flowTo t r sub)) ((flowOf t r sub) .held)
+heldBy t r sub s = heldFor (rowAt t r) r sub s
 
 abbrev pub heardBy : Table → ℕ → List ℕ → Slices → Heard
-heardBy t r sub s = hear (termsAt t r) (flowOf t r sub) (heldBy t r sub s) sub
+heardBy t r sub s = heardIn (rowAt t r) r sub s
 
 -- The refusals, in order: 1, 13, 2 to 4, 5, 6 to 11 by the kind of the session, 12.
 abbrev pub tooSmall : Slices → Bool
@@ -66,8 +80,11 @@ abbrev pub packetRefusals : Terms → List ℕ → List Refusal
 packetRefusals terms sub = cond (isDmpt (terms .kind)) (dmptRefusals sub) (pspRefusals (widthIn (terms .kind)) sub)
 
 -- those that need the session's row: 6 to 11, and 12
+abbrev pub rowRefusals : Row → List ℕ → List Refusal
+rowRefusals row sub = packetRefusals (termsOf row) sub ++ (12 when (judgedOf (flowFor row sub) sub) .late ∷ [])
+
 abbrev pub flowRefusals : Table → ℕ → List ℕ → List Refusal
-flowRefusals t r sub = packetRefusals (termsAt t r) sub ++ (12 when (judgedOf (flowOf t r sub) sub) .late ∷ [])
+flowRefusals t r sub = rowRefusals (rowAt t r) sub
 
 abbrev pub dataRefusals : Table → Packet → Slices → List Refusal
 dataRefusals t p s =
@@ -79,6 +96,14 @@ dataRefusals t p s =
 -- What is heard, carried out for row r, flow k: the counts; the flow's next record; the held bytes at the start of the flow's place;
 -- and the frames and their lengths at the start of the other two slices. `put` leaves every other element as it was, so of the place no
 -- byte behind the held ones changes, and none at all where nothing is held.
+abbrev pub slicesAfter : ℕ → ℕ → Heard → Slices → Slices
+slicesAfter r k h s =
+    record {
+      holding = put (s .holding) (placeOf r k) (h .fate .held);
+      output = put (s .output) 0 (joined (h .fate .delivered));
+      lengths = put (s .lengths) 0 (lengths (h .fate .delivered));
+    }
+
 unfoldable pub carriedOut : ℕ → ℕ → Heard → Table → Slices → Outcome
 carriedOut r k h t s =
     record {
@@ -90,11 +115,7 @@ carriedOut r k h t s =
         gap = h .judged .gap;
         table = withFlow t r k (recordAfter h);
       };
-      slices = record {
-        holding = put (s .holding) (placeOf r k) (h .fate .held);
-        output = put (s .output) 0 (joined (h .fate .delivered));
-        lengths = put (s .lengths) 0 (lengths (h .fate .delivered));
-      };
+      slices = slicesAfter r k h s;
     }
 
 -- A refusal: its number, all counts 0, and table and slices as they were.

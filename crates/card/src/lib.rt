@@ -4,20 +4,18 @@
 // All of a packet is judged before anything is written. Each segment entry is read when it is needed, so no copy of the segment table is
 // made, and the call keeps nothing from one packet to the next but what stands in the table and in the holding slice.
 ghost use mathlib.Core.Path.{_≡_};
-ghost use mathlib.Core.Bool.{true, _||_};
-ghost use Prim.Native.Nat.{_+_, _<_, _≤_};
-ghost use lib.Dec.{ltb};
+ghost use Prim.Native.Nat.{_<_, _≤_};
 ghost use lib.ListN.{length};
 ghost use Rattle.refusal.specs.Refusal.{first};
 ghost use Rattle.octets.specs.Stretch.{part};
-ghost use Rattle.flow.specs.Flow.{longest, flows};
-ghost use Rattle.packet.specs.Header.{ip, mostLead, idLength, headerLength, longestPacket};
-ghost use Rattle.table.specs.Rows.{rows, isDmpt};
-ghost use Rattle.join.specs.Slices.{asSlices, mostFrames, mostBytes};
+ghost use Rattle.flow.specs.Flow.{flows};
+ghost use Rattle.packet.specs.Header.{ip, mostLead, headerLength};
+ghost use Rattle.table.specs.Rows.{rows};
+ghost use Rattle.join.specs.Slices.{asSlices};
 ghost use Rattle.join.specs.Placed.{nothingYet, Placed, Roomy, Within};
 ghost use Rattle.card.specs.Hear.{judgedOf, fateOf};
-ghost use Rattle.card.specs.Receive.{holdingSize, placeOf, Outcome, packetRefusals, flowRefusals, earlyRefusals, refusedAnswer, receivedBy, PermitsReceive};
-ghost use Rattle.card.specs.Ready.{answered, Ready};
+ghost use Rattle.card.specs.Receive.{placeOf, packetRefusals, PermitsReceive};
+ghost use Rattle.card.specs.Inside.{smallBy, Seeks, notFound, TakenOutcome, takes, notTaken, Ready, answered, Hearable, Hears};
 use flow::FLOWS;
 use flow::Flow;
 use flow::Judged;
@@ -27,6 +25,7 @@ use packet::dmpt;
 use packet::header;
 use packet::psp;
 use table::ROWS;
+use table::Row;
 use table::Table;
 use table::Terms;
 
@@ -39,6 +38,7 @@ pub const MOST_FRAMES: usize = 127;
 pub const MOST_BYTES: usize = 6144;
 
 // What a data call answers: 0 or the refusal's number, the counts, and the table afterwards.
+#[repr(C)] // it crosses to the host program as it is
 pub struct Received {
     pub code: u32,
     pub frames: u32,
@@ -48,7 +48,8 @@ pub struct Received {
     pub table: Table,
 }
 
-// Takes a packet: delivers the frames that it completes, and holds what it begins; or refuses it, and then nothing has changed.
+// Takes a packet: delivers the frames that it completes, and holds what it begins; or refuses it, and then nothing has changed. The table
+// is changed here and nowhere below: a row is taken out of it, and put back, as it was where the packet is refused.
 pub fn receive(
     table: Table,
     holding: &mut [u8],
@@ -60,55 +61,228 @@ pub fn receive(
         (asSlices (now (holding .entry)) (now (output .entry)) (now (lengths .entry)))
         (record { answer = r; slices = asSlices (now (holding .exit)) (now (output .exit)) (now (lengths .exit)) }) ⌝ }
 {
-    if too_small(holding.len(), output.len(), lengths.len()) {
-        return refused_answer(refusal::SLICE_TOO_SMALL, table);
+    let found = seek(
+        table,
+        packet,
+        header::OVER_IP,
+        holding.len(),
+        output.len(),
+        lengths.len(),
+    );
+    let mut next = table;
+    let at = found.row;
+    let row = next.rows[at];
+    let taken = take(
+        found.code,
+        row,
+        at,
+        holding,
+        packet,
+        header::OVER_IP,
+        output,
+        lengths,
+    );
+    let after = taken.row;
+    next.rows[at] = after;
+    Received {
+        code: taken.code,
+        frames: taken.frames,
+        bytes: taken.bytes,
+        dropped: taken.dropped,
+        gap: taken.gap,
+        table: next,
     }
-    let early = refuse_before_session(table, packet, header::OVER_IP);
-    if early != refusal::NONE {
-        return refused_answer(early, table);
-    }
-    let row = table::find_row(table, header::session_id(packet, header::OVER_IP));
-    if ROWS <= row {
-        return refused_answer(refusal::SESSION_NOT_OPEN, table);
-    }
-    let sub = header::sub_of(packet, header::OVER_IP);
-    hear(table, row, holding, sub, output, lengths)
 }
 
-// The answer of a refused call.
-fn refused_answer(code: u32, table: Table) -> Received
-    ensures { λ r. ⌜ r ≡ refusedAnswer code table ⌝ }
+// Where a packet's session stands; or the refusal's number, and then any row, to be put back as it was.
+struct Found {
+    code: u32,
+    row: usize,
+}
+
+// Refusals 1, 13 and 2 to 5, in this order; or the session's row.
+fn seek(
+    table: Table,
+    packet: &[u8],
+    lead: usize,
+    holding: usize,
+    output: usize,
+    lengths: usize,
+) -> Found
+    requires { ⌜ lead ≤ mostLead ⌝ }
+    ensures { λ r. ⌜ Seeks table (record { lead = lead; bytes = now (packet .entry) }) (smallBy holding output lengths) r ⌝ }
 {
-    Received {
+    if too_small(holding, output, lengths) {
+        return not_found(refusal::SLICE_TOO_SMALL);
+    }
+    if table::is_broken(table) {
+        return not_found(refusal::TABLE_BROKEN);
+    }
+    let early = header::refuse_before_session(packet, lead);
+    if early != refusal::NONE {
+        return not_found(early);
+    }
+    let row = table::find_row(table, header::session_id(packet, lead));
+    if ROWS <= row {
+        return not_found(refusal::SESSION_NOT_OPEN);
+    }
+    Found {
+        code: refusal::NONE,
+        row,
+    }
+}
+
+fn not_found(code: u32) -> Found
+    ensures { λ r. ⌜ r ≡ notFound code ⌝ }
+{
+    Found { code, row: 0 }
+}
+
+// Refusal 1, from the lengths of the slices.
+fn too_small(holding: usize, output: usize, lengths: usize) -> bool
+    ensures { λ r. ⌜ r ≡ smallBy holding output lengths ⌝ }
+{
+    (holding < HOLDING_SIZE) | (output < MOST_BYTES) | (lengths < MOST_FRAMES)
+}
+
+// What a session's row makes of a packet: 0 or the refusal's number, the counts, and the row afterwards.
+struct Taken {
+    code: u32,
+    frames: u32,
+    bytes: u32,
+    dropped: u32,
+    gap: u32,
+    row: Row,
+}
+
+// What a refused packet comes to: the row is as it was.
+fn not_taken(code: u32, row: Row) -> Taken
+    ensures { λ r. ⌜ r ≡ notTaken code row ⌝ }
+{
+    Taken {
         code,
         frames: 0,
         bytes: 0,
         dropped: 0,
         gap: 0,
-        table, // as it was
+        row,
     }
 }
 
-// Refusal 1, from the lengths of the slices.
-pub fn too_small(holding: usize, output: usize, lengths: usize) -> bool
-    ensures { λ r. ⌜ r ≡ (ltb holding holdingSize || ltb output mostBytes || ltb lengths mostFrames) ⌝ }
+// Takes a packet for the session in row `at`, unless it was refused before by `code`: refusals 6 to 12, or the flow hears it.
+fn take(
+    code: u32,
+    row: Row,
+    at: usize,
+    holding: &mut [u8],
+    packet: &[u8],
+    lead: usize,
+    output: &mut [u8],
+    lengths: &mut [u16],
+) -> Taken
+    requires { ⌜ at < rows ⌝ }
+    requires { ⌜ (code ≡ 0 → Ready row (record { lead = lead; bytes = now packet }) (asSlices (now holding) (now output) (now lengths))) ⌝ }
+    ensures { λ r. ⌜ _≡_ {A = TakenOutcome}
+        (record { taken = r; slices = asSlices (now (holding .exit)) (now (output .exit)) (now (lengths .exit)) })
+        (takes code at row (record { lead = lead; bytes = now (packet .entry) })
+        (asSlices (now (holding .entry)) (now (output .entry)) (now (lengths .entry)))) ⌝ }
 {
-    (holding < HOLDING_SIZE) | (output < MOST_BYTES) | (lengths < MOST_FRAMES)
+    if code != refusal::NONE {
+        return not_taken(code, row);
+    }
+    let sub = header::sub_of(packet, lead);
+    let terms = table::terms_of(row);
+    let refused = refuse_packet(terms, sub);
+    if refused != refusal::NONE {
+        return not_taken(refused, row);
+    }
+    let k = header::flow_id(sub);
+    let flow = row.flows[k];
+    let heard = hear(terms, flow, holding, place_of(at, k), output, lengths, sub);
+    let judged = heard.judged;
+    if judged.late {
+        return not_taken(refusal::LATE, row);
+    }
+    let tally = heard.tally;
+    answer(row, k, judged, tally)
 }
 
-// Refusals 13 and 2 to 4, or 0.
-fn refuse_before_session(table: Table, packet: &[u8], lead: usize) -> u32
-    requires { ⌜ lead ≤ mostLead ⌝ }
-    ensures { λ r. ⌜ r ≡ first (earlyRefusals table (record { lead = lead; bytes = now (packet .entry) })) ⌝ }
+// What an accepted packet comes to: the counts, and the row with the flow's next record.
+fn answer(row: Row, k: usize, judged: Judged, tally: Tally) -> Taken
+    requires { ⌜ (k < flows) × Within tally ⌝ }
+    ensures { λ r. ⌜ r ≡ answered row k judged tally ⌝ }
 {
-    if table::is_broken(table) {
-        return refusal::TABLE_BROKEN;
+    let flow = judged.flow;
+    let held = tally.held as u16;
+    let expecting = Flow {
+        heard: flow.heard,
+        expected: flow.expected,
+        held,
+    };
+    let mut next = row;
+    next.flows[k] = expecting;
+    let frames = tally.frames as u32;
+    let bytes = tally.bytes as u32;
+    let dropped = tally.dropped as u32;
+    let gap = judged.gap as u32;
+    Taken {
+        code: refusal::NONE,
+        frames,
+        bytes,
+        dropped,
+        gap,
+        row: next,
     }
-    header::refuse_before_session(packet, lead)
+}
+
+// What a flow makes of a packet that passed refusals 6 to 11: how its number is judged; and, unless that is late, what became of the bytes.
+struct Hearing {
+    judged: Judged,
+    tally: Tally,
+}
+
+// One packet on its flow. The bytes that the flow holds are the first ones of its place; a late packet changes none of the slices.
+fn hear(
+    terms: Terms,
+    flow: Flow,
+    holding: &mut [u8],
+    place: usize,
+    output: &mut [u8],
+    lengths: &mut [u16],
+    sub: &[u8],
+) -> Hearing
+    requires { ⌜ Roomy place (asSlices (now holding) (now output) (now lengths)) ⌝ }
+    requires { ⌜ Hearable terms (flow .held) (now sub) ⌝ }
+    ensures { λ r. ⌜ Hears terms flow place (now (sub .entry))
+        (asSlices (now (holding .entry)) (now (output .entry)) (now (lengths .entry)))
+        r (asSlices (now (holding .exit)) (now (output .exit)) (now (lengths .exit))) ⌝ }
+{
+    let judged = judge_packet(flow, sub);
+    if judged.late {
+        let tally = Tally {
+            held: 0,
+            frames: 0,
+            bytes: 0,
+            dropped: 0,
+        };
+        return Hearing { judged, tally };
+    }
+    let held = flow.held as usize;
+    let tally = place_packet(
+        terms,
+        holding,
+        place,
+        output,
+        lengths,
+        sub,
+        judged.gap,
+        held,
+    );
+    Hearing { judged, tally }
 }
 
 // Refusals 6 to 11, by the kind of the session; or 0.
-pub fn refuse_packet(terms: Terms, sub: &[u8]) -> u32
+fn refuse_packet(terms: Terms, sub: &[u8]) -> u32
     requires { ⌜ headerLength ≤ length (now sub) ⌝ }
     ensures { λ r. ⌜ r ≡ first (packetRefusals terms (now (sub .entry))) ⌝ }
 {
@@ -120,7 +294,7 @@ pub fn refuse_packet(terms: Terms, sub: &[u8]) -> u32
 }
 
 // Judges the packet's number, where it has one.
-pub fn judge_packet(flow: Flow, sub: &[u8]) -> Judged
+fn judge_packet(flow: Flow, sub: &[u8]) -> Judged
     requires { ⌜ headerLength ≤ length (now sub) ⌝ }
     ensures { λ r. ⌜ r ≡ judgedOf flow (now (sub .entry)) ⌝ }
 {
@@ -143,7 +317,7 @@ pub fn place_of(row: usize, k: usize) -> usize
 }
 
 // Carries out what becomes of the bytes of an accepted packet.
-pub fn place_packet(
+fn place_packet(
     terms: Terms,
     holding: &mut [u8],
     place: usize,
@@ -154,8 +328,7 @@ pub fn place_packet(
     held: usize,
 ) -> Tally
     requires { ⌜ Roomy place (asSlices (now holding) (now output) (now lengths)) ⌝ }
-    requires { ⌜ (terms .longest ≤ longest) × (held ≤ terms .longest) × (isDmpt (terms .kind) ≡ true → held ≡ 0)
-        × (idLength + length (now sub) ≤ longestPacket) × (first (packetRefusals terms (now sub)) ≡ 0) ⌝ }
+    requires { ⌜ Hearable terms held (now sub) ⌝ }
     ensures { λ r. ⌜ Placed (fateOf terms gap (part (now (holding .entry)) place held) (now (sub .entry)))
         place nothingYet (asSlices (now (holding .entry)) (now (output .entry)) (now (lengths .entry)))
         r (asSlices (now (holding .exit)) (now (output .exit)) (now (lengths .exit))) ⌝ }
@@ -176,70 +349,4 @@ pub fn place_packet(
         gap,
         held,
     )
-}
-
-// The answer of an accepted packet: the counts, and the table with the flow's next record.
-fn answer(table: Table, row: usize, k: usize, judged: Judged, tally: Tally) -> Received
-    requires { ⌜ (row < rows) × (k < flows) × Within tally ⌝ }
-    ensures { λ r. ⌜ r ≡ answered table row k judged tally ⌝ }
-{
-    let flow = judged.flow;
-    let held = tally.held as u16;
-    let next = Flow {
-        heard: flow.heard,
-        expected: flow.expected,
-        held,
-    };
-    let frames = tally.frames as u32;
-    let bytes = tally.bytes as u32;
-    let dropped = tally.dropped as u32;
-    let gap = judged.gap as u32;
-    Received {
-        code: refusal::NONE,
-        frames,
-        bytes,
-        dropped,
-        gap,
-        table: table::with_flow(table, row, k, next),
-    }
-}
-
-// One packet on its flow, in the session's row: refusals 6 to 12, or what the flow makes of it.
-fn hear(
-    table: Table,
-    row: usize,
-    holding: &mut [u8],
-    sub: &[u8],
-    output: &mut [u8],
-    lengths: &mut [u16],
-) -> Received
-    requires { ⌜ Ready table row (now sub) (asSlices (now holding) (now output) (now lengths)) ⌝ }
-    ensures { λ r. ⌜ _≡_ {A = Outcome} (record { answer = r; slices = asSlices (now (holding .exit)) (now (output .exit)) (now (lengths .exit)) })
-        (receivedBy (first (flowRefusals table row (now (sub .entry))))
-        table row (now (sub .entry)) (asSlices (now (holding .entry)) (now (output .entry)) (now (lengths .entry)))) ⌝ }
-{
-    let session = table.rows[row];
-    let terms = table::terms_of(session);
-    let code = refuse_packet(terms, sub);
-    if code != refusal::NONE {
-        return refused_answer(code, table);
-    }
-    let k = header::flow_id(sub);
-    let flow = session.flows[k];
-    let judged = judge_packet(flow, sub);
-    if judged.late {
-        return refused_answer(refusal::LATE, table);
-    }
-    let held = flow.held as usize;
-    let tally = place_packet(
-        terms,
-        holding,
-        place_of(row, k),
-        output,
-        lengths,
-        sub,
-        judged.gap,
-        held,
-    );
-    answer(table, row, k, judged, tally)
 }

@@ -15,8 +15,6 @@ use Rattle.packet.specs.Segments.{bodyAt, segmentAt, segments}
 use Rattle.packet.specs.Psp.{wanted}
 use Rattle.packet.specs.Dmpt.{mpegAt, mpegs}
 use Rattle.packet.proofs.Examples.{A, B}
-use Rattle.table.specs.declared.Kind.{Kind}
-use Rattle.table.specs.declared.Kind.the-variants as kind
 use Rattle.table.specs.declared.Row.{Row}
 use Rattle.table.specs.declared.Table.{Table}
 use Rattle.table.specs.Rows.{closedRow, empty}
@@ -29,16 +27,16 @@ use Rattle.card.specs.Receive.{Outcome, carriedOut, refused, receivedBy, receiv
 -- Whole calls. Session 0x101 is open in row 2, so that the place of its flow 1 starts at 9 x 2,048 = 18,432; session 0x102 is open in
 -- row 1 and holds 3 bytes of a frame on its own flow 1, in the place from 5 x 2,048 = 10,240 on; session 0x104 is D-MPT, in row 5. Sizes are
 -- written as the paper's numerals here.
-abbrev rowWith : ℕ → Kind → Flow → Flow → Row
+abbrev rowWith : ℕ → ℕ → Flow → Flow → Row
 rowWith id k f g = record { id = id; kind = k; flows = f ∷ g ∷ fresh ∷ fresh ∷ [] }
 
 abbrev at : ℕ → ℕ → Flow
-at expected held = record { heard = true; expected = expected; held = held }
+at expected held = record { heard = 1; expected = expected; held = held }
 
 abbrev card : Flow → Table
 card f =
     record {
-      rows = closedRow ∷ rowWith 0x102 kind.Psp fresh (at 7 3) ∷ rowWith 0x101 kind.Psp fresh f ∷ closedRow ∷ closedRow ∷ rowWith 0x104 kind.Dmpt fresh fresh ∷ [];
+      rows = closedRow ∷ rowWith 0x102 1 fresh (at 7 3) ∷ rowWith 0x101 1 fresh f ∷ closedRow ∷ closedRow ∷ rowWith 0x104 2 fresh fresh ∷ [];
     }
 
 abbrev before : List ℕ
@@ -103,13 +101,13 @@ to-other = 0x00 ∷ 0x00 ∷ 0x01 ∷ 0x02 ∷ 0x41 ∷ 0x01 ∷ 0x00 ∷ 0x07 �
 abbrev other-heard : Flow → Table
 other-heard f =
     record {
-      rows = closedRow ∷ rowWith 0x102 kind.Psp fresh (at 8 0) ∷ rowWith 0x101 kind.Psp fresh f ∷ closedRow ∷ closedRow ∷ rowWith 0x104 kind.Dmpt fresh fresh ∷ [];
+      rows = closedRow ∷ rowWith 0x102 1 fresh (at 8 0) ∷ rowWith 0x101 1 fresh f ∷ closedRow ∷ closedRow ∷ rowWith 0x104 2 fresh fresh ∷ [];
     }
 
 abbrev flow-3 : Flow → Table
 flow-3 f =
     record {
-      rows = closedRow ∷ closedRow ∷ record { id = 0x101; kind = kind.Psp; flows = fresh ∷ fresh ∷ fresh ∷ f ∷ [] } ∷ closedRow ∷ closedRow ∷ closedRow ∷ [];
+      rows = closedRow ∷ closedRow ∷ record { id = 0x101; kind = 1; flows = fresh ∷ fresh ∷ fresh ∷ f ∷ [] } ∷ closedRow ∷ closedRow ∷ closedRow ∷ [];
     }
 
 abbrev to-flow-3 : List ℕ
@@ -131,7 +129,7 @@ abbrev D : ℕ → List ℕ
 D marks = 0x00 ∷ 0x00 ∷ 0x01 ∷ 0x03 ∷ marks ∷ 0x7F ∷ 0x12 ∷ 0x34 ∷ (mpeg 0xFE ++ mpeg 0xFF)
 
 abbrev dmpt-card : Flow → Table
-dmpt-card f = record { rows = closedRow ∷ closedRow ∷ closedRow ∷ rowWith 0x103 kind.Dmpt f fresh ∷ closedRow ∷ closedRow ∷ [] }
+dmpt-card f = record { rows = closedRow ∷ closedRow ∷ closedRow ∷ rowWith 0x103 2 f fresh ∷ closedRow ∷ closedRow ∷ [] }
 
 dmpt : (received (dmpt-card fresh) (ip (D 0x00)) (lent before) ≡ accepts 1 188 188 0 (dmpt-card fresh) before (mpeg 0xFE) (188 ∷ []))
     × (received (dmpt-card (at 9 0)) (ip (D 0x00)) (lent before) ≡ accepts 1 188 188 0 (dmpt-card (at 9 0)) before (mpeg 0xFE) (188 ∷ []))
@@ -150,7 +148,7 @@ abbrev short : ℕ → ℕ → ℕ → Slices
 short holding output sizes = record { holding = replicate holding 5; output = replicate output 6; lengths = replicate sizes 7 }
 
 abbrev broken-card : Table
-broken-card = record { rows = closedRow ∷ rowWith 0x102 kind.Psp fresh (at 7 2049) ∷ rowWith 0x101 kind.Psp fresh fresh ∷ closedRow ∷ closedRow ∷ closedRow ∷ [] }
+broken-card = record { rows = closedRow ∷ rowWith 0x102 1 fresh (at 7 2049) ∷ rowWith 0x101 1 fresh fresh ∷ closedRow ∷ closedRow ∷ closedRow ∷ [] }
 
 longer : received (card fresh) (ip B) (short 49153 6145 128)
     ≡ record { answer = record { code = 0; frames = 0; bytes = 0; dropped = 7; gap = 0; table = card (at 1 0) }; slices = short 49153 6145 128 }

@@ -12,7 +12,6 @@ use Rattle.flow.specs.Numbers.{ahead, next}
 use Rattle.flow.specs.Flow.{fresh}
 use Rattle.packet.specs.Segments.{bodyAt, segmentAt, segments}
 use Rattle.packet.specs.Psp.{wanted}
-use Rattle.table.specs.declared.Kind.the-variants as kind
 use Rattle.table.specs.declared.Row.{Row}
 use Rattle.table.specs.Broken.{broken}
 use Rattle.table.specs.Calls.{opened, closed}
@@ -169,10 +168,10 @@ gap-traced = refl
 
 -- six rows, and four flows in the last
 abbrev openRow : ℕ → List Flow → Row
-openRow id fs = record { id = id; kind = kind.Psp; flows = fs }
+openRow id fs = record { id = id; kind = 1; flows = fs }
 
 abbrev someFlow : ℕ → Flow
-someFlow n = record { heard = true; expected = n; held = 0 }
+someFlow n = record { heard = 1; expected = n; held = 0 }
 
 pub six-rows : rowsText (record {
   table = record {

@@ -7,12 +7,12 @@ use Rattle.flow.specs.Flow.{fresh, judge, accepted, tooLate, unnumbered}
 
 -- a flow that accepted 0xFFFF, as after packet A
 abbrev afterA : Flow
-afterA = record { heard = true; expected = 0; held = 2 }
+afterA = record { heard = 1; expected = 0; held = 2 }
 
 any-number-on-fresh : judge fresh 0xFFFF ≡ accepted fresh 0xFFFF 0
 any-number-on-fresh = refl
 
-wraps-to-0 : (judge fresh 0xFFFF) .flow ≡ record { heard = true; expected = 0; held = 0 }
+wraps-to-0 : (judge fresh 0xFFFF) .flow ≡ record { heard = 1; expected = 0; held = 0 }
 unfolding next
 wraps-to-0 = refl
 
@@ -22,7 +22,7 @@ unfolding ahead next
 gap-0 = refl
 
 -- M5
-gap-1 : judge afterA 1 ≡ record { flow = record { heard = true; expected = 2; held = 2 }; gap = 1; late = false }
+gap-1 : judge afterA 1 ≡ record { flow = record { heard = 1; expected = 2; held = 2 }; gap = 1; late = false }
 unfolding ahead next
 gap-1 = refl
 
@@ -46,11 +46,11 @@ fresh-is-not-waiting : (judge fresh 0x8000) .late ≡ false
 fresh-is-not-waiting = refl
 
 -- a late number leaves the whole record as it was, with gap 0
-late-leaves : judge (record { heard = true; expected = 5; held = 2 }) 3 ≡ record { flow = record { heard = true; expected = 5; held = 2 }; gap = 0; late = true }
+late-leaves : judge (record { heard = 1; expected = 5; held = 2 }) 3 ≡ record { flow = record { heard = 1; expected = 5; held = 2 }; gap = 0; late = true }
 unfolding ahead next
 late-leaves = refl
 
 -- D-MPT with S clear: no gap, not late, and the record as it was
 unnumbered-leaves : (unnumbered fresh ≡ record { flow = fresh; gap = 0; late = false })
-    × (unnumbered afterA ≡ record { flow = record { heard = true; expected = 0; held = 2 }; gap = 0; late = false })
+    × (unnumbered afterA ≡ record { flow = record { heard = 1; expected = 0; held = 2 }; gap = 0; late = false })
 unnumbered-leaves = (refl, refl)

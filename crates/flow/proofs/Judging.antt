@@ -2,14 +2,14 @@
 -- within document 01's bound a judgement on numbers is one on places along the sender's packets.
 use Prim.Native.Nat.{ℕ, _+_, _-_, _<_, _≤_}
 use mathlib.Core.Path.{_≡_, refl, sym, ap}
-use mathlib.Core.Bool.{Bool, true, false, cond, not, true≢false}
+use mathlib.Core.Bool.{Bool, true, false, cond, true≢false}
 use native.Mathlib.Omega.{arith}
 use lib.Dec.{ltb}
 use borrow.Author.Tests.{ltb-true, lt-ltb, le-ltb}
 use Rattle.flow.specs.declared.Flow.{Flow}
 use Rattle.flow.specs.declared.Judged.{Judged}
 use Rattle.flow.specs.Numbers.{ahead, numberAt}
-use Rattle.flow.specs.Flow.{half, accepted, tooLate, judge}
+use Rattle.flow.specs.Flow.{half, heardMark, isFresh, accepted, tooLate, judge}
 use Rattle.flow.proofs.Numbers.{ahead-forward, ahead-behind}
 
 -- either accepted, with a gap below 32,768, or late and as it was
@@ -24,17 +24,17 @@ sound-accepted f n d h = record { gap-small = h; accepts = λ _. refl; kept = λ
 sound-late : (f : Flow) (n : ℕ) → Sound f n (tooLate f)
 sound-late f n = record { gap-small = omega arith; accepts = λ e. absurd (true≢false e); kept = λ _. refl }
 
-sound-by : (heard near : Bool) (f : Flow) (n d : ℕ) → (near ≡ true → d < half) →
-    Sound f n (cond (not heard) (accepted f n 0) (cond near (accepted f n d) (tooLate f)))
-sound-by false near f n d h = sound-accepted f n 0 (omega arith)
-sound-by true true f n d h = sound-accepted f n d (h refl)
-sound-by true false f n d h = sound-late f n
+sound-by : (fresh near : Bool) (f : Flow) (n d : ℕ) → (near ≡ true → d < half) →
+    Sound f n (cond fresh (accepted f n 0) (cond near (accepted f n d) (tooLate f)))
+sound-by true near f n d h = sound-accepted f n 0 (omega arith)
+sound-by false true f n d h = sound-accepted f n d (h refl)
+sound-by false false f n d h = sound-late f n
 
 pub judge-sound : (f : Flow) (n : ℕ) → Sound f n (judge f n)
-judge-sound f n = sound-by (f .heard) (ltb (ahead n (f .expected)) half) f n (ahead n (f .expected)) (λ e. ltb-true _ _ e)
+judge-sound f n = sound-by (isFresh f) (ltb (ahead n (f .expected)) half) f n (ahead n (f .expected)) (λ e. ltb-true _ _ e)
 
 -- The flow of a sender that began at `start`, once the packet before place m was the last to be accepted.
-module _ (f : Flow) (start m : ℕ) (listening : f .heard ≡ true) (waits : f .expected ≡ numberAt start m) where
+module _ (f : Flow) (start m : ℕ) (listening : f .heard ≡ heardMark) (waits : f .expected ≡ numberAt start m) where
   -- a packet at the expected place, or at most 32,767 places further on, is accepted, and the gap is the places passed over
   pub judge-forward : (i : ℕ) → m ≤ i → i < m + half → judge f (numberAt start i) ≡ accepted f (numberAt start i) (i - m)
   judge-forward i from to =

@@ -3,8 +3,8 @@
 -- ahead as the gap; the rest are late. Once it has accepted a number, it expects the next one.
 use Prim.Native.Nat.{ℕ}
 use mathlib.Core.Path.{_≡_}
-use mathlib.Core.Bool.{true, false, cond, not}
-use lib.Dec.{ltb}
+use mathlib.Core.Bool.{Bool, true, false, cond}
+use lib.Dec.{eqb, ltb}
 use Rattle.flow.specs.declared.Flow.{Flow}
 use Rattle.flow.specs.declared.Judged.{Judged}
 use Rattle.flow.specs.Numbers.{ahead, next}
@@ -24,13 +24,22 @@ flows = 4
 abbrev pub topFlow : ℕ
 topFlow = 3
 
+-- the mark of a flow that has accepted a number since its session opened
+abbrev pub heardMark : ℕ
+heardMark = 1
+
 -- no number expected and nothing held: the record of zeros
 abbrev pub fresh : Flow
-fresh = record { heard = false; expected = 0; held = 0 }
+fresh = record { heard = 0; expected = 0; held = 0 }
+
+-- Whether a flow is fresh is read off its mark alone, and any mark but 0 counts as heard. (A mark above 1, or the mark 0 with something held
+-- or expected, stands in a broken table, which open, close and the data call refuse by 13; `judge` alone refuses nothing.)
+abbrev pub isFresh : Flow → Bool
+isFresh f = eqb (f .heard) 0
 
 -- the record after it accepted a number; how many bytes it holds is for the join rule to say
 abbrev pub expecting : Flow → ℕ → Flow
-expecting f number = record { heard = true; expected = next number; held = f .held }
+expecting f number = record { heard = heardMark; expected = next number; held = f .held }
 
 abbrev pub accepted : Flow → ℕ → ℕ → Judged
 accepted f number gap = record { flow = expecting f number; gap = gap; late = false }
@@ -41,7 +50,7 @@ tooLate f = record { flow = f; gap = 0; late = true }
 
 abbrev pub judge : Flow → ℕ → Judged
 judge f number =
-    cond (not (f .heard)) (accepted f number 0)
+    cond (isFresh f) (accepted f number 0)
     (cond (ltb (ahead number (f .expected)) half) (accepted f number (ahead number (f .expected)))
     (tooLate f))
 
@@ -49,8 +58,7 @@ judge f number =
 abbrev pub unnumbered : Flow → Judged
 unnumbered f = record { flow = f; gap = 0; late = false }
 
--- What the two calls on a record permit, whole. (Whether a flow is fresh is read off `heard` alone: a record that has heard nothing and
--- yet holds or expects something stands in a broken table, which open, close and the data call refuse by 13.)
+-- What the two calls on a record permit, whole.
 abbrev pub PermitsFresh : Flow → Type 0
 PermitsFresh answer = answer ≡ fresh
 

@@ -5,7 +5,7 @@ use Prim.Native.Nat.{ℕ, _+_, _-_, _%_}
 abbrev pub modulus : ℕ
 modulus = 65536
 
--- d = number - expected, modulo 65,536, for an expected number below the modulus. Numbers here have no negative ones, so the modulus
+-- d = number - expected, modulo 65,536, for an expected number below the modulus. There are no negative numbers here, so the modulus
 -- is added first.
 unfoldable pub ahead : ℕ → ℕ → ℕ
 ahead number expected = (number + modulus - expected) % modulus

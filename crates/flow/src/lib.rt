@@ -7,9 +7,12 @@ ghost use Rattle.flow.specs.Flow.{PermitsFresh, PermitsJudge};
 // How many flows a row has; their numbers are 0 to `Flow::TOP`.
 pub const FLOWS: usize = 4;
 
+// Plain numbers, since the host program keeps these records: nothing here trusts that they are such as a call of ours leaves.
+#[repr(C)] // it crosses to the host program as it is
 pub struct Flow {
-    // Whether a number was accepted since the session opened. A fresh flow heard none, so that it is the record of zeros.
-    pub heard: bool,
+    // The mark: 0 while the flow is fresh, `Flow::HEARD` once a number was accepted since the session opened. Calls leave a fresh flow all
+    // zero.
+    pub heard: u16,
     pub expected: u16,
     pub held: u16,
 }
@@ -48,12 +51,15 @@ impl Flow {
     // The highest number of a flow.
     pub const TOP: usize = 3;
 
+    // The mark of a flow that is not fresh.
+    pub const HEARD: u16 = 1;
+
     // No number expected, nothing held.
     pub fn fresh() -> Self
         ensures { λ r. ⌜ PermitsFresh r ⌝ }
     {
         Flow {
-            heard: false,
+            heard: 0,
             expected: 0,
             held: 0,
         }
@@ -66,11 +72,11 @@ impl Flow {
         let expected = self.expected;
         let following = number_after(number);
         let expecting = Flow {
-            heard: true,
+            heard: Flow::HEARD,
             expected: following,
             held: self.held,
         };
-        if !self.heard {
+        if self.heard == 0 {
             return Judged {
                 flow: expecting,
                 gap: 0,

@@ -11,7 +11,7 @@ use Rattle.flow.specs.Numbers.{ahead, next}
 use Rattle.packet.specs.Segments.{bodyAt, segmentAt, segments}
 use Rattle.packet.specs.Psp.{wanted}
 use Rattle.packet.specs.Dmpt.{mpegAt, mpegs}
-use Rattle.table.specs.declared.Mode.the-variants as mode
+use Rattle.table.specs.declared.Kind.the-variants as kind
 use Rattle.table.specs.Rows.{empty}
 use Rattle.table.specs.Broken.{broken}
 use Rattle.table.specs.Calls.{asking, opened, closed}
@@ -32,7 +32,7 @@ with-slice holding x = record { holding = holding; call = x }
 
 abbrev slices-change : List Lent
 slices-change =
-    with-slice [] (opens (asking mode.Psp 0x101))
+    with-slice [] (opens (asking kind.Psp 0x101))
     ∷ with-slice (replicate 49152 0) (hand A)
     ∷ with-slice (replicate 49151 0) (hand B)
     ∷ with-slice (replicate 49152 9) (hand B)
@@ -51,7 +51,7 @@ abbrev short-slice : Lent
 short-slice = with-slice (replicate 49151 0) (hand B)
 
 abbrev before-it : List Lent
-before-it = with-slice [] (opens (asking mode.Psp 0x101)) ∷ with-slice (replicate 49152 0) (hand A) ∷ []
+before-it = with-slice [] (opens (asking kind.Psp 0x101)) ∷ with-slice (replicate 49152 0) (hand A) ∷ []
 
 refused-by-1 : (answer (cardFor (tableAfterAll empty before-it) short-slice) (hand B)) .code ≡ 1
 unfolding part rest put joined lengths cutBy any least sumTo upTo ahead next bodyAt segmentAt segments wanted broken opened settledBy settled fateBy fate atGap inOrder pspFate hear carriedOut refused receivedBy received answer after tableAfterAll
@@ -65,7 +65,7 @@ mpegs-come =
 abbrev and-closes : List Lent
 and-closes =
     slices-change
-    ++ (with-slice [] (opens (asking mode.Dmpt 0x103)) ∷ with-slice (replicate 49152 4) (hand mpegs-come) ∷ with-slice [] (closes 0x101) ∷ [])
+    ++ (with-slice [] (opens (asking kind.Dmpt 0x103)) ∷ with-slice (replicate 49152 4) (hand mpegs-come) ∷ with-slice [] (closes 0x101) ∷ [])
 
 closes-counted : (countedBy bytesTaken empty and-closes ≡ 394)
     × (countedBy bytesDelivered empty and-closes ≡ 203)
@@ -80,7 +80,7 @@ never-broken-instance = (refl, refl)
 
 -- one slice through all calls, and the close: which bytes come in, are delivered, are dropped, and that none is held at the end
 abbrev calls : List Call
-calls = opens (asking mode.Psp 0x101) ∷ hand A ∷ hand B ∷ hand begins ∷ closes 0x101 ∷ []
+calls = opens (asking kind.Psp 0x101) ∷ hand A ∷ hand B ∷ hand begins ∷ closes 0x101 ∷ []
 
 each-byte-instance : (gathered takenBy (emptyCard (replicate 49152 0)) calls
     ≡ 0x11 ∷ 0x12 ∷ 0x13 ∷ 0x14 ∷ 0x15 ∷ 0x16 ∷ 0x21 ∷ 0x22 ∷ 0x23 ∷ 0x24 ∷ 0x25 ∷ 0x26 ∷ 0x27 ∷ 0x28 ∷ 0x29 ∷ 0x71 ∷ 0x72 ∷ 0x73 ∷ [])

@@ -14,7 +14,6 @@ use Rattle.packet.specs.Segments.{bodyAt, segmentAt, segments}
 use Rattle.packet.specs.Psp.{wanted}
 use Rattle.packet.specs.Check.{checkRefusals, check}
 use Rattle.packet.specs.Header.{Packet, ip, sub, number}
-use Rattle.table.specs.declared.Mode.the-variants as mode
 use Rattle.table.specs.Broken.{broken}
 use Rattle.table.specs.Calls.{asking, opened, closed}
 use Rattle.join.specs.Join.{settledBy, settled, fateBy, fate, atGap, inOrder, pspFate}
@@ -108,7 +107,7 @@ overtaken-calls =
     ∷ hand others-next
     ∷ hand packet1
     ∷ closes 0x102
-    ∷ opens (asking mode.Dmpt 0x101)
+    ∷ opens (asking kind.Dmpt 0x101)
     ∷ hands (record { packet = ip (to-101 (0x41 ∷ [])); output = []; lengths = [] })
     ∷ hand flow-2-half
     ∷ hand packet3
@@ -120,9 +119,9 @@ pub long-slices : (mine : Bool) → mine ≡ true → (6144 ≤ length {A = ℕ}
 long-slices mine e = (omega (arith, length-replicate {A = ℕ} 6144 0), omega (arith, length-replicate {A = ℕ} 127 0))
 
 abbrev pub before : List Call
-before = opens (asking mode.Psp 0x102) ∷ hand others-half ∷ []
+before = opens (asking kind.Psp 0x102) ∷ hand others-half ∷ []
 
-pub opens-101 : (answer (afterAll (emptyCard (replicate 49152 0)) before) (opens (asking mode.Psp 0x101))) .code ≡ 0
+pub opens-101 : (answer (afterAll (emptyCard (replicate 49152 0)) before) (opens (asking kind.Psp 0x101))) .code ≡ 0
 unfolding part rest put joined lengths any least sumTo upTo ahead next bodyAt segmentAt segments wanted broken opened settledBy settled fateBy fate atGap inOrder pspFate hear carriedOut refused receivedBy received answer after afterAll
 opens-101 = refl
 

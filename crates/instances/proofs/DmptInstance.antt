@@ -13,8 +13,7 @@ use Rattle.packet.specs.Segments.{bodyAt, segmentAt, segments}
 use Rattle.packet.specs.Psp.{wanted}
 use Rattle.packet.specs.Dmpt.{mpegAt, mpegs}
 use Rattle.table.specs.declared.Kind.the-variants as kind
-use Rattle.table.specs.declared.Mode.the-variants as mode
-use Rattle.table.specs.Rows.{isDmpt, rowAt, closedRow}
+use Rattle.table.specs.Rows.{isDmpt, termsAt, closedRow}
 use Rattle.table.specs.Broken.{broken}
 use Rattle.table.specs.Calls.{asking, opened}
 use Rattle.join.specs.Join.{settledBy, settled, fateBy, fate, atGap, mpegFate, inOrder, pspFate, dmptFate}
@@ -39,7 +38,7 @@ abbrev pub dmpt-packet : List ℕ
 dmpt-packet = 0x00 ∷ 0x00 ∷ 0x01 ∷ 0x03 ∷ 0x00 ∷ 0x05 ∷ 0x12 ∷ 0x34 ∷ (mpeg-some ++ mpeg-null)
 
 abbrev pub dmpt-card : Card
-dmpt-card = afterAll (emptyCard (replicate 49152 0)) (opens (asking mode.Psp 0x102) ∷ hand others-half ∷ opens (asking mode.Dmpt 0x103) ∷ opens (asking mode.Psp 0x101) ∷ [])
+dmpt-card = afterAll (emptyCard (replicate 49152 0)) (opens (asking kind.Psp 0x102) ∷ hand others-half ∷ opens (asking kind.Dmpt 0x103) ∷ opens (asking kind.Psp 0x101) ∷ [])
 
 -- This card, told: 0x102 has heard its packet and holds 3 bytes in the place of its flow 1, and the others are fresh.
 abbrev pub dmpt-told : Card
@@ -47,9 +46,9 @@ dmpt-told =
     record {
       table = record {
         rows =
-            record { id = 0x102; kind = kind.Psp; flows = fresh ∷ record { heard = true; expected = 0x1235; held = 3 } ∷ fresh ∷ fresh ∷ [] }
-            ∷ record { id = 0x103; kind = kind.Dmpt; flows = replicate 4 fresh }
-            ∷ record { id = 0x101; kind = kind.Psp; flows = replicate 4 fresh }
+            record { id = 0x102; kind = 1; flows = fresh ∷ record { heard = 1; expected = 0x1235; held = 3 } ∷ fresh ∷ fresh ∷ [] }
+            ∷ record { id = 0x103; kind = 2; flows = replicate 4 fresh }
+            ∷ record { id = 0x101; kind = 1; flows = replicate 4 fresh }
             ∷ closedRow
             ∷ closedRow
             ∷ closedRow
@@ -59,7 +58,7 @@ dmpt-told =
     }
 
 -- The packet is for a D-MPT session ..
-pub dmpt-goes : (dmpt-card ≡ dmpt-told) × (isDmpt (rowAt (dmpt-card .table) (rowOf (dmpt-card .table) (ip dmpt-packet)) .kind) ≡ true)
+pub dmpt-goes : (dmpt-card ≡ dmpt-told) × (isDmpt (termsAt (dmpt-card .table) (rowOf (dmpt-card .table) (ip dmpt-packet)) .kind) ≡ true)
 unfolding part rest put joined lengths any least sumTo upTo ahead next bodyAt segmentAt segments wanted broken opened settledBy settled fateBy fate atGap inOrder pspFate hear carriedOut refused receivedBy received after afterAll
 dmpt-goes = (refl, refl)
 

@@ -13,7 +13,7 @@ use Rattle.packet.specs.Header.{Packet}
 use Rattle.packet.specs.Segments.{bodyAt, segmentAt, segments}
 use Rattle.packet.specs.Psp.{wanted}
 use Rattle.packet.specs.Dmpt.{mpegAt, mpegs}
-use Rattle.table.specs.declared.Mode.the-variants as mode
+use Rattle.table.specs.declared.Kind.the-variants as kind
 use Rattle.table.specs.Rows.{find}
 use Rattle.table.specs.Broken.{broken}
 use Rattle.table.specs.Calls.{asking, opened, closed}
@@ -49,7 +49,7 @@ one-frame size dropped gap frame =
     record { code = 0; frames = 1; bytes = size; dropped = dropped; gap = gap; output = frame; lengths = size ∷ [] }
 
 abbrev fresh-101 : Card
-fresh-101 = after (cardAfter (replicate 49152 0) []) (opens (asking mode.Psp 0x101))
+fresh-101 = after (cardAfter (replicate 49152 0) []) (opens (asking kind.Psp 0x101))
 
 -- A, and then number 4: four are missing before it, and what A left is dropped.
 gap-is-told : told 0x101 fresh-101 (hand A ∷ hand (whole3 4) ∷ []) ≡ one-frame 6 0 0 of6 ∷ one-frame 3 2 4 of3 ∷ []
@@ -72,7 +72,7 @@ lead-is-passed-over = refl
 
 -- Between A and B another session is closed, and a packet with number 3 is refused, whose last byte is cut: B finds what A left, and the number is expected.
 abbrev half-there : List Call
-half-there = opens (asking mode.Psp 0x102) ∷ hand A ∷ closes 0x102 ∷ hand (take 12 (whole3 3)) ∷ hand B ∷ []
+half-there = opens (asking kind.Psp 0x102) ∷ hand A ∷ closes 0x102 ∷ hand (take 12 (whole3 3)) ∷ hand B ∷ []
 
 abbrev cut-short : Told
 cut-short = record { code = 10; frames = 0; bytes = 0; dropped = 0; gap = 0; output = []; lengths = [] }
@@ -97,10 +97,10 @@ flow-3-dropped = refl
 abbrev six-then-one : Card
 six-then-one =
     cardAfter (replicate 49152 0)
-    (opens (asking mode.Psp 1) ∷ opens (asking mode.Psp 0x101) ∷ opens (asking mode.Psp 3) ∷ opens (asking mode.Psp 4) ∷ opens (asking mode.Psp 5) ∷ opens (asking mode.Psp 6) ∷ closes 0x101 ∷ [])
+    (opens (asking kind.Psp 1) ∷ opens (asking kind.Psp 0x101) ∷ opens (asking kind.Psp 3) ∷ opens (asking kind.Psp 4) ∷ opens (asking kind.Psp 5) ∷ opens (asking kind.Psp 6) ∷ closes 0x101 ∷ [])
 
-free-row : (answer six-then-one (opens (asking mode.Psp 7)) .code ≡ 0)
-    × (find (after six-then-one (opens (asking mode.Psp 7)) .table) 7 ≡ 1)
+free-row : (answer six-then-one (opens (asking kind.Psp 7)) .code ≡ 0)
+    × (find (after six-then-one (opens (asking kind.Psp 7)) .table) 7 ≡ 1)
     × (answer six-then-one (hand A) .code ≡ 5)
 unfolding part rest put joined lengths any least sumTo upTo ahead next bodyAt segmentAt segments wanted broken opened closed settledBy settled fateBy fate atGap inOrder pspFate hear carriedOut refused receivedBy received answer after afterAll
 free-row = (refl, refl, refl)
@@ -115,7 +115,7 @@ numbered low = 0x00 ∷ 0x00 ∷ 0x01 ∷ 0x03 ∷ 0x40 ∷ 0x00 ∷ 0x12 ∷ lo
 abbrev too-late : Told
 too-late = record { code = 12; frames = 0; bytes = 0; dropped = 0; gap = 0; output = []; lengths = [] }
 
-dmpt-numbered : told 0x103 (after (cardAfter (replicate 49152 0) []) (opens (asking mode.Dmpt 0x103))) (hand (numbered 0x34) ∷ hand (numbered 0x39) ∷ hand (numbered 0x39) ∷ [])
+dmpt-numbered : told 0x103 (after (cardAfter (replicate 49152 0) []) (opens (asking kind.Dmpt 0x103))) (hand (numbered 0x34) ∷ hand (numbered 0x39) ∷ hand (numbered 0x39) ∷ [])
     ≡ one-frame 188 0 0 mpeg ∷ one-frame 188 0 4 mpeg ∷ too-late ∷ []
 unfolding part rest put joined lengths any least sumTo upTo ahead next mpegAt mpegs broken opened mpegFate inOrder dmptFate hear carriedOut refused receivedBy received answer after afterAll told
 dmpt-numbered = refl

@@ -11,7 +11,7 @@ use Rattle.octets.specs.Count.{any, least, sumTo, upTo}
 use Rattle.flow.specs.Numbers.{ahead, next}
 use Rattle.packet.specs.Segments.{bodyAt, segmentAt, segments}
 use Rattle.packet.specs.Psp.{wanted}
-use Rattle.table.specs.declared.Mode.the-variants as mode
+use Rattle.table.specs.declared.Kind.the-variants as kind
 use Rattle.table.specs.Broken.{broken}
 use Rattle.table.specs.Calls.{asking, isOpen, opened, closed}
 use Rattle.join.specs.Join.{settledBy, settled, fateBy, fate, atGap, inOrder, pspFate}
@@ -29,7 +29,7 @@ abbrev alone-calls : List Call
 alone-calls = hand A ∷ hand B ∷ hand half-a-frame ∷ closes 0x101 ∷ []
 
 abbrev one-before : List Call
-one-before = opens (asking mode.Psp 0x109) ∷ []
+one-before = opens (asking kind.Psp 0x109) ∷ []
 
 -- The same among others, in row 0, which another session had left. Session 0x102, in row 1, hears the like on its own flow 1, between A and B, and is closed; an
 -- open of 0x101 is refused; and what is lent is as long, but not the same.
@@ -40,16 +40,16 @@ abbrev hand-other : List ℕ → Call
 hand-other packet = hands (record { packet = ip packet; output = replicate 6144 7; lengths = replicate 127 8 })
 
 abbrev others-first : List Call
-others-first = opens (asking mode.Dmpt 0x104) ∷ opens (asking mode.Psp 0x102) ∷ hand (to-102 0) ∷ closes 0x104 ∷ []
+others-first = opens (asking kind.Dmpt 0x104) ∷ opens (asking kind.Psp 0x102) ∷ hand (to-102 0) ∷ closes 0x104 ∷ []
 
 abbrev among-others : List Call
 among-others =
     hand-other A
     ∷ hand (to-102 1)
     ∷ closes 0x102
-    ∷ opens (asking mode.Dmpt 0x101)
+    ∷ opens (asking kind.Dmpt 0x101)
     ∷ hand-other B
-    ∷ opens (asking mode.Psp 0x103)
+    ∷ opens (asking kind.Psp 0x103)
     ∷ hand-other half-a-frame
     ∷ closes 0x101
     ∷ hand A
@@ -59,8 +59,8 @@ same-own : own 0x101 alone-calls ≡ own 0x101 among-others
 unfolding rest own
 same-own = refl
 
-opens-both : (answer (cardAfter (replicate 49152 0) one-before) (opens (asking mode.Psp 0x101)) .code ≡ 0)
-    × (answer (cardAfter (replicate 49152 5) others-first) (opens (asking mode.Psp 0x101)) .code ≡ 0)
+opens-both : (answer (cardAfter (replicate 49152 0) one-before) (opens (asking kind.Psp 0x101)) .code ≡ 0)
+    × (answer (cardAfter (replicate 49152 5) others-first) (opens (asking kind.Psp 0x101)) .code ≡ 0)
 unfolding part rest put joined lengths any least sumTo upTo ahead next bodyAt segmentAt segments wanted broken opened closed settledBy settled fateBy fate atGap inOrder pspFate hear carriedOut refused receivedBy received answer after afterAll
 opens-both = (refl, refl)
 
@@ -72,25 +72,25 @@ answered =
     ∷ record { code = 0; frames = 0; bytes = 0; dropped = 2; gap = 0; output = []; lengths = [] }
     ∷ []
 
-isolation-instance : (told 0x101 (after (cardAfter (replicate 49152 0) one-before) (opens (asking mode.Psp 0x101))) alone-calls ≡ answered)
-    × (told 0x101 (after (cardAfter (replicate 49152 5) others-first) (opens (asking mode.Psp 0x101))) among-others ≡ answered)
+isolation-instance : (told 0x101 (after (cardAfter (replicate 49152 0) one-before) (opens (asking kind.Psp 0x101))) alone-calls ≡ answered)
+    × (told 0x101 (after (cardAfter (replicate 49152 5) others-first) (opens (asking kind.Psp 0x101))) among-others ≡ answered)
 unfolding part rest put joined lengths any least sumTo upTo ahead next bodyAt segmentAt segments wanted broken opened closed settledBy settled fateBy fate atGap inOrder pspFate hear carriedOut refused receivedBy received answer after afterAll told
 isolation-instance = (refl, refl)
 
 -- Session 2 is open in row 1 of the one table and in row 0 of the other, and no other session in either: opening 3 succeeds, opening 2 again and opening 0 does not.
 -- With six open, a seventh is refused.
 abbrev in-row-1 : Card
-in-row-1 = cardAfter [] (opens (asking mode.Psp 1) ∷ opens (asking mode.Dmpt 2) ∷ closes 1 ∷ [])
+in-row-1 = cardAfter [] (opens (asking kind.Psp 1) ∷ opens (asking kind.Dmpt 2) ∷ closes 1 ∷ [])
 
 abbrev in-row-0 : Card
-in-row-0 = cardAfter [] (opens (asking mode.Psp 2) ∷ [])
+in-row-0 = cardAfter [] (opens (asking kind.Psp 2) ∷ [])
 
-open-by-ids-instance : (answer in-row-1 (opens (asking mode.Psp 3)) .code ≡ 0)
-    × (answer in-row-0 (opens (asking mode.Psp 3)) .code ≡ 0)
-    × (answer in-row-1 (opens (asking mode.Psp 2)) .code ≡ 22)
-    × (answer in-row-0 (opens (asking mode.Psp 2)) .code ≡ 22)
-    × (answer in-row-1 (opens (asking mode.Psp 0)) .code ≡ 21)
-    × (answer (cardAfter [] (opens (asking mode.Psp 1) ∷ opens (asking mode.Psp 2) ∷ opens (asking mode.Psp 3) ∷ opens (asking mode.Dmpt 4) ∷ opens (asking mode.Psp 5) ∷ opens (asking mode.Psp 6) ∷ [])) (opens (asking mode.Psp 7)) .code ≡ 23)
+open-by-ids-instance : (answer in-row-1 (opens (asking kind.Psp 3)) .code ≡ 0)
+    × (answer in-row-0 (opens (asking kind.Psp 3)) .code ≡ 0)
+    × (answer in-row-1 (opens (asking kind.Psp 2)) .code ≡ 22)
+    × (answer in-row-0 (opens (asking kind.Psp 2)) .code ≡ 22)
+    × (answer in-row-1 (opens (asking kind.Psp 0)) .code ≡ 21)
+    × (answer (cardAfter [] (opens (asking kind.Psp 1) ∷ opens (asking kind.Psp 2) ∷ opens (asking kind.Psp 3) ∷ opens (asking kind.Dmpt 4) ∷ opens (asking kind.Psp 5) ∷ opens (asking kind.Psp 6) ∷ [])) (opens (asking kind.Psp 7)) .code ≡ 23)
     × (isOpen (in-row-1 .table) 2 ≡ true)
     × (isOpen (in-row-0 .table) 2 ≡ true)
     × (isOpen (in-row-1 .table) 1 ≡ false)

@@ -10,7 +10,7 @@ use Rattle.octets.specs.Count.{any, least, sumTo, upTo}
 use Rattle.flow.specs.Numbers.{ahead, next}
 use Rattle.packet.specs.Segments.{bodyAt, segmentAt, segments}
 use Rattle.packet.specs.Psp.{wanted}
-use Rattle.table.specs.declared.Mode.the-variants as mode
+use Rattle.table.specs.declared.Kind.the-variants as kind
 use Rattle.table.specs.Broken.{broken}
 use Rattle.table.specs.Calls.{asking, opened, closed}
 use Rattle.join.specs.Join.{settledBy, settled, fateBy, fate, atGap, inOrder, pspFate}
@@ -46,9 +46,9 @@ lent packet = hands (record { packet = ip packet; output = replicate 6144 6; len
 refusals-instance : ((answer (handed-card opened-card (A ∷ B ∷ [])) (lent B)) .code ≡ 12)
     × ((answer (handed-card opened-card (A ∷ B ∷ [])) (lent B)) .output ≡ replicate 6144 6)
     × ((answer (handed-card opened-card (A ∷ B ∷ [])) (lent B)) .lengths ≡ replicate 127 7)
-    × ((answer opened-card (opens (asking mode.Psp 0x101))) .code ≡ 22)
+    × ((answer opened-card (opens (asking kind.Psp 0x101))) .code ≡ 22)
     × ((answer opened-card (closes 0x102)) .code ≡ 25)
-    × ((after opened-card (opens (asking mode.Psp 0x101))) .table ≡ opened-card .table)
+    × ((after opened-card (opens (asking kind.Psp 0x101))) .table ≡ opened-card .table)
     × ((after opened-card (closes 0x102)) .table ≡ opened-card .table)
 unfolding part rest put joined lengths cutBy any least sumTo upTo ahead next bodyAt segmentAt segments wanted broken opened closed settledBy settled fateBy fate atGap inOrder pspFate hear carriedOut refused receivedBy received answer after handed-card
 refusals-instance = (refl, refl, refl, refl, refl, refl, refl)

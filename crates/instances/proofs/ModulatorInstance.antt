@@ -16,7 +16,6 @@ use Rattle.packet.specs.Segments.{bodyAt, segmentAt, segments}
 use Rattle.packet.specs.Psp.{wanted}
 use Rattle.packet.specs.Check.{checkRefusals, check}
 use Rattle.packet.specs.Header.{Packet, ip, sub, number}
-use Rattle.table.specs.declared.Mode.the-variants as mode
 use Rattle.table.specs.Broken.{broken}
 use Rattle.table.specs.Calls.{asking, opened, closed}
 use Rattle.join.specs.Join.{settledBy, settled, fateBy, fate, atGap, inOrder, pspFate}
@@ -83,7 +82,7 @@ sending = record { line = record { session = 0x101; flow = 1; start = 0xFFFF }; 
 abbrev pub calls : List Call
 calls = hand (packetAt packets 0) ∷ hand (packetAt packets 2) ∷ []
 
-pub opens-now : (answer (afterAll (emptyCard (replicate 49152 0)) []) (opens (asking mode.Psp 0x101))) .code ≡ 0
+pub opens-now : (answer (afterAll (emptyCard (replicate 49152 0)) []) (opens (asking kind.Psp 0x101))) .code ≡ 0
 unfolding any least sumTo upTo broken opened answer after afterAll
 opens-now = refl
 

@@ -13,7 +13,6 @@ use Rattle.flow.specs.Numbers.{ahead, next}
 use Rattle.packet.specs.Segments.{bodyAt, segmentAt, segments}
 use Rattle.packet.specs.Header.{ip}
 use Rattle.packet.specs.Psp.{wanted}
-use Rattle.table.specs.declared.Mode.the-variants as mode
 use Rattle.table.specs.Broken.{broken}
 use Rattle.table.specs.Calls.{asking, opened}
 use Rattle.join.specs.Join.{settledBy, settled, fateBy, fate, atGap, inOrder, pspFate}
@@ -54,7 +53,7 @@ given-m12 =
       enough = omega (arith, length-replicate 15 limit16);
     }
 
-pub round-trip-opens : (answer (afterAll (emptyCard (replicate 49152 0)) []) (opens (asking mode.Psp 0x101))) .code ≡ 0
+pub round-trip-opens : (answer (afterAll (emptyCard (replicate 49152 0)) []) (opens (asking kind.Psp 0x101))) .code ≡ 0
 unfolding any least broken opened answer afterAll
 round-trip-opens = refl
 
@@ -82,7 +81,7 @@ in-order-m12 =
     }
 
 -- What comes out is what was given.
-pub round-trip-instance : (framesOut kind.Psp 0x101 1 (after (afterAll (emptyCard (in-order-m12 .holding)) (in-order-m12 .before)) (opens (asking mode.Psp 0x101))) (in-order-m12 .calls) ≡ of6 ∷ of9 ∷ [])
+pub round-trip-instance : (framesOut kind.Psp 0x101 1 (after (afterAll (emptyCard (in-order-m12 .holding)) (in-order-m12 .before)) (opens (asking kind.Psp 0x101))) (in-order-m12 .calls) ≡ of6 ∷ of9 ∷ [])
     × (framesGiven given-m12 ≡ of6 ∷ of9 ∷ [])
 unfolding part rest put joined lengths cutBy any least sumTo upTo ahead next bodyAt segmentAt segments wanted broken opened settledBy settled fateBy fate atGap inOrder pspFate hear carriedOut refused receivedBy received answer after afterAll framesOut
 round-trip-instance = (refl, refl)

@@ -10,8 +10,8 @@ use borrow.Author.Tests.{eq-eqb, ne-eqb, eqb-true}
 use Rattle.octets.specs.Bytes.{be32At}
 use Rattle.packet.specs.Header.{ip}
 use Rattle.table.specs.declared.Table.{Table}
-use Rattle.table.specs.declared.Mode.{Mode}
-use Rattle.table.specs.declared.Mode.the-variants as mode
+use Rattle.table.specs.declared.Kind.{Kind}
+use Rattle.table.specs.declared.Kind.the-variants as session-kind
 use Rattle.table.specs.Calls.{asking, opened, closed}
 use Rattle.join.specs.Slices.{asSlices}
 use Rattle.card.specs.declared.Received.{Received}
@@ -47,7 +47,7 @@ module _ (t : Table) (holding output lens : List ℕ) (kind : ℕ) (body : List 
   lent = record { packet = ip body; output = output; lengths = lens }
 
   -- an entry that opens, as PSP or as D-MPT
-  opened-as : (asked : Mode) (id : ℕ) (r : Received) → callOf before (entryOf kind body) ≡ opens (asks asked (entryOf kind body)) → id ≡ be32At body 0 →
+  opened-as : (asked : Kind) (id : ℕ) (r : Received) → callOf before (entryOf kind body) ≡ opens (asks asked (entryOf kind body)) → id ≡ be32At body 0 →
       r ≡ answered (opened t (asking asked id) .code) 0 (opened t (asking asked id) .table) → RunsTo before (entryOf kind body) r holding output lens
   unfolding answer after
   opened-as asked id r x i e =
@@ -65,18 +65,18 @@ module _ (t : Table) (holding output lens : List ℕ) (kind : ℕ) (body : List 
     pub psp-body : takesLength (bodyIn kinds kind) (length body) ≡ true → 0 + 3 < length body
     psp-body = id-inside (rw (eq-eqb kind openPsp psp) refl)
 
-    pub opens-psp : (id : ℕ) (r : Received) → id ≡ be32At body 0 → r ≡ answered (opened t (asking mode.Psp id) .code) 0 (opened t (asking mode.Psp id) .table) →
+    pub opens-psp : (id : ℕ) (r : Received) → id ≡ be32At body 0 → r ≡ answered (opened t (asking session-kind.Psp id) .code) 0 (opened t (asking session-kind.Psp id) .table) →
         RunsTo before (entryOf kind body) r holding output lens
-    opens-psp id r = opened-as mode.Psp id r (rw (eq-eqb kind openPsp psp) refl)
+    opens-psp id r = opened-as session-kind.Psp id r (rw (eq-eqb kind openPsp psp) refl)
 
   module _ (other : kind ≡ openPsp → ⊥) where
     module _ (dmpt : kind ≡ openDmpt) where
       pub dmpt-body : takesLength (bodyIn kinds kind) (length body) ≡ true → 0 + 3 < length body
       dmpt-body = id-inside (rw (ne-eqb kind openPsp other, eq-eqb kind openDmpt dmpt) refl)
 
-      pub opens-dmpt : (id : ℕ) (r : Received) → id ≡ be32At body 0 → r ≡ answered (opened t (asking mode.Dmpt id) .code) 0 (opened t (asking mode.Dmpt id) .table) →
+      pub opens-dmpt : (id : ℕ) (r : Received) → id ≡ be32At body 0 → r ≡ answered (opened t (asking session-kind.Dmpt id) .code) 0 (opened t (asking session-kind.Dmpt id) .table) →
           RunsTo before (entryOf kind body) r holding output lens
-      opens-dmpt id r = opened-as mode.Dmpt id r (rw (ne-eqb kind openPsp other, eq-eqb kind openDmpt dmpt) refl)
+      opens-dmpt id r = opened-as session-kind.Dmpt id r (rw (ne-eqb kind openPsp other, eq-eqb kind openDmpt dmpt) refl)
 
     module _ (not-dmpt : kind ≡ openDmpt → ⊥) where
       module _ (close : kind ≡ closing) where

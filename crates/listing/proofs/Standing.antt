@@ -10,7 +10,7 @@ use Rattle.octets.specs.Count.{sumTo}
 use Rattle.octets.proofs.Counts.{sum-none}
 use Rattle.packet.specs.Header.{ip}
 use Rattle.table.specs.declared.Request.{Request}
-use Rattle.table.specs.declared.Mode.the-variants as mode
+use Rattle.table.specs.declared.Kind.the-variants as kind
 use Rattle.table.specs.Broken.{broken}
 use Rattle.table.proofs.Keeping.{empty-unbroken, opened-keeps, closed-keeps}
 use Rattle.join.specs.Slices.{mostFrames, mostBytes, asSlices}
@@ -30,8 +30,8 @@ either P false p q = q
 by-call : (r : Running) (e : Entry) (P : Call → Type 0) → ((q : Request) → P (opens q)) → ((id : ℕ) → P (closes id)) →
     P (hands (record { packet = ip (e .body); output = r .output; lengths = r .lengths })) → P (callOf r e)
 by-call r e P on-open on-close on-data =
-    either P (eqb (e .kind) openPsp) (on-open (asks mode.Psp e))
-    (either P (eqb (e .kind) openDmpt) (on-open (asks mode.Dmpt e))
+    either P (eqb (e .kind) openPsp) (on-open (asks kind.Psp e))
+    (either P (eqb (e .kind) openDmpt) (on-open (asks kind.Dmpt e))
     (either P (eqb (e .kind) closing) (on-close (be32At (e .body) 0)) on-data))
 
 -- no entry breaks the table

@@ -7,9 +7,9 @@ use lib.Dec.{eqb}
 use lib.ListN.{replicate}
 use Rattle.octets.specs.Bytes.{be32At}
 use Rattle.packet.specs.Header.{ip}
-use Rattle.table.specs.declared.Mode.{Mode}
+use Rattle.table.specs.declared.Kind.{Kind}
 use Rattle.table.specs.declared.Request.{Request}
-use Rattle.table.specs.declared.Mode.the-variants as mode
+use Rattle.table.specs.declared.Kind.the-variants as kind
 use Rattle.table.specs.Calls.{asking}
 use Rattle.join.specs.Slices.{mostBytes, mostFrames}
 use Rattle.card.specs.Receive.{holdingSize}
@@ -22,14 +22,14 @@ pub record Running : Type 0 where
   pub lengths : List ℕ
 
 -- the open that an entry stands for: of its session ID, as PSP or as D-MPT
-abbrev pub asks : Mode → Entry → Request
+abbrev pub asks : Kind → Entry → Request
 asks asked e = asking asked (be32At (e .body) 0)
 
 -- the call that an entry stands for
 abbrev pub callOf : Running → Entry → Call
 callOf r e =
-    cond (eqb (e .kind) openPsp) (opens (asks mode.Psp e))
-    (cond (eqb (e .kind) openDmpt) (opens (asks mode.Dmpt e))
+    cond (eqb (e .kind) openPsp) (opens (asks kind.Psp e))
+    (cond (eqb (e .kind) openDmpt) (opens (asks kind.Dmpt e))
     (cond (eqb (e .kind) closing) (closes (be32At (e .body) 0))
     (hands (record { packet = ip (e .body); output = r .output; lengths = r .lengths }))))
 

@@ -6,7 +6,7 @@ ghost use Rattle.table.specs.Calls.{asking, opened, closed};
 ghost use Rattle.capture.specs.File.{bodyIn, kinds, takesLength};
 ghost use Rattle.listing.specs.Walk.{asRunning, answered, RunsTo};
 use card::Received;
-use table::Mode;
+use table::Kind;
 use table::Request;
 use table::Table;
 
@@ -25,10 +25,10 @@ fn plain(code: u32, dropped: u32, table: Table) -> Received
 }
 
 // Opens a session.
-fn open(table: Table, id: u32, mode: Mode) -> Received
-    ensures { λ r. ⌜ r ≡ answered ((opened table (asking mode id)) .code) 0 ((opened table (asking mode id)) .table) ⌝ }
+fn open(table: Table, id: u32, kind: Kind) -> Received
+    ensures { λ r. ⌜ r ≡ answered ((opened table (asking kind id)) .code) 0 ((opened table (asking kind id)) .table) ⌝ }
 {
-    let request = Request { id, mode };
+    let request = Request { id, kind };
     let opening = table::open(table, request);
     plain(opening.code, 0, opening.table)
 }
@@ -55,10 +55,10 @@ pub fn run_entry(
         (record { kind = kind; body = now (body .entry) }) r (now (holding .exit)) (now (output .exit)) (now (lengths .exit)) ⌝ }
 {
     if kind == capture::OPEN_PSP {
-        return open(table, octets::read_u32(body, 0), Mode::Psp);
+        return open(table, octets::read_u32(body, 0), Kind::Psp);
     }
     if kind == capture::OPEN_DMPT {
-        return open(table, octets::read_u32(body, 0), Mode::Dmpt);
+        return open(table, octets::read_u32(body, 0), Kind::Dmpt);
     }
     if kind == capture::CLOSE {
         return close(table, octets::read_u32(body, 0));

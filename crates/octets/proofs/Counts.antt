@@ -237,5 +237,8 @@ seek-turn {p} {n} {i} g l e = record { within = omega arith; none = none-more p 
 pub seek-found : {p : ℕ → Bool} {n i : ℕ} → Sought p n i → i < n → p i ≡ true → i ≡ least p n
 seek-found {p} {n} {i} g l e = sym (least-at p n i (g .none) e l)
 
+pub seek-none : {p : ℕ → Bool} {n i : ℕ} → Sought p n i → n ≤ i → any p n ≡ false
+seek-none {p} {n} {i} g l = let q : n ≡ i = omega (arith, g .within, l) in ap (any p) q ∙ g .none
+
 pub seek-end : {p : ℕ → Bool} {n i : ℕ} → Sought p n i → n ≤ i → n ≡ least p n
-seek-end {p} {n} {i} g l = let q : i ≡ n = omega arith in sym (least-none p n (ap (any p) (sym q) ∙ g .none))
+seek-end {p} {n} {i} g l = sym (least-none p n (seek-none g l))

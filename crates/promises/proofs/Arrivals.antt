@@ -13,7 +13,7 @@ use borrow.Author.Tests.{leb-true, leb-false}
 use Rattle.octets.specs.Each.{Each}
 use Rattle.flow.specs.declared.Flow.{Flow}
 use Rattle.flow.specs.Numbers.{next, numberAt}
-use Rattle.flow.specs.Flow.{fresh, judge}
+use Rattle.flow.specs.Flow.{fresh, judge, heardMark}
 use Rattle.flow.proofs.Numbers.{numberAt-next}
 use Rattle.flow.proofs.Judging.{judge-forward, judge-behind}
 use Rattle.packet.specs.Header.{Packet, ip, sub}
@@ -92,7 +92,7 @@ module _ (start : ℕ) (packets : List Packet) (by-place : (f : Flow) (x : ℕ) 
   those xs = map (packetAt packets) xs
 
   -- `expected` is the place that the flow waits for
-  arrivals-along : (f : Flow) (expected : ℕ) (held : List ℕ) (xs : List ℕ) → f .heard ≡ true → f .expected ≡ numberAt start expected →
+  arrivals-along : (f : Flow) (expected : ℕ) (held : List ℕ) (xs : List ℕ) → f .heard ≡ heardMark → f .expected ≡ numberAt start expected →
       Each (λ x. x < length packets) xs → WithinBound expected xs →
       framesAlone f held (those xs) ≡ along (inTime xs) expected held (drop expected packets)
   unfolding readAlone
@@ -101,7 +101,7 @@ module _ (start : ℕ) (packets : List Packet) (by-place : (f : Flow) (x : ℕ) 
       pick (λ g held′ h w v. arrivals-along g (suc x) held′ xs h w (sent .1) v) (λ v. arrivals-along f expected held xs hears waits (sent .1) v)
       (leb expected x) refl
     where
-      pick : ((g : Flow) (held′ : List ℕ) → g .heard ≡ true → g .expected ≡ numberAt start (suc x) → WithinBound (suc x) xs →
+      pick : ((g : Flow) (held′ : List ℕ) → g .heard ≡ heardMark → g .expected ≡ numberAt start (suc x) → WithinBound (suc x) xs →
           framesAlone g held′ (those xs) ≡ along (inTime xs) (suc x) held′ (drop (suc x) packets)) →
           (WithinBound expected xs → framesAlone f held (those xs) ≡ along (inTime xs) expected held (drop expected packets)) →
           (t : Bool) → leb expected x ≡ t → framesAlone f held (those (x ∷ xs)) ≡ along (inTime (x ∷ xs)) expected held (drop expected packets)

@@ -11,7 +11,7 @@ use borrow.Author.Tests.{leb-true, leb-false}
 use Rattle.octets.specs.Each.{Each}
 use Rattle.flow.specs.declared.Flow.{Flow}
 use Rattle.flow.specs.Numbers.{numberAt}
-use Rattle.flow.specs.Flow.{fresh, judge}
+use Rattle.flow.specs.Flow.{fresh, judge, heardMark}
 use Rattle.flow.proofs.Judging.{judge-forward, judge-behind}
 use Rattle.packet.specs.Header.{Packet, sub}
 use Rattle.table.specs.declared.Kind.{Kind}
@@ -51,7 +51,7 @@ module _ (start : ℕ) (packets : List Packet) (by-place : (f : Flow) (x : ℕ) 
   verdictsAlone f held xs = readAlone verdictsRead f held (map (packetAt packets) xs)
 
   -- `expected` is the place that the flow waits for
-  verdicts-along : (f : Flow) (expected : ℕ) (held : List ℕ) (xs : List ℕ) → f .heard ≡ true → f .expected ≡ numberAt start expected →
+  verdicts-along : (f : Flow) (expected : ℕ) (held : List ℕ) (xs : List ℕ) → f .heard ≡ heardMark → f .expected ≡ numberAt start expected →
       Each (λ x. x < length packets) xs → WithinBound expected xs → verdictsAlone f held xs ≡ verdictsFrom expected xs
   unfolding readAlone verdictsFrom
   verdicts-along f expected held [] hears waits sent within = refl
@@ -59,7 +59,7 @@ module _ (start : ℕ) (packets : List Packet) (by-place : (f : Flow) (x : ℕ) 
       pick (λ g held′ h w v. verdicts-along g (suc x) held′ xs h w (sent .1) v) (λ v. verdicts-along f expected held xs hears waits (sent .1) v)
       (leb expected x) refl
     where
-      pick : ((g : Flow) (held′ : List ℕ) → g .heard ≡ true → g .expected ≡ numberAt start (suc x) → WithinBound (suc x) xs → verdictsAlone g held′ xs ≡ verdictsFrom (suc x) xs) →
+      pick : ((g : Flow) (held′ : List ℕ) → g .heard ≡ heardMark → g .expected ≡ numberAt start (suc x) → WithinBound (suc x) xs → verdictsAlone g held′ xs ≡ verdictsFrom (suc x) xs) →
           (WithinBound expected xs → verdictsAlone f held xs ≡ verdictsFrom expected xs) →
           (t : Bool) → leb expected x ≡ t →
           verdictsAlone f held (x ∷ xs)

@@ -8,7 +8,7 @@ use lib.ListN.{length}
 use Rattle.flow.specs.declared.Flow.{Flow}
 use Rattle.flow.specs.declared.Judged.{Judged}
 use Rattle.flow.specs.Numbers.{next}
-use Rattle.flow.specs.Flow.{accepted, tooLate}
+use Rattle.flow.specs.Flow.{heardMark, accepted, tooLate}
 use Rattle.packet.specs.Header.{Packet, sub}
 use Rattle.packet.specs.Segments.{entryWidth}
 use Rattle.card.specs.Hear.{Heard, judgedOf, fateOf, hear, recordAfter}
@@ -19,7 +19,7 @@ use Rattle.promises.proofs.FromTheFront.{given, left, behind, packet-gi
 
 -- the record of a flow that accepted number n and holds these bytes
 abbrev pub listening : ℕ → List ℕ → Flow
-listening n held = record { heard = true; expected = next n; held = length held }
+listening n held = record { heard = heardMark; expected = next n; held = length held }
 
 -- what is heard, by the judgement of the packet
 abbrev pub heardAs : List ℕ → Packet → Judged → Heard

@@ -15,7 +15,7 @@ use Rattle.join.specs.Slices.{Slices}
 use Rattle.card.specs.Hear.{hear, judgedOf}
 use Rattle.card.specs.Receive.{rowOf, flowOf, heldBy, heardBy, carriedOut, refused, received, framesFound}
 use Rattle.card.specs.History.{opens, closes, hands, lentWith, answer}
-use Rattle.card.proofs.Hearing.{large-enough}
+use Rattle.card.proofs.Taking.{large-enough}
 use Rattle.card.proofs.Accepted.{accepted, received-accepted, received-refused}
 use Rattle.card.proofs.Limits as card-limits
 use Rattle.card.proofs.Step.{framesIn}

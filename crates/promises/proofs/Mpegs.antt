@@ -24,7 +24,7 @@ use Rattle.card.specs.Hear.{judgedBy, hear}
 use Rattle.card.specs.Receive.{placeOf, rowOf, flowTo, flowOf, heardBy, carriedOut, received}
 use Rattle.card.specs.History.{lentWith, answer, after}
 use Rattle.card.proofs.ByKind.{refusals-dmpt}
-use Rattle.card.proofs.Hearing.{large-enough}
+use Rattle.card.proofs.Taking.{large-enough}
 use Rattle.card.proofs.Accepted.{Accepted, accepted, received-accepted}
 use Rattle.card.proofs.Keeping.{clear-leaves}
 use Rattle.card.proofs.Limits.{held-none, accepted-bounded}
@@ -83,7 +83,7 @@ pub record Carried (t : Table) (packet : Packet) (s : Slices) : Type 0 where
   pub holds-nothing : (received t packet s) .slices .holding ≡ s .holding
   pub no-number : sSet (sub packet) ≡ false → (received t packet s) .answer .gap ≡ 0
 
-module _ (t : Table) (packet : Packet) (s : Slices) (d : isDmpt (rowAt t (rowOf t packet) .kind) ≡ true) (z : (received t packet s) .answer .code ≡ 0) where
+module _ (t : Table) (packet : Packet) (s : Slices) (d : isDmpt (termsAt t (rowOf t packet) .kind) ≡ true) (z : (received t packet s) .answer .code ≡ 0) where
   abbrev row : ℕ
   row = rowOf t packet
 

@@ -13,7 +13,7 @@ use Rattle.octets.proofs.Counts.{or-false-left, least-passes}
 use Rattle.flow.specs.declared.Flow.{Flow}
 use Rattle.packet.specs.Header.{Packet, sub}
 use Rattle.table.specs.declared.Request.{Request}
-use Rattle.table.specs.Rows.{rows, rowAt, find, freeIn, lowestFree, closedRow}
+use Rattle.table.specs.Rows.{rows, rowAt, find, freeIn, lowestFree, closedRow, termsAt}
 use Rattle.table.specs.Calls.{isOpen, freshRow, openRefusals, openedBy, opened, closeRefusals, closedBy, closed}
 use Rattle.table.proofs.Keeping.{flows-whole, opens as opens-there}
 use Rattle.join.specs.Join.{Fate}
@@ -86,7 +86,7 @@ module _ {m : List ℕ → ℕ} {kept : List ℕ → ℕ → Flow → ℕ} (w : 
     row = rowOf (c .table) packet
 
     abbrev body : List ℕ
-    body = packetBody (rowAt (c .table) row .kind) (sub packet)
+    body = packetBody (termsAt (c .table) row .kind) (sub packet)
 
     abbrev fate : Fate
     fate = heardBy (c .table) row (sub packet) (lentWith c a) .fate

@@ -20,7 +20,7 @@ use Rattle.join.specs.Slices.{Slices}
 use Rattle.card.specs.Hear.{Heard, recordAfter}
 use Rattle.card.specs.Receive.{Outcome, placeOf, rowOf, flowTo, flowOf, heldBy, heardBy, received}
 use Rattle.card.specs.History.{Card, Arrival, lentWith}
-use Rattle.card.proofs.Hearing.{large-enough}
+use Rattle.card.proofs.Taking.{large-enough}
 use Rattle.card.proofs.Accepted.{Accepted, accepted, flow-there}
 use Rattle.card.proofs.Limits.{accepted-bounded, held-none}
 use Rattle.card.proofs.Step.{framesIn, StepOf, one-flow-step}
@@ -106,12 +106,12 @@ module _ {m : List ℕ → ℕ} {kept : List ℕ → ℕ → Flow → ℕ} (w : 
         ))
         ∙ ap m (step .its-place)
 
-    told : tells m (heard .fate) ≡ m held + m (packetBody (rowAt (c .table) row .kind) behind)
+    told : tells m (heard .fate) ≡ m held + m (packetBody (termsAt (c .table) row .kind) behind)
     told =
         heard-tells m (w .measure) (termsAt (c .table) row) (flowOf (c .table) row behind) held behind
         (held-none (c .table) packet slices passed)
 
-    pub packet-balances : m (packetBody (rowAt (c .table) row .kind) behind) + keptInAll kept c
+    pub packet-balances : m (packetBody (termsAt (c .table) row .kind) behind) + keptInAll kept c
         ≡ m (joined (framesIn outcome)) + m (heard .fate .dropped) + keptInAll kept afterwards
     packet-balances =
         omega (

@@ -26,7 +26,7 @@ use Rattle.card.specs.Hear.{Heard, flowIn, judgedOf, recordAfter}
 use Rattle.card.specs.Receive.{rowOf, flowTo, flowOf, heardBy, packetRefusals, flowRefusals, carriedOut, refused}
 use Rattle.card.specs.History.{Card, Arrival, Call, opens, hands, lentWith, dataAnswer, answer, after}
 use Rattle.card.proofs.Accepted.{Accepted, accepted, flow-there, received-code, received-accepted, received-refused}
-use Rattle.card.proofs.Hearing.{large-enough}
+use Rattle.card.proofs.Taking.{large-enough}
 use Rattle.card.proofs.ByKind.{flow-in-row}
 use Rattle.card.proofs.Limits.{accepted-bounded}
 use Rattle.promises.specs.Words.{ofSession, ofFlow, handsTo, closesIt}

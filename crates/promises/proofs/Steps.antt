@@ -71,17 +71,18 @@ module _ (c : Card) (a : Arrival) (g : Good c) (z : answer c (hands a) .code ≡
   abbrev d : Card
   d = after c (hands a)
 
-  same-id : (i : ℕ) → (rowAt (d .table) i .id ≡ rowAt (c .table) i .id) × (termsAt (d .table) i ≡ termsAt (c .table) i)
+  same-id : (i : ℕ) → (rowAt (d .table) i .id ≡ rowAt (c .table) i .id) × (rowAt (d .table) i .kind ≡ rowAt (c .table) i .kind)
+      × (termsAt (d .table) i ≡ termsAt (c .table) i)
   unfolding after
   same-id i =
       ⊎-elim
       (λ (e : eqb i its-row ≡ true). rw (eqb-true i its-row e) (step .its-session))
       (λ (e : eqb i its-row ≡ false).
-      let there = step .other-rows i (eqb-false i its-row e) in (ap (λ (x : Row). x .id) there, ap termsOf there))
+      let there = step .other-rows i (eqb-false i its-row e) in (ap (λ (x : Row). x .id) there, ap (λ (x : Row). x .kind) there, ap termsOf there))
       (true-or-false (eqb i its-row))
 
   same-sessions : (session i : ℕ) → openIn (d .table) session i ≡ openIn (c .table) session i
-  same-sessions session i = rw (same-id i .0, ap (λ (x : Terms). x .kind) (same-id i .1)) refl
+  same-sessions session i = rw (same-id i .0, same-id i .1) refl
 
   module _ (session flow : ℕ) (terms : Terms) (f : Flow) (held : List ℕ) (inside : flow < flows) (s : Stands c session flow terms f held) where
     abbrev r : ℕ
@@ -116,7 +117,7 @@ module _ (c : Card) (a : Arrival) (g : Good c) (z : answer c (hands a) .code ≡
     unfolding after
     hands-stays not-of =
         stands-by c d session flow terms f held s (λ i l. same-sessions session i)
-        (same-id r .1, same-record not-of, step .other-places r flow (f .held) (s .is-there) inside (apart not-of) few)
+        (same-id r .2, same-record not-of, step .other-places r flow (f .held) (s .is-there) inside (apart not-of) few)
 
     -- of this flow: what it hears is told by its own record and bytes
     heard-is : ofFlow (terms .kind) session flow packet ≡ true → heardBy (c .table) its-row (sub packet) lent ≡ hear terms f held (sub packet)
@@ -137,7 +138,7 @@ module _ (c : Card) (a : Arrival) (g : Good c) (z : answer c (hands a) .code ≡
         let known = rw (heard-is of-it, here, ap (λ (x : Terms). flowIn (x .kind) (sub packet)) (s .of-terms) ∙ id .1) at step in (
           record {
             is-there = rw found (s .is-there);
-            of-terms = rw found (same-id r .1 ∙ s .of-terms);
+            of-terms = rw found (same-id r .2 ∙ s .of-terms);
             its-record = rw found (known .its-record);
             its-bytes = rw found (known .its-place);
           },

@@ -7,8 +7,9 @@ use Rattle.packet.specs.Header.{ip}
 use Rattle.packet.specs.Check as packet
 use Rattle.packet.proofs.Unique as packet-laws
 use Rattle.table.specs.Rows.{empty}
-use Rattle.table.specs.Calls.{opened, closed}
+use Rattle.table.specs.Calls.{opened, openedByNumber, closed}
 use Rattle.table.proofs.Unique.{empty-permitted, empty-unique, open-permitted, open-unique, close-permitted, close-unique}
+use Rattle.table.proofs.Unique.{open-by-number-permitted, open-by-number-unique}
 use Rattle.card.specs.Receive.{received}
 use Rattle.card.proofs.Unique.{receive-permitted, receive-unique}
 use Rattle.sender.specs.Send.{sent}
@@ -19,7 +20,15 @@ use Rattle.promises.specs.Unique.{UniqueOpen, UniqueClose, UniqueReceive
 use Rattle.promises.specs.Unique.{UniqueCheck, UniqueSegment, UniqueCapture, UniqueFlow}
 
 pub unique-open : UniqueOpen
-unique-open t q = record { outcome = opened t q; permitted = open-permitted t q; only-one = open-unique t q }
+unique-open = (
+  (λ t q. record { outcome = opened t q; permitted = open-permitted t q; only-one = open-unique t q }),
+  (λ t id kind.
+      record {
+        outcome = openedByNumber t id kind;
+        permitted = open-by-number-permitted t id kind;
+        only-one = open-by-number-unique t id kind;
+      }),
+)
 
 pub unique-close : UniqueClose
 unique-close t id = record { outcome = closed t id; permitted = close-permitted t id; only-one = close-unique t id }

@@ -15,7 +15,7 @@ use Rattle.packet.specs.Segments.{Segment, segments}
 use Rattle.packet.specs.Dmpt.{mpegs}
 use Rattle.table.specs.declared.Table.{Table}
 use Rattle.table.specs.declared.Kind.{Kind}
-use Rattle.table.specs.Rows.{rows, isDmpt, rowAt, flowAt, find, heldIn, empty}
+use Rattle.table.specs.Rows.{rows, isDmpt, rowAt, flowAt, find, heldIn, empty, termsAt}
 use Rattle.card.specs.Hear.{widthIn}
 use Rattle.card.specs.Receive.{placeOf, rowOf, heardBy}
 use Rattle.card.specs.History.{Card, Arrival, Call, opens, closes, hands, framesOf, lentWith, takesIn, answer, after, afterAll, emptyCard}
@@ -30,7 +30,7 @@ takenBy c (opens r) = []
 takenBy c (closes id) = []
 takenBy c (hands a) =
     cond (takesIn c a)
-    (packetBody (rowAt (c .table) (rowOf (c .table) (a .packet)) .kind) (sub (a .packet))) []
+    (packetBody (termsAt (c .table) (rowOf (c .table) (a .packet)) .kind) (sub (a .packet))) []
 
 -- A history for the numbers: each call may bring another holding slice, of any length and with anything in it. Only the table goes on.
 pub record Lent : Type 0 where

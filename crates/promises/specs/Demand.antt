@@ -10,9 +10,9 @@ use Rattle.octets.specs.Stretch.{joined}
 use Rattle.octets.specs.Each.{Each}
 use Rattle.packet.specs.Header.{Packet}
 use Rattle.table.specs.declared.Kind.{Kind}
-use Rattle.table.specs.declared.Mode.the-variants as mode
+use Rattle.table.specs.declared.Kind.the-variants as kind
 use Rattle.table.specs.declared.Request.{Request}
-use Rattle.table.specs.Calls.{kindOf, asking}
+use Rattle.table.specs.Calls.{asking}
 use Rattle.card.specs.History.{Card, Call, opens, answer, after, afterAll, emptyCard}
 use Rattle.sender.specs.Rules.{Pieces, Line, packetAt, KeepsRules}
 use Rattle.promises.specs.Words.{packetsTo, framesOut, LongEnough, StaysOpen}
@@ -28,10 +28,10 @@ pub record Sending : Type 0 where
 
 -- What its session was opened with, and so the kind of its row. (Both are said here alone: whoever needs the kind asks the line.)
 abbrev pub opening : Line → Request
-opening line = asking mode.Psp (line .session)
+opening line = asking kind.Psp (line .session)
 
 abbrev pub kindOn : Line → Kind
-kindOn line = kindOf (opening line .mode)
+kindOn line = (opening line) .kind
 
 -- A run of a card: any calls from an empty table, then the session's opening as PSP, then any calls again, none of which closes it. Among them
 -- its flow gets the sender's packets, and no others, in the order of `arrivals`. What else is called, for other sessions and other flows, before and

@@ -8,7 +8,7 @@ use lib.Dec.{eqb}
 use lib.ListN.{length}
 use Rattle.packet.specs.Header.{sub, sSet}
 use Rattle.packet.specs.Dmpt.{mpegLength, mpegs, pid, nullPid}
-use Rattle.table.specs.Rows.{isDmpt, rowAt}
+use Rattle.table.specs.Rows.{isDmpt, rowAt, termsAt}
 use Rattle.card.specs.Receive.{rowOf}
 use Rattle.card.specs.History.{Card, Arrival, hands, framesOf, answer, after}
 
@@ -31,5 +31,5 @@ pub record Delivers (c : Card) (a : Arrival) : Type 0 where
 
 abbrev pub DmptDelivers : Type 0
 DmptDelivers =
-    (c : Card) (a : Arrival) → isDmpt (rowAt (c .table) (rowOf (c .table) (a .packet)) .kind) ≡ true →
+    (c : Card) (a : Arrival) → isDmpt (termsAt (c .table) (rowOf (c .table) (a .packet)) .kind) ≡ true →
     (answer c (hands a)) .code ≡ 0 → Delivers c a

@@ -12,7 +12,7 @@ use Rattle.octets.specs.Count.{upTo}
 use Rattle.octets.specs.Each.{Each}
 use Rattle.flow.specs.Flow.{flows}
 use Rattle.packet.specs.Header.{ip}
-use Rattle.table.specs.declared.Mode.the-variants as mode
+use Rattle.table.specs.declared.Kind.the-variants as kind
 use Rattle.table.specs.Rows.{rowAt, flowAt, find}
 use Rattle.table.specs.Calls.{asking}
 use Rattle.join.specs.Slices.{mostBytes, mostFrames}
@@ -85,7 +85,7 @@ pub data Case : Type 0 where
   sends : Job → ℕ → List Turn → List (List ℕ) → Case
 
 abbrev pub opened-card : Card
-opened-card = after (emptyCard (replicate holdingSize 0)) (opens (asking mode.Psp 0x101))
+opened-card = after (emptyCard (replicate holdingSize 0)) (opens (asking kind.Psp 0x101))
 
 abbrev pub hand : List ℕ → Call
 hand packet = hands (record { packet = ip packet; output = replicate mostBytes 0; lengths = replicate mostFrames 0 })

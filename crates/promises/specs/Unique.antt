@@ -12,7 +12,7 @@ use Rattle.packet.specs.Header.{Packet}
 use Rattle.table.specs.declared.Request.{Request}
 use Rattle.table.specs.declared.Table.{Table}
 use Rattle.table.specs.Rows.{PermitsEmpty}
-use Rattle.table.specs.Calls.{PermitsOpen, PermitsClose}
+use Rattle.table.specs.Calls.{PermitsOpen, PermitsOpenByNumber, PermitsClose}
 use Rattle.join.specs.Slices.{Slices}
 use Rattle.card.specs.Receive.{PermitsReceive}
 use Rattle.sender.specs.Send.{Asked, PermitsSend}
@@ -34,7 +34,7 @@ SameSlice a b = (a .ptr .0 ≡ b .ptr .0) × (a .ptr .1 ≡ b .ptr .1) × (a .no
 
 -- `unique-open`, `unique-close`, `unique-receive`, `unique-send`
 abbrev pub UniqueOpen : Type 0
-UniqueOpen = (t : Table) (r : Request) → One (PermitsOpen t r)
+UniqueOpen = ((t : Table) (r : Request) → One (PermitsOpen t r)) × ((t : Table) (id kind : ℕ) → One (PermitsOpenByNumber t id kind))
 
 abbrev pub UniqueClose : Type 0
 UniqueClose = (t : Table) (id : ℕ) → One (PermitsClose t id)

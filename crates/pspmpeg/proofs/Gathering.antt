@@ -11,6 +11,7 @@ use Rattle.octets.specs.Bytes.{byteAt}
 use Rattle.octets.specs.Count.{sumTo}
 use Rattle.octets.specs.Stretch.{put, joined, lengths}
 use Rattle.octets.proofs.Stretches.{length-put, put-nil, put-put-front, joined-append, lengths-append, length-lengths}
+use Rattle.table.specs.Broken.{broken}
 use Rattle.join.specs.Slices.{mostBytes, mostFrames}
 use Rattle.card.specs.Receive.{holdingSize, framesFound}
 use Rattle.card.specs.History.{framesOf}
@@ -19,7 +20,7 @@ use Rattle.capture.proofs.Checking.{is-sound}
 use Rattle.listing.specs.declared.Walk.{Walk}
 use Rattle.listing.specs.Run.{Running, standing, answerAt}
 use Rattle.listing.specs.Walk.{asRunning, Stands, Unused}
-use Rattle.listing.proofs.Standing.{frames-of-entry}
+use Rattle.listing.proofs.Standing.{never-broken, frames-of-entry}
 use Rattle.trace.specs.Rooms.{Findable}
 use Rattle.trace.proofs.Entries.{findable}
 use Rattle.pspmpeg.specs.declared.gather.Gathered.{Gathered}
@@ -28,6 +29,10 @@ use Rattle.pspmpeg.specs.Stream.{isFor, framesAt, deliveredBefore, deliv
 use Rattle.pspmpeg.specs.Steps.{mostGathered, Adds, Fits, FitsFound, Gathers}
 use Rattle.pspmpeg.proofs.Cutting.{found-many, found-long}
 use Rattle.pspmpeg.proofs.Rooms.{few-bytes, few-frames}
+
+-- a run's table is never broken
+pub table-stands : {file : List ℕ} {w : Walk} {holding output lens : List ℕ} → Stands file w holding output lens → broken (w .table) ≡ false
+table-stands {file} {w} s = ap (λ (r : Running). broken (r .card .table)) (s .its-run) ∙ never-broken file (w .index)
 
 -- One entry. What is said of it before it is run is what the definition says.
 module _ {file : List ℕ} {w : Walk} {holding output lens : List ℕ} (s : Stands file w holding output lens) (session : ℕ) where

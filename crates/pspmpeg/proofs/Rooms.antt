@@ -18,7 +18,7 @@ use Rattle.packet.specs.Segments.{lengthAt, bodyAt}
 use Rattle.packet.specs.Psp.{wanted, pspRefusals}
 use Rattle.packet.specs.Dmpt.{carried, dmptRefusals}
 use Rattle.packet.proofs.Passing.{psp-passed}
-use Rattle.table.specs.declared.Mode.the-variants as mode
+use Rattle.table.specs.declared.Kind.the-variants as kind
 use Rattle.table.specs.declared.Terms.{Terms}
 use Rattle.table.specs.Rows.{isDmpt, rowAt, termsAt}
 use Rattle.join.specs.Slices.{mostFrames, Slices}
@@ -63,7 +63,7 @@ module _ (c : Card) (x : Arrival) where
   abbrev behind : List ℕ
   behind = sub packet
 
-  packet-few : received (c .table) packet slices .answer .code ≡ 0 → length (packetBody (rowAt (c .table) row .kind) behind) ≤ length (packet .bytes)
+  packet-few : received (c .table) packet slices .answer .code ≡ 0 → length (packetBody (termsAt (c .table) row .kind) behind) ≤ length (packet .bytes)
   packet-few z =
       let a = call.accepted (c .table) packet slices z in
       let tells = heard-tells length by-length (termsAt (c .table) row) (flowOf (c .table) row behind) (heldBy (c .table) row behind slices) behind
@@ -81,10 +81,10 @@ module _ (c : Card) (x : Arrival) where
   unfolding answer
   hands-few zero e =
       let code = received (c .table) packet slices .answer .code in
-      omega (arith, ap length (when-accepted code e (packetBody (rowAt (c .table) row .kind) behind) []), packet-few e)
+      omega (arith, ap length (when-accepted code e (packetBody (termsAt (c .table) row .kind) behind) []), packet-few e)
   hands-few (suc n) e =
       let code = received (c .table) packet slices .answer .code in
-      omega (arith, ap length (when-refused code (λ z. omega arith) (packetBody (rowAt (c .table) row .kind) behind) []))
+      omega (arith, ap length (when-refused code (λ z. omega arith) (packetBody (termsAt (c .table) row .kind) behind) []))
 
 -- .. and so does an entry
 abbrev lent : Running → Entry → Arrival
@@ -94,7 +94,7 @@ entry-few : (r : Running) (e : Entry) → length (takenBy (r .card) (callOf r e)
 entry-few r e = by (eqb (e .kind) openPsp) (eqb (e .kind) openDmpt) (eqb (e .kind) closing)
   where
     by : (a b d : Bool) →
-        length (takenBy (r .card) (cond a (opens (asks mode.Psp e)) (cond b (opens (asks mode.Dmpt e)) (cond d (closes (be32At (e .body) 0)) (hands (lent r e))))))
+        length (takenBy (r .card) (cond a (opens (asks kind.Psp e)) (cond b (opens (asks kind.Dmpt e)) (cond d (closes (be32At (e .body) 0)) (hands (lent r e))))))
         ≤ length (e .body)
     by true b d = omega arith
     by false true d = omega arith

@@ -10,7 +10,7 @@ use lib.ListN.{length}
 use Rattle.octets.specs.Stretch.{joined}
 use Rattle.packet.specs.Header.{ip, idLength, sessionId}
 use Rattle.table.specs.declared.Table.{Table}
-use Rattle.table.specs.Rows.{isDmpt, rowAt, find}
+use Rattle.table.specs.Rows.{isDmpt, termsAt, find}
 use Rattle.table.specs.Calls.{isOpen}
 use Rattle.card.specs.History.{framesOf}
 use Rattle.capture.specs.File.{Entry, dataEntry, headLength, entryCount, fileRefusal, nthEntry}
@@ -22,7 +22,7 @@ use Rattle.mpeg.specs.Run.{Backlog, waitingIn, packetNext, afterNext}
 
 -- the session is open as PSP; an entry is a packet for it then
 abbrev pub openAsPsp : Table → ℕ → Bool
-openAsPsp t id = isOpen t id && not (isDmpt (rowAt t (find t id) .kind))
+openAsPsp t id = isOpen t id && not (isDmpt (termsAt t (find t id) .kind))
 
 abbrev pub isFor : ℕ → Table → Entry → Bool
 isFor session t e =

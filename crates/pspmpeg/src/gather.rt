@@ -1,7 +1,9 @@
 // The frames that a capture delivers on a session, one behind the other.
 ghost use mathlib.Core.Path.{_≡_};
+ghost use mathlib.Core.Bool.{false};
 ghost use Prim.Native.Nat.{_+_, _<_, _≤_};
 ghost use lib.ListN.{length};
+ghost use Rattle.table.specs.Broken.{broken};
 ghost use Rattle.card.specs.Receive.{framesFound};
 ghost use Rattle.capture.specs.File.{headLength, entryCount, longestFile};
 ghost use Rattle.listing.specs.Walk.{Stands, Unused, lineRoom};
@@ -37,6 +39,7 @@ fn wide(length: u16) -> usize
 
 // Whether an entry is a packet for the session, while the session is open as PSP.
 fn is_for(table: Table, kind: u8, body: &[u8], session: u32) -> bool
+    requires { ⌜ broken table ≡ false ⌝ }
     ensures { λ r. ⌜ r ≡ isFor session table (record { kind = kind; body = now (body .entry) }) ⌝ }
 {
     if kind != capture::DATA {
@@ -48,12 +51,16 @@ fn is_for(table: Table, kind: u8, body: &[u8], session: u32) -> bool
     if octets::read_u32(body, 0) != session {
         return false;
     }
+    if session == 0 {
+        return false; // it is never open
+    }
     let at = table::find_row(table, session);
     if table::ROWS <= at {
         return false;
     }
     let row = table.rows[at];
-    let kind_of_row = row.kind;
+    let terms = table::terms_of(row);
+    let kind_of_row = terms.kind;
     !table::is_dmpt(kind_of_row)
 }
 

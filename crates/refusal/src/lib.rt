@@ -45,7 +45,7 @@ pub const ALREADY_OPEN: u32 = 22;
 
 pub const ALL_ROWS_OPEN: u32 = 23;
 
-// The packet check's kind.
+// The kind that a packet check or an open is asked for by its number.
 pub const KIND_UNKNOWN: u32 = 24;
 
 // A close.

@@ -16,15 +16,17 @@ use Rattle.octets.proofs.Counts.{least-none, least-at, least-below, least-passe
 use Rattle.refusal.specs.Refusal.{first}
 use Rattle.refusal.proofs.Laws.{none-applies}
 use Rattle.flow.specs.declared.Flow.{Flow}
-use Rattle.flow.specs.Flow.{fresh, flows, longest}
-use Rattle.table.specs.declared.Mode.{Mode}
+use Rattle.flow.specs.Flow.{fresh, flows, longest, heardMark, isFresh}
+use Rattle.packet.specs.Check.{kindUnknown}
+use Rattle.table.specs.declared.Kind.{Kind}
+use Rattle.table.specs.declared.Kind.the-variants as kind
 use Rattle.table.specs.declared.Request.{Request}
-use Rattle.table.specs.declared.Mode.the-variants as mode
 use Rattle.table.specs.declared.Row.{Row}
 use Rattle.table.specs.declared.Table.{Table}
-use Rattle.table.specs.Rows.{rows, isClosed, isDmpt, rowAt, flowAt, closedRow, empty, openIn, find, freeIn, lowestFree, rowWith, withRow, withFlow}
-use Rattle.table.specs.Broken.{notZero, flowBroken, idBroken, flowBrokenIn, rowBroken, sameOpen, openTwice, broken}
-use Rattle.table.specs.Calls.{kindOf, isOpen, freshRow, openRefusals, openedBy, opened, closeRefusals, closedBy, closed}
+use Rattle.table.specs.Rows.{rows, isClosed, kindIn, numberOf, isDmpt, rowAt, flowAt, closedRow, empty}
+use Rattle.table.specs.Rows.{openIn, find, freeIn, lowestFree, rowWith, withRow, withFlow}
+use Rattle.table.specs.Broken.{notZero, flowBroken, kindBroken, idBroken, flowBrokenIn, rowBroken, sameOpen, openTwice, broken}
+use Rattle.table.specs.Calls.{isOpen, freshRow, openRefusals, openedBy, opened, closeRefusals, closedBy, closed}
 
 -- One element of a list replaced. Past the end nothing is replaced, and what holds of the old elements holds still: this is why
 -- hardly a law here asks how many rows or flows the lists have.
@@ -80,6 +82,18 @@ rows-apart t whole i j l m other =
     (λ (b : ltb j i ≡ false). same-sym (rowAt t i) (rowAt t j) ∙ apart-below t whole j i m (omega (arith, ltb-false j i b)))
     (true-or-false (ltb j i))
 
+-- no session has ID 0
+pub zero-unopened : (t : Table) → broken t ≡ false → isOpen t 0 ≡ false
+zero-unopened t whole =
+    let none = least-none (openIn t 0) rows (none-all (openIn t 0) rows (λ i l. closed-zero (rowAt t i) (rows-sound t whole i l))) in
+    le-ltb (find t 0) rows (omega (arith, none))
+  where
+    closed-zero : (row : Row) → rowBroken row ≡ false → (not (isClosed (row .kind)) && eqb (row .id) 0) ≡ false
+    closed-zero row sound =
+        let heading = or-false-left (kindBroken row || idBroken row) (any (flowBrokenIn row) flows) sound in
+        or-false-left (not (isClosed (row .kind)) && eqb (row .id) 0) (isClosed (row .kind) && notZero (row .id))
+        (or-false-right (kindBroken row) (idBroken row) heading)
+
 pub unbroken : (t : Table) → ((i : ℕ) → i < rows → rowBroken (rowAt t i) ≡ false) →
     ((i j : ℕ) → i < rows → j < rows → (j ≡ i → ⊥) → sameOpen (rowAt t i) (rowAt t j) ≡ false) → broken t ≡ false
 unfolding broken
@@ -121,26 +135,33 @@ opens t q e =
       room = leb-false rows (lowestFree t) (passed .1 .1 .1 .0);
     }
 
--- no mode is closed
-opens-some : (m : Mode) → isClosed (kindOf m) ≡ false
-opens-some mode.Psp = refl
-opens-some mode.Dmpt = refl
+-- the number of a kind is one, is not that of a closed row, and says that kind
+opens-some : (k : Kind) → isClosed (numberOf k) ≡ false
+opens-some kind.Psp = refl
+opens-some kind.Dmpt = refl
 
-bare-fresh : (d : Bool) → (d && (notZero 0 || (notZero 0 && false))) ≡ false
-bare-fresh true = refl
-bare-fresh false = refl
+some-kind : (k : Kind) → kindUnknown (numberOf k) ≡ false
+some-kind kind.Psp = refl
+some-kind kind.Dmpt = refl
+
+pub kind-back : (k : Kind) → kindIn (numberOf k) ≡ k
+kind-back kind.Psp = refl
+kind-back kind.Dmpt = refl
 
 fresh-sound : (q : Request) → eqb (q .id) 0 ≡ false → rowBroken (freshRow q) ≡ false
 unfolding any
-fresh-sound q named = by (isDmpt (kindOf (q .mode)))
+fresh-sound q named = by (isDmpt (kindIn (numberOf (q .kind))))
   where
-    by : (d : Bool) → (idBroken (freshRow q) || any (λ k. flowBroken (isClosed (kindOf (q .mode))) d k (flowAt (freshRow q) k)) flows) ≡ false
-    by true = simp (opens-some (q .mode), named)
-    by false = simp (opens-some (q .mode), named)
+    by : (d : Bool) →
+        (kindBroken (freshRow q) || idBroken (freshRow q)
+        || any (λ k. flowBroken (isClosed (numberOf (q .kind))) d k (flowAt (freshRow q) k)) flows)
+        ≡ false
+    by true = simp (opens-some (q .kind), some-kind (q .kind), named)
+    by false = simp (opens-some (q .kind), some-kind (q .kind), named)
 
 fresh-alone : (t : Table) (q : Request) → any (openIn t (q .id)) rows ≡ false → (j : ℕ) → j < rows →
     sameOpen (freshRow q) (rowAt t j) ≡ false
-fresh-alone t q absent j l = simp (opens-some (q .mode), eqb-sym (q .id) (rowAt t j .id)) (none-at (openIn t (q .id)) rows j absent l)
+fresh-alone t q absent j l = simp (opens-some (q .kind), eqb-sym (q .id) (rowAt t j .id)) (none-at (openIn t (q .id)) rows j absent l)
 
 fresh-keeps : (t : Table) (q : Request) → Opens t (q .id) → broken (withRow t (lowestFree t) (freshRow q)) ≡ false
 fresh-keeps t q o =
@@ -169,28 +190,31 @@ pub closed-keeps : (t : Table) (id : ℕ) → broken t ≡ false → broken (clo
 unfolding closed
 closed-keeps t id whole = closed-by-keeps (first (closeRefusals t id)) t id whole
 
+row-flows : (row : Row) → rowBroken row ≡ false → any (flowBrokenIn row) flows ≡ false
+row-flows row sound = or-false-right (kindBroken row || idBroken row) (any (flowBrokenIn row) flows) sound
+
 -- Putting a flow back: the row keeps its ID and its kind, so it is as alone as it was.
 flow-sound : (row : Row) (k : ℕ) (f : Flow) → rowBroken row ≡ false →
-    flowBroken (isClosed (row .kind)) (isDmpt (row .kind)) k f ≡ false → rowBroken (rowWith row k f) ≡ false
+    flowBroken (isClosed (row .kind)) (isDmpt (kindIn (row .kind))) k f ≡ false → rowBroken (rowWith row k f) ≡ false
 flow-sound row k f sound good =
     simp (
-      or-false-left (idBroken row) (any (flowBrokenIn row) flows) sound,
+      or-false-left (kindBroken row || idBroken row) (any (flowBrokenIn row) flows) sound,
       none-all (flowBrokenIn (rowWith row k f)) flows each,
     )
   where
     each : (j : ℕ) → j < flows → flowBrokenIn (rowWith row k f) j ≡ false
     each j l =
-        after-set (λ g. flowBroken (isClosed (row .kind)) (isDmpt (row .kind)) j g ≡ false) (row .flows) k f fresh j
+        after-set (λ g. flowBroken (isClosed (row .kind)) (isDmpt (kindIn (row .kind))) j g ≡ false) (row .flows) k f fresh j
         (λ e. rw e good)
-        (none-at (flowBrokenIn row) flows j (or-false-right (idBroken row) (any (flowBrokenIn row) flows) sound) l)
+        (none-at (flowBrokenIn row) flows j (row-flows row sound) l)
 
 pub flow-keeps : (t : Table) (i k : ℕ) (f : Flow) → broken t ≡ false → i < rows →
-    flowBroken (isClosed (rowAt t i .kind)) (isDmpt (rowAt t i .kind)) k f ≡ false → broken (withFlow t i k f) ≡ false
+    flowBroken (isClosed (rowAt t i .kind)) (isDmpt (kindIn (rowAt t i .kind))) k f ≡ false → broken (withFlow t i k f) ≡ false
 flow-keeps t i k f whole l good =
     row-keeps t i (rowWith (rowAt t i) k f) whole
     (flow-sound (rowAt t i) k f (rows-sound t whole i l) good) (λ j m other. rows-apart t whole i j l m other)
 
-accepted-sound : (dmpt : Bool) (k : ℕ) (f : Flow) → f .heard ≡ true → f .held ≤ longest →
+accepted-sound : (dmpt : Bool) (k : ℕ) (f : Flow) → f .heard ≡ heardMark → f .held ≤ longest →
     (dmpt ≡ true → (k ≡ 0) × (f .held ≡ 0)) → flowBroken false dmpt k f ≡ false
 accepted-sound false k f heard fits bare = simp (heard, le-ltb longest (f .held) fits)
 accepted-sound true k f heard fits bare =
@@ -198,10 +222,10 @@ accepted-sound true k f heard fits bare =
 
 -- what a flow that accepted a number is put back as
 pub accepted-keeps : (t : Table) (i k : ℕ) (f : Flow) → broken t ≡ false → i < rows → isClosed (rowAt t i .kind) ≡ false →
-    f .heard ≡ true → f .held ≤ longest → (isDmpt (rowAt t i .kind) ≡ true → (k ≡ 0) × (f .held ≡ 0)) →
+    f .heard ≡ heardMark → f .held ≤ longest → (isDmpt (kindIn (rowAt t i .kind)) ≡ true → (k ≡ 0) × (f .held ≡ 0)) →
     broken (withFlow t i k f) ≡ false
 accepted-keeps t i k f whole l live heard fits bare =
-    flow-keeps t i k f whole l (rw live (accepted-sound (isDmpt (rowAt t i .kind)) k f heard fits bare))
+    flow-keeps t i k f whole l (rw live (accepted-sound (isDmpt (kindIn (rowAt t i .kind))) k f heard fits bare))
 
 -- A call that is refused leaves the table as it was, and drops nothing.
 opened-by-refused : (c : ℕ) (t : Table) (q : Request) → (openedBy c t q .code ≡ 0 → ⊥) →
@@ -260,7 +284,7 @@ abbrev opensAs : ℕ → Row → Bool
 opensAs id row = not (isClosed (row .kind)) && eqb (row .id) id
 
 fresh-open : (q : Request) → opensAs (q .id) (freshRow q) ≡ true
-fresh-open q = simp (opens-some (q .mode)) (eq-eqb (q .id) (q .id) refl)
+fresh-open q = simp (opens-some (q .kind)) (eq-eqb (q .id) (q .id) refl)
 
 fresh-at : (t : Table) (q : Request) → length (t .rows) ≡ rows → Opens t (q .id) →
     rowAt (afterOpen t q) (lowestFree t) ≡ freshRow q
@@ -362,11 +386,12 @@ reopens-fresh t q six z =
 
 -- What a flow that does not break its row is known to have: rule 13 overlooks nothing.
 pub record FlowWhole (closed dmpt : Bool) (k : ℕ) (f : Flow) : Type 0 where
-  pub bare : closed ≡ true → (f .heard ≡ false) × (f .expected ≡ 0) × (f .held ≡ 0)
+  pub marked : f .heard ≤ heardMark
+  pub bare : closed ≡ true → (f .heard ≡ 0) × (f .expected ≡ 0) × (f .held ≡ 0)
   pub fits : f .held ≤ longest
-  pub unheard : f .heard ≡ false → (f .held ≡ 0) × (f .expected ≡ 0)
+  pub unheard : f .heard ≡ 0 → (f .held ≡ 0) × (f .expected ≡ 0)
   pub holds-none : dmpt ≡ true → f .held ≡ 0
-  pub one-flow : dmpt ≡ true → (k ≡ 0 → ⊥) → f .heard ≡ false
+  pub one-flow : dmpt ≡ true → (k ≡ 0 → ⊥) → f .heard ≡ 0
 
 and-rest : (a b : Bool) → (a && b) ≡ false → a ≡ true → b ≡ false
 and-rest true b h e = h
@@ -375,52 +400,75 @@ and-rest false b h e = absurd (true≢false (sym e))
 is-zero : (n : ℕ) → notZero n ≡ false → n ≡ 0
 is-zero n h = eqb-true n 0 (not-false (eqb n 0) h)
 
-bare-of : (f : Flow) → (f .heard || notZero (f .expected) || notZero (f .held)) ≡ false →
-    (f .heard ≡ false) × (f .expected ≡ 0) × (f .held ≡ 0)
+bare-of : (f : Flow) → (notZero (f .heard) || notZero (f .expected) || notZero (f .held)) ≡ false →
+    (f .heard ≡ 0) × (f .expected ≡ 0) × (f .held ≡ 0)
 bare-of f h =
-    let two = or-false-left (f .heard || notZero (f .expected)) (notZero (f .held)) h in (
-      or-false-left (f .heard) (notZero (f .expected)) two,
-      is-zero (f .expected) (or-false-right (f .heard) (notZero (f .expected)) two),
-      is-zero (f .held) (or-false-right (f .heard || notZero (f .expected)) (notZero (f .held)) h),
+    let two = or-false-left (notZero (f .heard) || notZero (f .expected)) (notZero (f .held)) h in (
+      is-zero (f .heard) (or-false-left (notZero (f .heard)) (notZero (f .expected)) two),
+      is-zero (f .expected) (or-false-right (notZero (f .heard)) (notZero (f .expected)) two),
+      is-zero (f .held) (or-false-right (notZero (f .heard) || notZero (f .expected)) (notZero (f .held)) h),
     )
 
-none-of-four : (a b c d : Bool) → (a || b || c || d) ≡ false → (a ≡ false) × (b ≡ false) × (c ≡ false) × (d ≡ false)
-none-of-four a b c d h =
-    let abc = or-false-left (a || b || c) d h in
-    let ab = or-false-left (a || b) c abc in
-    (or-false-left a b ab, or-false-right a b ab, or-false-right (a || b) c abc, or-false-right (a || b || c) d h)
+none-of-five : (a b c d e : Bool) → (a || b || c || d || e) ≡ false →
+    (a ≡ false) × (b ≡ false) × (c ≡ false) × (d ≡ false) × (e ≡ false)
+none-of-five a b c d e h =
+    let abcd = or-false-left (a || b || c || d) e h in
+    let abc = or-false-left (a || b || c) d abcd in
+    let ab = or-false-left (a || b) c abc in (
+      or-false-left a b ab,
+      or-false-right a b ab,
+      or-false-right (a || b) c abc,
+      or-false-right (a || b || c) d abcd,
+      or-false-right (a || b || c || d) e h,
+    )
 
 module _ (closed dmpt : Bool) (k : ℕ) (f : Flow) (whole : flowBroken closed dmpt k f ≡ false) where
-  lines : ((closed && (f .heard || notZero (f .expected) || notZero (f .held))) ≡ false)
+  -- the clauses of `flowBroken`, without the test before each
+  abbrev some : Bool
+  some = notZero (f .heard) || notZero (f .expected) || notZero (f .held)
+
+  abbrev waits : Bool
+  waits = notZero (f .held) || notZero (f .expected)
+
+  abbrev astray : Bool
+  astray = notZero (f .held) || (notZero k && not (isFresh f))
+
+  lines : (ltb heardMark (f .heard) ≡ false)
+      × ((closed && some) ≡ false)
       × (ltb longest (f .held) ≡ false)
-      × ((not (f .heard) && (notZero (f .held) || notZero (f .expected))) ≡ false)
-      × ((dmpt && (notZero (f .held) || (notZero k && f .heard))) ≡ false)
-  lines =
-      none-of-four (closed && (f .heard || notZero (f .expected) || notZero (f .held))) (ltb longest (f .held))
-      (not (f .heard) && (notZero (f .held) || notZero (f .expected))) (dmpt && (notZero (f .held) || (notZero k && f .heard))) whole
+      × ((isFresh f && waits) ≡ false)
+      × ((dmpt && astray) ≡ false)
+  lines = none-of-five (ltb heardMark (f .heard)) (closed && some) (ltb longest (f .held)) (isFresh f && waits) (dmpt && astray) whole
 
-  zeros : f .heard ≡ false → (notZero (f .held) || notZero (f .expected)) ≡ false
-  zeros e = and-rest (not (f .heard)) (notZero (f .held) || notZero (f .expected)) (lines .2) (ap not e)
+  zeros : f .heard ≡ 0 → waits ≡ false
+  zeros e = and-rest (isFresh f) waits (lines .3) (eq-eqb (f .heard) 0 e)
 
-  plain : dmpt ≡ true → (notZero (f .held) || (notZero k && f .heard)) ≡ false
-  plain e = and-rest dmpt (notZero (f .held) || (notZero k && f .heard)) (lines .3) e
+  plain : dmpt ≡ true → astray ≡ false
+  plain e = and-rest dmpt astray (lines .4) e
 
   pub flow-whole : FlowWhole closed dmpt k f
   flow-whole =
       record {
-        bare = λ e. bare-of f (and-rest closed (f .heard || notZero (f .expected) || notZero (f .held)) (lines .0) e);
-        fits = ltb-false longest (f .held) (lines .1);
-        unheard = λ e.
-            (is-zero (f .held) (or-false-left (notZero (f .held)) (notZero (f .expected)) (zeros e)), is-zero (f .expected) (or-false-right (notZero (f .held)) (notZero (f .expected)) (zeros e)));
-        holds-none = λ e. is-zero (f .held) (or-false-left (notZero (f .held)) (notZero k && f .heard) (plain e));
+        marked = ltb-false heardMark (f .heard) (lines .0);
+        bare = λ e. bare-of f (and-rest closed some (lines .1) e);
+        fits = ltb-false longest (f .held) (lines .2);
+        unheard = λ e. (
+          is-zero (f .held) (or-false-left (notZero (f .held)) (notZero (f .expected)) (zeros e)),
+          is-zero (f .expected) (or-false-right (notZero (f .held)) (notZero (f .expected)) (zeros e)),
+        );
+        holds-none = λ e. is-zero (f .held) (or-false-left (notZero (f .held)) (notZero k && not (isFresh f)) (plain e));
         one-flow = λ e other.
-            and-rest (notZero k) (f .heard) (or-false-right (notZero (f .held)) (notZero k && f .heard) (plain e)) (ap not (ne-eqb k 0 other));
+            let strayed = or-false-right (notZero (f .held)) (notZero k && not (isFresh f)) (plain e) in
+            is-zero (f .heard) (and-rest (notZero k) (not (isFresh f)) strayed (ap not (ne-eqb k 0 other)));
       }
 
--- .. and so each flow of a table that is not broken
+-- .. and so each flow of a row, and of a table, that is not broken
+pub row-whole : (row : Row) → rowBroken row ≡ false → (k : ℕ) → k < flows →
+    FlowWhole (isClosed (row .kind)) (isDmpt (kindIn (row .kind))) k (flowAt row k)
+row-whole row sound k m =
+    flow-whole (isClosed (row .kind)) (isDmpt (kindIn (row .kind))) k (flowAt row k)
+    (none-at (flowBrokenIn row) flows k (row-flows row sound) m)
+
 pub flows-whole : (t : Table) → broken t ≡ false → (i k : ℕ) → i < rows → k < flows →
-    FlowWhole (isClosed (rowAt t i .kind)) (isDmpt (rowAt t i .kind)) k (flowAt (rowAt t i) k)
-flows-whole t whole i k l m =
-    flow-whole (isClosed (rowAt t i .kind)) (isDmpt (rowAt t i .kind)) k (flowAt (rowAt t i) k)
-    (none-at (flowBrokenIn (rowAt t i)) flows k
-    (or-false-right (idBroken (rowAt t i)) (any (flowBrokenIn (rowAt t i)) flows) (rows-sound t whole i l)) m)
+    FlowWhole (isClosed (rowAt t i .kind)) (isDmpt (kindIn (rowAt t i .kind))) k (flowAt (rowAt t i) k)
+flows-whole t whole i k l m = row-whole (rowAt t i) (rows-sound t whole i l) k m

@@ -1,3 +1,4 @@
 pub mod Keeping
+pub mod Asking
 pub mod Unique
 pub mod Examples

@@ -6,7 +6,7 @@ use Rattle.table.specs.declared.Table.{Table}
 use Rattle.table.specs.declared.Opening.{Opening}
 use Rattle.table.specs.declared.Closing.{Closing}
 use Rattle.table.specs.Rows.{empty, PermitsEmpty}
-use Rattle.table.specs.Calls.{opened, closed, PermitsOpen, PermitsClose}
+use Rattle.table.specs.Calls.{opened, openedByNumber, closed, PermitsOpen, PermitsOpenByNumber, PermitsClose}
 
 pub empty-permitted : PermitsEmpty empty
 empty-permitted = refl
@@ -19,6 +19,13 @@ open-permitted t q = refl
 
 pub open-unique : (t : Table) (r : Request) (a b : Opening) → PermitsOpen t r a → PermitsOpen t r b → a ≡ b
 open-unique t r a b p q = p ∙ sym q
+
+pub open-by-number-permitted : (t : Table) (id number : ℕ) → PermitsOpenByNumber t id number (openedByNumber t id number)
+open-by-number-permitted t id number = refl
+
+pub open-by-number-unique : (t : Table) (id number : ℕ) (a b : Opening) → PermitsOpenByNumber t id number a →
+    PermitsOpenByNumber t id number b → a ≡ b
+open-by-number-unique t id number a b p q = p ∙ sym q
 
 pub close-permitted : (t : Table) (id : ℕ) → PermitsClose t id (closed t id)
 close-permitted t id = refl

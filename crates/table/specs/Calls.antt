@@ -3,34 +3,28 @@
 -- with all counts 0 and the table as it was. Neither call is given the holding slice, so neither touches it.
 use Prim.Native.Nat.{ℕ, zero, suc}
 use mathlib.Core.Path.{_≡_}
-use mathlib.Core.Bool.{Bool, not, _||_}
+use mathlib.Core.Bool.{Bool, cond, not, _||_}
 use mathlib.Core.List.{List, [], _∷_}
 use lib.Dec.{eqb, ltb, leb}
 use lib.ListN.{replicate}
 use Rattle.refusal.specs.Refusal.{Refusal, _when_, first}
 use Rattle.flow.specs.Flow.{fresh, flows}
+use Rattle.packet.specs.Check.{kindUnknown}
 use Rattle.table.specs.declared.Kind.{Kind}
-use Rattle.table.specs.declared.Kind.the-variants as kind
-use Rattle.table.specs.declared.Mode.{Mode}
-use Rattle.table.specs.declared.Mode.the-variants as mode
 use Rattle.table.specs.declared.Request.{Request}
 use Rattle.table.specs.declared.Row.{Row}
 use Rattle.table.specs.declared.Table.{Table}
 use Rattle.table.specs.declared.Opening.{Opening}
 use Rattle.table.specs.declared.Closing.{Closing}
-use Rattle.table.specs.Rows.{rows, rowAt, find, lowestFree, closedRow, heldIn, withRow}
+use Rattle.table.specs.Rows.{rows, kindIn, numberOf, rowAt, find, lowestFree, closedRow, heldIn, withRow}
 use Rattle.table.specs.Broken.{broken}
-
-abbrev pub kindOf : Mode → Kind
-kindOf mode.Psp = kind.Psp
-kindOf mode.Dmpt = kind.Dmpt
 
 abbrev pub isOpen : Table → ℕ → Bool
 isOpen t id = ltb (find t id) rows
 
 -- Opening. A session is asked for by its ID, as PSP or as D-MPT.
-abbrev pub asking : Mode → ℕ → Request
-asking asked id = record { id = id; mode = asked }
+abbrev pub asking : Kind → ℕ → Request
+asking kind id = record { id = id; kind = kind }
 
 abbrev pub openRefusals : Table → Request → List Refusal
 openRefusals t r =
@@ -41,7 +35,7 @@ openRefusals t r =
     ∷ []
 
 abbrev pub freshRow : Request → Row
-freshRow r = record { id = r .id; kind = kindOf (r .mode); flows = replicate flows fresh }
+freshRow r = record { id = r .id; kind = numberOf (r .kind); flows = replicate flows fresh }
 
 -- by the number of the first refusal that applies
 abbrev pub openedBy : ℕ → Table → Request → Opening
@@ -50,6 +44,10 @@ openedBy (suc c) t r = record { code = suc c; table = t }
 
 unfoldable pub opened : Table → Request → Opening
 opened t r = openedBy (first (openRefusals t r)) t r
+
+-- An open by a kind's number, as C asks for it: 24 where there is no such kind, before all else (ours: docs/DECISIONS.md, 74).
+unfoldable pub openedByNumber : Table → ℕ → ℕ → Opening
+openedByNumber t id number = cond (kindUnknown number) (record { code = 24; table = t }) (opened t (asking (kindIn number) id))
 
 -- Closing.
 abbrev pub closeRefusals : Table → ℕ → List Refusal
@@ -65,9 +63,12 @@ closedBy (suc c) t id = record { code = suc c; dropped = 0; table = t }
 unfoldable pub closed : Table → ℕ → Closing
 closed t id = closedBy (first (closeRefusals t id)) t id
 
--- What the two calls permit, whole: the answer, and in it the table.
+-- What the calls permit, whole: the answer, and in it the table.
 abbrev pub PermitsOpen : Table → Request → Opening → Type 0
 PermitsOpen t r answer = answer ≡ opened t r
+
+abbrev pub PermitsOpenByNumber : Table → ℕ → ℕ → Opening → Type 0
+PermitsOpenByNumber t id number answer = answer ≡ openedByNumber t id number
 
 abbrev pub PermitsClose : Table → ℕ → Closing → Type 0
 PermitsClose t id answer = answer ≡ closed t id

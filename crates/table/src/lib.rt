@@ -1,34 +1,50 @@
-// The table of sessions: six rows of four flows, by value. When it is broken, where a session stands in it, opening and closing a
-// session, and putting a flow's record back. Nothing here knows of packets, and nothing here touches the holding slice.
+// The table of sessions: six rows of four flows, by value. When it is broken, where a session stands in it, and opening and closing a
+// session. It is made of plain numbers and is the table that the host program keeps: that the numbers are such as a call of ours leaves is
+// asked, and never trusted. Nothing here reads a packet, and nothing here touches the holding slice.
 ghost use mathlib.Core.Path.{_≡_};
+ghost use mathlib.Core.Bool.{false};
 ghost use Prim.Native.Nat.{_<_};
-ghost use Rattle.table.specs.Rows.{PermitsEmpty, rows, termsOf, isClosed, isDmpt, find, lowestFree, closedRow, heldIn, withFlow};
-ghost use Rattle.table.specs.Broken.{flowBroken, rowBroken, sameOpen, openTwice, broken};
-ghost use Rattle.table.specs.Calls.{kindOf, freshRow, PermitsOpen, PermitsClose};
-ghost use Rattle.flow.specs.Flow.{flows};
+ghost use Rattle.octets.specs.Count.{any};
+ghost use Rattle.table.specs.Rows.{PermitsEmpty, rows, rowAt, closedRow, isClosed, kindIn, numberOf, isDmpt, termsOf};
+ghost use Rattle.table.specs.Rows.{find, lowestFree, heldIn};
+ghost use Rattle.table.specs.Broken.{rowBroken, broken};
+ghost use Rattle.table.specs.Calls.{freshRow, PermitsOpen, PermitsOpenByNumber, PermitsClose};
+ghost use Rattle.table.specs.Inside.{flowUnfit, anyUnfit, idTwice, idsOf};
 use flow::FLOWS;
 use flow::Flow;
 
 // How many rows the table has, one to a session.
 pub const ROWS: usize = 6;
 
-// What a row is. `Closed` comes first, so that it is the kind of a row of zeros.
+// The kind number of a row: 0 closed, else as in the packet check.
+const CLOSED: u32 = 0;
+
+const PSP: u32 = packet::KIND_PSP;
+
+const DMPT: u32 = packet::KIND_DMPT;
+
+#[repr(C)] // it crosses to the host program as it is, and so does the table
+pub struct Row {
+    pub id: u32,
+    pub kind: u32,
+    pub flows: [Flow; FLOWS],
+}
+
+#[repr(C)]
+pub struct Table {
+    pub rows: [Row; ROWS],
+}
+
+// The kind of a session.
 pub enum Kind {
-    Closed,
     Psp,
     Dmpt,
 }
 
-// What an open asks for: no session can be opened as closed.
-pub enum Mode {
-    Psp,
-    Dmpt,
-}
-
-// What an open asks for, whole.
+// What an open asks for. A `Kind` is PSP or D-MPT, so that nothing else can be asked for.
 pub struct Request {
     pub id: u32,
-    pub mode: Mode,
+    pub kind: Kind,
 }
 
 // The terms of a session: what decides how its packets are read and joined.
@@ -37,23 +53,15 @@ pub struct Terms {
     pub longest: u16,
 }
 
-pub struct Row {
-    pub id: u32,
-    pub kind: Kind,
-    pub flows: [Flow; FLOWS],
-}
-
-pub struct Table {
-    pub rows: [Row; ROWS],
-}
-
 // What an open answers: 0 or the refusal's number, and the table afterwards.
+#[repr(C)]
 pub struct Opening {
     pub code: u32,
     pub table: Table,
 }
 
 // What a close answers: 0 or the refusal's number, the held bytes that it dropped, and the table afterwards.
+#[repr(C)]
 pub struct Closing {
     pub code: u32,
     pub dropped: u32,
@@ -77,7 +85,7 @@ fn closed_row() -> Row
     let fresh = Flow::fresh();
     Row {
         id: 0,
-        kind: Kind::Closed,
+        kind: CLOSED,
         flows: [fresh; FLOWS],
     }
 }
@@ -87,8 +95,8 @@ fn fresh_row(request: Request) -> Row
     ensures { λ r. ⌜ r ≡ freshRow request ⌝ }
 {
     let fresh = Flow::fresh();
-    let mode = request.mode;
-    let kind = kind_of(mode);
+    let asked = request.kind;
+    let kind = number_of(asked);
     Row {
         id: request.id,
         kind,
@@ -96,30 +104,35 @@ fn fresh_row(request: Request) -> Row
     }
 }
 
-fn kind_of(mode: Mode) -> Kind
-    ensures { λ r. ⌜ r ≡ kindOf mode ⌝ }
+// The number of a kind, and the kind of a number. Here alone a kind number becomes a `Kind`.
+fn number_of(kind: Kind) -> u32
+    ensures { λ r. ⌜ r ≡ numberOf kind ⌝ }
 {
-    match mode {
-        Mode::Psp => Kind::Psp,
-        Mode::Dmpt => Kind::Dmpt,
+    match kind {
+        Kind::Psp => PSP,
+        Kind::Dmpt => DMPT,
     }
 }
 
-pub fn is_closed(kind: Kind) -> bool
-    ensures { λ r. ⌜ r ≡ isClosed kind ⌝ }
+fn kind_in(number: u32) -> Kind
+    ensures { λ r. ⌜ r ≡ kindIn number ⌝ }
 {
-    match kind {
-        Kind::Closed => true,
-        Kind::Psp => false,
-        Kind::Dmpt => false,
+    if number == DMPT {
+        return Kind::Dmpt;
     }
+    Kind::Psp
+}
+
+pub fn is_closed(number: u32) -> bool
+    ensures { λ r. ⌜ r ≡ isClosed number ⌝ }
+{
+    number == CLOSED
 }
 
 pub fn is_dmpt(kind: Kind) -> bool
     ensures { λ r. ⌜ r ≡ isDmpt kind ⌝ }
 {
     match kind {
-        Kind::Closed => false,
         Kind::Psp => false,
         Kind::Dmpt => true,
     }
@@ -129,88 +142,141 @@ pub fn is_dmpt(kind: Kind) -> bool
 pub fn terms_of(row: Row) -> Terms
     ensures { λ r. ⌜ r ≡ termsOf row ⌝ }
 {
-    let of_row = row.kind;
+    let kind = kind_in(row.kind);
     Terms {
-        kind: of_row,
+        kind,
         longest: Flow::LONGEST,
     }
 }
 
-// Whether flow k breaks its row, which is closed, or D-MPT, or neither.
-fn flow_broken(closed: bool, dmpt: bool, k: usize, flow: Flow) -> bool
-    ensures { λ r. ⌜ r ≡ flowBroken closed dmpt k flow ⌝ }
+// Whether a flow is what no flow of its row may be. `numbered` says whether it may have accepted a number, and `most` how many bytes it may
+// then hold; one with the mark 0 is all zero, and there is no other mark. (Why the branch: docs/DECISIONS.md, 100.)
+fn flow_unfit(numbered: bool, most: u16, flow: Flow) -> bool
+    ensures { λ r. ⌜ r ≡ flowUnfit numbered most flow ⌝ }
 {
-    (closed & (flow.heard | (flow.expected != 0) | (flow.held != 0)))
-        | (Flow::LONGEST < flow.held)
-        | (!flow.heard & ((flow.held != 0) | (flow.expected != 0)))
-        | (dmpt & ((flow.held != 0) | ((k != 0) & flow.heard)))
+    if flow.heard == Flow::HEARD {
+        return !numbered | (most < flow.held);
+    }
+    (flow.heard != 0) | (flow.expected != 0) | (flow.held != 0)
 }
 
-// Whether a row is broken by itself.
+fn any_unfit(first: bool, others: bool, most: u16, row: Row) -> bool
+    ensures { λ r. ⌜ r ≡ anyUnfit first others most row ⌝ }
+{
+    let a = row.flows[0];
+    if flow_unfit(first, most, a) {
+        return true;
+    }
+    let b = row.flows[1];
+    if flow_unfit(others, most, b) {
+        return true;
+    }
+    let c = row.flows[2];
+    if flow_unfit(others, most, c) {
+        return true;
+    }
+    let d = row.flows[3];
+    flow_unfit(others, most, d)
+}
+
+// Whether a row is broken by itself. In a D-MPT row only flow 0 may have accepted a number, and nothing is held; a closed row is all zero;
+// and any kind above 2 is broken.
 fn row_broken(row: Row) -> bool
     ensures { λ r. ⌜ r ≡ rowBroken row ⌝ }
 {
     let kind = row.kind;
-    let closed = is_closed(kind);
-    let dmpt = is_dmpt(kind);
-    let mut bad = (!closed & (row.id == 0)) | (closed & (row.id != 0));
-    let mut k: usize = 0;
-    while k < FLOWS {
-        let flow = row.flows[k];
-        bad = bad | flow_broken(closed, dmpt, k, flow);
-        k += 1;
+    if kind == PSP {
+        if row.id == 0 {
+            return true;
+        }
+        return any_unfit(true, true, Flow::LONGEST, row);
     }
-    bad
-}
-
-// Two open rows of one ID.
-fn same_open(a: Row, b: Row) -> bool
-    ensures { λ r. ⌜ r ≡ sameOpen a b ⌝ }
-{
-    let kind_a = a.kind;
-    let kind_b = b.kind;
-    !is_closed(kind_a) & !is_closed(kind_b) & (a.id == b.id)
-}
-
-// Whether the open ID of row i stands in an earlier row too.
-fn open_twice(table: Table, i: usize) -> bool
-    requires { ⌜ i < rows ⌝ }
-    ensures { λ r. ⌜ r ≡ openTwice table i ⌝ }
-{
-    let row = table.rows[i];
-    let mut bad = false;
-    let mut j: usize = 0;
-    while j < i {
-        let other = table.rows[j];
-        bad = bad | same_open(row, other);
-        j += 1;
+    if kind == DMPT {
+        if row.id == 0 {
+            return true;
+        }
+        return any_unfit(true, false, 0, row);
     }
-    bad
+    if (kind != CLOSED) | (row.id != 0) {
+        return true;
+    }
+    any_unfit(false, false, 0, row)
 }
 
-// Refusal 13: whether the table is broken, in any row.
-pub fn is_broken(table: Table) -> bool
-    ensures { λ r. ⌜ r ≡ broken table ⌝ }
+fn any_row_broken(table: Table) -> bool
+    ensures { λ r. ⌜ r ≡ any (λ i. rowBroken (rowAt table i)) rows ⌝ }
 {
-    let mut bad = false;
     let mut i: usize = 0;
     while i < ROWS {
         let row = table.rows[i];
-        bad = bad | (row_broken(row) | open_twice(table, i));
+        if row_broken(row) {
+            return true;
+        }
         i += 1;
     }
-    bad
+    false
 }
 
-// The row where a session is open, or 6.
+// Whether the ID of row i is not 0 and stands in an earlier row too.
+fn id_before(ids: [u32; ROWS], i: usize) -> bool
+    requires { ⌜ i < rows ⌝ }
+    ensures { λ r. ⌜ r ≡ any (idTwice ids i) i ⌝ }
+{
+    let mut j: usize = 0;
+    while j < i {
+        if (ids[j] == ids[i]) & (ids[i] != 0) {
+            return true;
+        }
+        j += 1;
+    }
+    false
+}
+
+fn any_id_twice(ids: [u32; ROWS]) -> bool
+    ensures { λ r. ⌜ r ≡ any (λ i. any (idTwice ids i) i) rows ⌝ }
+{
+    let mut i: usize = 0;
+    while i < ROWS {
+        if id_before(ids, i) {
+            return true;
+        }
+        i += 1;
+    }
+    false
+}
+
+fn ids_of(table: Table) -> [u32; ROWS]
+    ensures { λ r. ⌜ r ≡ idsOf table ⌝ }
+{
+    let a = table.rows[0];
+    let b = table.rows[1];
+    let c = table.rows[2];
+    let d = table.rows[3];
+    let e = table.rows[4];
+    let f = table.rows[5];
+    [a.id, b.id, c.id, d.id, e.id, f.id]
+}
+
+// Refusal 13: whether the table is broken, in any row. Where no row is broken by itself the open rows are those whose ID is not 0.
+pub fn is_broken(table: Table) -> bool
+    ensures { λ r. ⌜ r ≡ broken table ⌝ }
+{
+    if any_row_broken(table) {
+        return true;
+    }
+    let ids = ids_of(table);
+    any_id_twice(ids)
+}
+
+// The row where a session is open, or 6. It is asked where the table is not broken and the ID not 0: then no closed row has the ID.
 pub fn find_row(table: Table, id: u32) -> usize
+    requires { ⌜ (broken table ≡ false) × (id ≡ 0 → ⊥) ⌝ }
     ensures { λ r. ⌜ r ≡ find table id ⌝ }
 {
     let mut i: usize = 0;
     while i < ROWS {
         let row = table.rows[i];
-        let kind = row.kind;
-        if !is_closed(kind) & (row.id == id) {
+        if row.id == id {
             return i;
         }
         i += 1;
@@ -225,8 +291,7 @@ fn lowest_free(table: Table) -> usize
     let mut i: usize = 0;
     while i < ROWS {
         let row = table.rows[i];
-        let kind = row.kind;
-        if is_closed(kind) {
+        if is_closed(row.kind) {
             return i;
         }
         i += 1;
@@ -243,18 +308,6 @@ fn held_in(row: Row) -> u32
     let c = row.flows[2];
     let d = row.flows[3];
     a.held as u32 + b.held as u32 + c.held as u32 + d.held as u32
-}
-
-// The table with flow k of row i replaced.
-pub fn with_flow(table: Table, i: usize, k: usize, flow: Flow) -> Table
-    requires { ⌜ (i < rows) × (k < flows) ⌝ }
-    ensures { λ r. ⌜ r ≡ withFlow table i k flow ⌝ }
-{
-    let mut next = table;
-    let mut row = next.rows[i];
-    row.flows[k] = flow;
-    next.rows[i] = row;
-    next
 }
 
 // Opens a session in the lowest free row.
@@ -294,6 +347,20 @@ pub fn open(table: Table, request: Request) -> Opening
         code: refusal::NONE,
         table: next,
     }
+}
+
+// Opens a session of the kind with this number, as C asks for it. A number that is no kind is answered before the table is looked at.
+pub fn open_by_number(table: Table, id: u32, number: u32) -> Opening
+    ensures { λ r. ⌜ PermitsOpenByNumber table id number r ⌝ }
+{
+    if (number != PSP) & (number != DMPT) {
+        return Opening {
+            code: refusal::KIND_UNKNOWN,
+            table,
+        };
+    }
+    let kind = kind_in(number);
+    open(table, Request { id, kind })
 }
 
 // Closes a session: its row is emptied, and what its flows held is dropped.

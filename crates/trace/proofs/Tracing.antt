@@ -4,6 +4,7 @@ use mathlib.Core.Path.{_≡_, refl, sym, ap, _∙_}
 use mathlib.Core.Bool.{Bool, true, false, cond}
 use mathlib.Core.List.{List, [], _∷_, _++_, map}
 use native.Mathlib.Omega.{arith}
+use borrow.Author.Tests.{eq-eqb, ne-eqb}
 use lib.ListN.{length}
 use Rattle.octets.specs.Bytes.{byteAt}
 use Rattle.octets.specs.Count.{sumTo, upTo}
@@ -22,7 +23,7 @@ use Rattle.card.specs.Receive.{holdingSize, placeOf, framesFound}
 use Rattle.text.specs.Text.{ascii, decimal, column, hex, space, newline, mostDigits, Wrote}
 use Rattle.text.proofs.Writing.{wrote-length, wrote-then, wrote-none, wrote-as}
 use Rattle.listing.specs.Walk.{columnRoom}
-use Rattle.trace.specs.Trace.{frameLine, hexOrDash, flowLine, flowText, kindNumber, rowLine, rowText, rowsText}
+use Rattle.trace.specs.Trace.{frameLine, hexOrDash, flowLine, flowText, rowLine, rowText, rowsText}
 use Rattle.trace.specs.Rooms.{frameRoom, framesRoom, flowRoom, rowLineRoom, rowRoom, rowsRoom, Findable, HeldFew}
 
 -- The line of a frame: a word, its bytes, the end of the line.
@@ -128,11 +129,12 @@ held-some holding from count some inside w e =
     (wrote-as (some-hex (part holding from count) (λ z. some (sym (length-part holding from count inside) ∙ z))) w, omega (arith, e))
 
 -- The line of a flow. A fresh flow has none.
-pub flow-fresh : (a : List ℕ) (at : ℕ) (holding : List ℕ) (r k : ℕ) (f : Flow) → f .heard ≡ false → at + flowRoom ≤ length a →
+pub flow-fresh : (a : List ℕ) (at : ℕ) (holding : List ℕ) (r k : ℕ) (f : Flow) → f .heard ≡ 0 → at + flowRoom ≤ length a →
     Wrote a a at at (flowText holding r k f) × (at ≤ at + flowRoom)
 unfolding flowText
 flow-fresh a at holding r k f unheard long = (
-  wrote-as (ap (λ (h : Bool). cond h (flowLine r k f (part holding (placeOf r k) (f .held))) []) (sym unheard)) (wrote-none a at (omega (arith, long))),
+  wrote-as (ap (λ (h : Bool). cond h [] (flowLine r k f (part holding (placeOf r k) (f .held)))) (sym (eq-eqb (f .heard) 0 unheard)))
+      (wrote-none a at (omega (arith, long))),
   omega arith,
 )
 
@@ -186,27 +188,27 @@ module _ {a b : List ℕ} {at behind-held : ℕ} (r k : ℕ) (f : Flow) (few : f
           wrote-then (wrote-then (wrote-then (numbers .0) gap) (wrote-as (ap hexOrDash stretch) bytes)) end
 
       -- .. which is the text of a flow that is not fresh
-      pub flow-written : {e : List ℕ} {next : ℕ} → f .heard ≡ true → Wrote d e behind-bytes next newline →
+      pub flow-written : {e : List ℕ} {next : ℕ} → (f .heard ≡ 0 → ⊥) → Wrote d e behind-bytes next newline →
           Wrote a e at next (flowText holding r k f) × (next ≤ at + flowRoom)
       unfolding flowText
       flow-written {e} {next} heard end =
           let one : behind-space ≡ behind-held + 1 = gap .next-place in
           let last : next ≡ behind-bytes + 1 = end .next-place in (
-            wrote-as (ap (λ (b : Bool). cond b (flowLine r k f (part holding (placeOf r k) (f .held))) []) (sym heard)) (line-written end),
+            wrote-as (ap (λ (b : Bool). cond b [] (flowLine r k f (part holding (placeOf r k) (f .held)))) (sym (ne-eqb (f .heard) 0 heard))) (line-written end),
             omega (arith, one, last, bytes-short, numbers .1, same, few),
           )
 
 -- The line of a row: a word, the row's number, its ID and the number of its kind.
-pub row-line-written : {a b c d e g : List ℕ} {at behind-word behind-row behind-id behind-kind next : ℕ} (r : ℕ) (row : Row) (kind : ℕ) → kind ≡ kindNumber (row .kind) →
+pub row-line-written : {a b c d e g : List ℕ} {at behind-word behind-row behind-id behind-kind next : ℕ} (r : ℕ) (row : Row) →
     Wrote a b at behind-word (ascii " row ") → Wrote b c behind-word behind-row (decimal r) → behind-row ≤ behind-word + mostDigits →
     Wrote c d behind-row behind-id (column (row .id)) → behind-id ≤ behind-row + 1 + mostDigits →
-    Wrote d e behind-id behind-kind (column kind) → behind-kind ≤ behind-id + 1 + mostDigits →
+    Wrote d e behind-id behind-kind (column (row .kind)) → behind-kind ≤ behind-id + 1 + mostDigits →
     Wrote e g behind-kind next newline → Wrote a g at next (rowLine r row) × (next ≤ at + rowLineRoom)
 unfolding rowLine
-row-line-written {at = at} {behind-word = behind-word} {behind-kind = behind-kind} {next = next} r row kind same v w w-short x x-short y y-short z =
+row-line-written {at = at} {behind-word = behind-word} {behind-kind = behind-kind} {next = next} r row v w w-short x x-short y y-short z =
     let word : behind-word ≡ at + 5 = v .next-place in
     let end : next ≡ behind-kind + 1 = z .next-place in
-    (wrote-then (wrote-then (wrote-then (wrote-then v w) x) (wrote-as (ap column same) y)) z, omega (arith, word, w-short, x-short, y-short, end))
+    (wrote-then (wrote-then (wrote-then (wrote-then v w) x) y) z, omega (arith, word, w-short, x-short, y-short, end))
 
 -- A row with its flows. First, the text of each flow.
 abbrev pub flowsOf : List ℕ → ℕ → Row → ℕ → List ℕ

@@ -1,18 +1,16 @@
--- The trace: the listing, and behind each entry's line what the card did and how it stands afterwards. A line for each frame that the entry
--- delivered, in order; then for each open row its number, session ID and kind (1 PSP, 2 D-MPT, the numbers of the packet check), and for each
--- of its flows that is not fresh the flow's number, the number that it expects, how many bytes it holds, and those bytes as they stand in its
--- place, `-` where there are none.
+-- The trace: the listing, and behind each entry's line what the card did and how it stands afterwards. A line for each frame that the
+-- entry delivered, in order; then for each open row its number, session ID and kind (1 PSP, 2 D-MPT, as in the packet check), and for each
+-- of its flows that is not fresh the flow's number, the number that it expects, how many bytes it holds, and those bytes as they stand in
+-- its place, `-` where there are none.
 use Prim.Native.Nat.{ℕ, zero, suc}
 use mathlib.Core.Bool.{cond}
 use mathlib.Core.List.{List, [], _∷_, _++_, map}
 use Rattle.octets.specs.Stretch.{part, joined}
 use Rattle.octets.specs.Count.{upTo}
 use Rattle.flow.specs.declared.Flow.{Flow}
-use Rattle.flow.specs.Flow.{flows}
-use Rattle.packet.specs.Check.{kindPsp, kindDmpt}
-use Rattle.table.specs.declared.Kind.{Kind}
+use Rattle.flow.specs.Flow.{flows, isFresh}
 use Rattle.table.specs.declared.Row.{Row}
-use Rattle.table.specs.Rows.{rows, isClosed, isDmpt, rowAt, flowAt}
+use Rattle.table.specs.Rows.{rows, isClosed, rowAt, flowAt}
 use Rattle.card.specs.Receive.{placeOf}
 use Rattle.card.specs.History.{Card, Answer, framesOf}
 use Rattle.text.specs.Text.{ascii, decimal, column, hex, space, newline}
@@ -38,14 +36,11 @@ flowLine r k f held =
     ascii " flow " ++ decimal r ++ column k ++ column (f .expected) ++ column (f .held) ++ space ++ hexOrDash held ++ newline
 
 unfoldable pub flowText : List ℕ → ℕ → ℕ → Flow → List ℕ
-flowText holding r k f = cond (f .heard) (flowLine r k f (part holding (placeOf r k) (f .held))) []
+flowText holding r k f = cond (isFresh f) [] (flowLine r k f (part holding (placeOf r k) (f .held)))
 
 -- A row, with its flows: nothing where it is closed.
-abbrev pub kindNumber : Kind → ℕ
-kindNumber kind = cond (isDmpt kind) kindDmpt kindPsp
-
 unfoldable pub rowLine : ℕ → Row → List ℕ
-rowLine r row = ascii " row " ++ decimal r ++ column (row .id) ++ column (kindNumber (row .kind)) ++ newline
+rowLine r row = ascii " row " ++ decimal r ++ column (row .id) ++ column (row .kind) ++ newline
 
 unfoldable pub rowText : List ℕ → ℕ → Row → List ℕ
 rowText holding r row = cond (isClosed (row .kind)) [] (rowLine r row ++ joined (upTo (λ k. flowText holding r k (flowAt row k)) flows))

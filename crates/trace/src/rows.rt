@@ -9,12 +9,11 @@ ghost use Rattle.table.specs.Rows.{rows};
 ghost use Rattle.table.specs.Broken.{broken};
 ghost use Rattle.card.specs.Receive.{holdingSize};
 ghost use Rattle.text.specs.Text.{Wrote};
-ghost use Rattle.trace.specs.Trace.{hexOrDash, flowText, kindNumber, rowLine, rowText, rowsText};
+ghost use Rattle.trace.specs.Trace.{hexOrDash, flowText, rowLine, rowText, rowsText};
 ghost use Rattle.trace.specs.Rooms.{flowRoom, rowLineRoom, rowRoom, rowsRoom, HeldFew};
 use crate::wide;
 use flow::FLOWS;
 use flow::Flow;
-use table::Kind;
 use table::ROWS;
 use table::Row;
 use table::Table;
@@ -53,7 +52,7 @@ fn write_flow(text: &mut [u8], at: usize, r: usize, k: usize, flow: Flow, holdin
     ensures { λ n. ⌜ Wrote (now (text .entry)) (now (text .exit)) at n (flowText (now (holding .entry)) r k flow) ⌝ }
     ensures { λ n. ⌜ n ≤ at + flowRoom ⌝ }
 {
-    if !flow.heard {
+    if flow.heard == 0 {
         return at;
     }
     let behind_word = text::write_words(text, at, b" flow ");
@@ -67,16 +66,6 @@ fn write_flow(text: &mut [u8], at: usize, r: usize, k: usize, flow: Flow, holdin
     text::write_byte(text, behind_bytes, b'\n')
 }
 
-// The number of a row's kind.
-fn kind_number(kind: Kind) -> u32
-    ensures { λ n. ⌜ n ≡ kindNumber kind ⌝ }
-{
-    if table::is_dmpt(kind) {
-        return packet::KIND_DMPT;
-    }
-    packet::KIND_PSP
-}
-
 // Writes the line of row r itself.
 fn write_row_line(text: &mut [u8], at: usize, r: usize, row: Row) -> usize
     requires { ⌜ (r < rows) × (at + rowLineRoom ≤ length (now text)) ⌝ }
@@ -86,8 +75,7 @@ fn write_row_line(text: &mut [u8], at: usize, r: usize, row: Row) -> usize
     let behind_word = text::write_words(text, at, b" row ");
     let behind_row = text::write_decimal(text, behind_word, r as u32);
     let behind_id = text::write_column(text, behind_row, row.id);
-    let kind = row.kind;
-    let behind_kind = text::write_column(text, behind_id, kind_number(kind));
+    let behind_kind = text::write_column(text, behind_id, row.kind);
     text::write_byte(text, behind_kind, b'\n')
 }
 
@@ -98,8 +86,7 @@ fn write_row(text: &mut [u8], at: usize, r: usize, row: Row, holding: &[u8]) -> 
     ensures { λ n. ⌜ Wrote (now (text .entry)) (now (text .exit)) at n (rowText (now (holding .entry)) r row) ⌝ }
     ensures { λ n. ⌜ n ≤ at + rowRoom ⌝ }
 {
-    let kind = row.kind;
-    if table::is_closed(kind) {
+    if table::is_closed(row.kind) {
         return at;
     }
     let mut next = write_row_line(text, at, r, row);

@@ -21,7 +21,7 @@ walk-requires c κs =
     let d = t .before in
     let s = start d in
     let r = s .pre .0 in
-    ((r .output-long, r .lengths-long), (s .pre .1 .3, sym (refusals-dmpt (s .args .terms) (s .args .sub .now) (sym (d .is-dmpt .ensures) ∙ t .if1 .taken)) ∙ s .pre .1 .4))
+    ((r .output-long, r .lengths-long), (s .pre .1 .short, sym (refusals-dmpt (s .args .terms) (s .args .sub .now) (sym (d .is-dmpt .ensures) ∙ t .if1 .taken)) ∙ s .pre .1 .passed))
 
 same-length : tie.Need-same-length
 same-length c = search needs
@@ -36,9 +36,9 @@ returns c =
     let s = start d in
     let a = s .args in
     let taken = sym (d .is-dmpt .ensures) ∙ t .if1 .taken in
-    let header = dmpt-header (a .sub .now) (sym (refusals-dmpt (a .terms) (a .sub .now) taken) ∙ s .pre .1 .4) in
+    let header = dmpt-header (a .sub .now) (sym (refusals-dmpt (a .terms) (a .sub .now) taken) ∙ s .pre .1 .passed) in
     let w = c .before .before .before .before .walk .ensures in (
-      rw (fate-dmpt (a .terms) (a .gap) (a .place) (a .held) (a .holding .now) (a .sub .now) taken (s .pre .1 .2 taken))
+      rw (fate-dmpt (a .terms) (a .gap) (a .place) (a .held) (a .holding .now) (a .sub .now) taken (s .pre .1 .bare taken))
           (placed-anywhere (w .0) (dmpt-holds-none (a .sub .now) header) (a .holding .now) (a .place)),
       w .1,
     )
@@ -49,8 +49,8 @@ walk-requires-2 c κs =
     let d = t .before in
     let s = start d in
     let asked = s .pre .1 in
-    let segments = segments-pass (s .args .terms) (s .args .sub .now) (sym (d .is-dmpt .ensures) ∙ t .if1 .left) (asked .4) in
-    (s .pre .0, (omega arith, omega arith, asked .1, asked .0, asked .3, segments))
+    let segments = segments-pass (s .args .terms) (s .args .sub .now) (sym (d .is-dmpt .ensures) ∙ t .if1 .left) (asked .passed) in
+    (s .pre .0, (omega arith, omega arith, asked .fits, asked .most, asked .short, segments))
 
 same-length-3 : tie.Need-same-length-3
 same-length-3 c = search needs

@@ -1,85 +1,39 @@
--- `card::receive` is right since it asks the refusals of `dataRefusals` in their order, and then hands the packet to its flow.
-use Prim.Native.Nat.{_+_, _≤_}
-use mathlib.Core.Path.{_≡_, sym, _∙_}
-use mathlib.Core.Bool.{false}
-use native.Mathlib.Omega.{arith}
-use lib.ListN.{length}
-use Rattle.packet.specs.Header.{ip, idLength}
+-- `card::receive` is right since the order of refusals is that of `seek` and behind it that of the session's row; and a row that is put back
+-- as it was leaves the table as it was.
+use Rattle.packet.specs.Header.{ip}
 use Rattle.join.specs.Slices.{asSlices, Slices}
-use Rattle.card.specs.Receive.{tooSmall}
-use Rattle.card.proofs.Accepted.{early-over}
-use Rattle.card.proofs.Receiving.{permits, ready, receive-small, receive-early, receive-closed, receive-heard}
+use Rattle.card.proofs.Receiving.{permits, ready, receive-is}
 use borrow.Author.Needs.{needs}
 use Rattle.card.proofs.receive.Statement.{statement}
 use Rattle.card.proofs.receive.Tie as tie
 
--- from where the code has asked about the sizes back to its start, and the slices as they were lent
-abbrev start : tie.After-too-small → tie.Start
+-- from where the code has sought the session back to its start, and the slices as they were lent
+abbrev start : tie.After-seek → tie.Start
 start w = w .before .before .before .before .before
 
 abbrev lent : tie.Start → Slices
 lent s = asSlices (s .args .holding .now) (s .args .output .now) (s .args .lengths .now)
 
-large : (w : tie.After-too-small) → w .too-small .result ≡ false → tooSmall (lent (start w)) ≡ false
-large w left = sym (w .too-small .ensures) ∙ left
+seek-requires : tie.Need-seek-requires
+seek-requires c κs = search needs
 
--- the packet passed 2 to 4, so its session ID lies in it
-id-inside : (e : tie.Else2) → idLength ≤ length (start (e .before .before .before) .args .packet .now)
-id-inside e =
-    let a = start (e .before .before .before) .args in
-    let over = early-over (a .table) (ip (a .packet .now)) (sym (e .before .refuse-before-session .ensures) ∙ e .if2 .left) in
-    omega (arith, over .passed .not-short)
+mul-row : tie.Need-mul-row
+mul-row c = search needs
 
-too-small-requires : tie.Need-too-small-requires
-too-small-requires c κs = search needs
+element-copy-out-row : tie.Need-element-copy-out-row
+element-copy-out-row c = c .seek .ensures .in-table
 
-refused-answer-requires : tie.Need-refused-answer-requires
-refused-answer-requires c κs = search needs
-
-returns : tie.Need-returns
-returns c =
-    let w = c .before .before in
-    let s = start w in
-    permits (receive-small (s .args .table) (ip (s .args .packet .now)) (lent s) _ (sym (w .too-small .ensures) ∙ c .before .if1 .taken) (c .refused-answer .ensures))
-
-refuse-before-session-requires : tie.Need-refuse-before-session-requires
-refuse-before-session-requires c κs = search needs
-
-refused-answer-requires-2 : tie.Need-refused-answer-requires-2
-refused-answer-requires-2 c κs = search needs
-
-returns-2 : tie.Need-returns-2
-returns-2 c =
+take-requires : tie.Need-take-requires
+take-requires c κs =
     let w = c .before .before .before .before in
     let s = start w in
-    permits (receive-early (s .args .table) (ip (s .args .packet .now)) (lent s) (large w (c .before .before .before .if1 .left)) _ (c .before .before .refuse-before-session .ensures) _ (c .before .if2 .taken) (c .refused-answer2 .ensures))
+    (w .seek .ensures .in-table, λ z. ready (s .args .table) (ip (s .args .packet .now)) (lent s) (w .seek .result) (w .seek .ensures) z)
 
-session-id-requires : tie.Need-session-id-requires
-session-id-requires c κs = id-inside c
+mul-after : tie.Need-mul-after
+mul-after c = search needs
 
-find-row-requires : tie.Need-find-row-requires
-find-row-requires c κs = search needs
-
-refused-answer-requires-3 : tie.Need-refused-answer-requires-3
-refused-answer-requires-3 c κs = search needs
-
-returns-3 : tie.Need-returns-3
-returns-3 c =
-    let w = c .before .before .before .before .before .before .before in
-    let s = start w in
-    permits
-    (receive-closed (s .args .table) (ip (s .args .packet .now)) (lent s) (large w (c .before .before .before .before .before .before .if1 .left)) _ (c .before .before .before .before .before .refuse-before-session .ensures) (c .before .before .before .before .if2 .left) _ _
-    (c .before .before .before .session-id .ensures) (c .before .before .find-row .ensures) _ (c .before .if3 .taken) (c .refused-answer3 .ensures))
-
-sub-of-requires : tie.Need-sub-of-requires
-sub-of-requires c κs = id-inside (c .before .before .before)
-
-hear-requires : tie.Need-hear-requires
-hear-requires c κs =
-    let e = c .before .before .before .before .before .before .before in
-    let w = e .before .before .before in
-    let s = start w in
-    ready (s .args .table) (ip (s .args .packet .now)) (lent s) _ _ (large w (e .before .before .if1 .left)) (sym (e .before .refuse-before-session .ensures) ∙ e .if2 .left) (c .before .before .before .before .if3 .left) (c .before .before .before .sub-of .ensures)
+element-set-from-after : tie.Need-element-set-from-after
+element-set-from-after c = search needs
 
 same-length : tie.Need-same-length
 same-length c = search needs
@@ -90,32 +44,24 @@ same-length-2 c = search needs
 same-length-3 : tie.Need-same-length-3
 same-length-3 c = search needs
 
-returns-4 : tie.Need-returns-4
-returns-4 c =
-    let e = c .before .before .before .before .before .before .before .before .before .before .before .before .before .before in
-    let w = e .before .before .before in
+returns : tie.Need-returns
+returns c =
+    let t = c .before .before .before .before .before .before .before in
+    let w = t .before .before .before .before .before in
     let s = start w in
-    permits
-    (receive-heard (s .args .table) (ip (s .args .packet .now)) (lent s) (large w (e .before .before .if1 .left)) _ (e .before .refuse-before-session .ensures) (e .if2 .left) _ _
-    (c .before .before .before .before .before .before .before .before .before .before .before .before .before .session-id .ensures) (c .before .before .before .before .before .before .before .before .before .before .before .before .find-row .ensures) _ _ (c .before .before .before .before .before .before .before .before .before .before .before .if3 .left) (c .before .before .before .before .before .before .before .before .before .before .sub-of .ensures) (c .before .before .before .before .before .before .hear .ensures))
+    permits (receive-is (s .args .table) (ip (s .args .packet .now)) (lent s) (w .seek .result) _ (w .seek .ensures) (t .take .ensures))
 
 pub receive-spec : {M : Type 1} → statement M
 receive-spec =
     tie.close
     (tie.spec
-    too-small-requires
-    refused-answer-requires
-    returns
-    refuse-before-session-requires
-    refused-answer-requires-2
-    returns-2
-    session-id-requires
-    find-row-requires
-    refused-answer-requires-3
-    returns-3
-    sub-of-requires
-    hear-requires
+    seek-requires
+    mul-row
+    element-copy-out-row
+    take-requires
+    mul-after
+    element-set-from-after
     same-length
     same-length-2
     same-length-3
-    returns-4)
+    returns)

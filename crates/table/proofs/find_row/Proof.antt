@@ -1,7 +1,11 @@
--- `table::find_row` looks through the rows in order, so what it finds is the least row where the session is open.
+-- `table::find_row` looks through the rows in order, so what it finds is the least row with the ID, and that one is open.
 use Prim.Native.Nat.{_-_}
+use mathlib.Core.Path.{_≡_, _∙_}
+use lib.Dec.{eqb}
+use borrow.Author.Tests.{eq-eqb, ne-eqb}
 use Rattle.octets.proofs.Counts.{Sought, seek-begin, seek-turn, seek-found, seek-end}
-use Rattle.table.specs.Rows.{rows, openIn}
+use Rattle.table.specs.Rows.{rows, rowAt, openIn}
+use Rattle.table.proofs.Asking.{found-by-id}
 use borrow.Author.Needs.{needs}
 use Rattle.table.proofs.find_row.Statement.{statement}
 use Rattle.table.proofs.find_row.Tie as tie
@@ -12,6 +16,15 @@ Inv-loop id table i₀ i = Sought (openIn table id) rows i
 abbrev μ-loop : tie.MeasureT-loop
 μ-loop id table i₀ i = rows - i
 
+abbrev start : tie.In-loop Inv-loop μ-loop → tie.Start Inv-loop μ-loop
+start c = c .before .before
+
+-- of the row that the loop has come to, the ID tells
+asked : (c : tie.In-loop Inv-loop μ-loop) → let table = start c .args .t1 in let id = start c .args .id in let i = c .before .loop .i in
+    openIn table id i ≡ eqb (rowAt table i .id) id
+asked c =
+    found-by-id (start c .args .t1) (start c .args .id) (c .before .loop .i) (start c .pre .0) (start c .pre .1) (c .loop-test .taken)
+
 loop-holds : tie.Need-loop-holds Inv-loop μ-loop
 loop-holds c = seek-begin _ _
 
@@ -21,15 +34,10 @@ mul-row c = search needs
 element-copy-out-row : tie.Need-element-copy-out-row Inv-loop μ-loop
 element-copy-out-row c = search needs
 
-is-closed-requires : tie.Need-is-closed-requires Inv-loop μ-loop
-is-closed-requires c κs = search needs
-
 returns : tie.Need-returns Inv-loop μ-loop
 returns c =
-    seek-found
-    (c .before .before .before .before .before .loop .inv)
-    (c .before .before .before .before .loop-test .taken)
-    (rw (c .before .before .is-closed .ensures) at (c .if1 .taken))
+    let inside = c .before .before .before in
+    seek-found (inside .before .loop .inv) (inside .loop-test .taken) (asked inside ∙ eq-eqb _ _ (c .if1 .taken))
 
 add-i : tie.Need-add-i Inv-loop μ-loop
 add-i c = search needs
@@ -39,10 +47,8 @@ loop-less c = search needs
 
 loop-again : tie.Need-loop-again Inv-loop μ-loop
 loop-again c =
-    seek-turn
-    (c .before .before .before .before .before .loop .inv)
-    (c .before .before .before .before .loop-test .taken)
-    (rw (c .before .before .is-closed .ensures) at (c .if1 .left))
+    let inside = c .before .before .before in
+    seek-turn (inside .before .loop .inv) (inside .loop-test .taken) (asked inside ∙ ne-eqb _ _ (c .if1 .left))
 
 returns-2 : tie.Need-returns-2 Inv-loop μ-loop
 returns-2 c = seek-end (c .before .loop .inv) (c .loop-test .left)
@@ -56,7 +62,6 @@ find-row-spec =
     loop-holds
     mul-row
     element-copy-out-row
-    is-closed-requires
     returns
     add-i
     loop-less

@@ -1,63 +1,33 @@
--- `table::is_broken` gathers the faults of all six rows, each by itself and against the rows before it.
-use Prim.Native.Nat.{_-_}
-use mathlib.Core.Bool.{_||_}
-use Rattle.octets.proofs.Counts.{or-same, Gathered, gather-begin, gather-turn, gather-end}
-use Rattle.table.specs.Rows.{rows, rowAt}
-use Rattle.table.specs.Broken.{rowBroken, openTwice, broken}
+-- `table::is_broken` asks of each row by itself and then of the IDs; together that is rule 13 (Asking.antt).
+use mathlib.Core.Path.{sym, ap, _∙_}
+use mathlib.Core.List.{List}
+use Prim.Native.Nat.{ℕ}
+use Rattle.octets.specs.Count.{any}
+use Rattle.table.specs.Rows.{rows}
+use Rattle.table.specs.Inside.{idTwice}
+use Rattle.table.proofs.Asking.{row-breaks, ids-break}
 use borrow.Author.Needs.{needs}
 use Rattle.table.proofs.is_broken.Statement.{statement}
 use Rattle.table.proofs.is_broken.Tie as tie
 
-abbrev Inv-loop : tie.InvT-loop
-Inv-loop table bad₀ i₀ bad i = Gathered bad₀ (λ k. rowBroken (rowAt table k) || openTwice table k) rows bad i
+any-row-broken-requires : tie.Need-any-row-broken-requires
+any-row-broken-requires c κs = search needs
 
-abbrev μ-loop : tie.MeasureT-loop
-μ-loop table bad₀ i₀ bad i = rows - i
+returns : tie.Need-returns
+returns c = sym (row-breaks (c .before .before .args .table) (sym (c .before .any-row-broken .ensures) ∙ c .if1 .taken))
 
-loop-holds : tie.Need-loop-holds Inv-loop μ-loop
-loop-holds c = gather-begin _ _ _
+ids-of-requires : tie.Need-ids-of-requires
+ids-of-requires c κs = search needs
 
-mul-row : tie.Need-mul-row Inv-loop μ-loop
-mul-row c = search needs
+any-id-twice-requires : tie.Need-any-id-twice-requires
+any-id-twice-requires c κs = search needs
 
-element-copy-out-row : tie.Need-element-copy-out-row Inv-loop μ-loop
-element-copy-out-row c = search needs
-
-row-broken-requires : tie.Need-row-broken-requires Inv-loop μ-loop
-row-broken-requires c κs = search needs
-
-open-twice-requires : tie.Need-open-twice-requires Inv-loop μ-loop
-open-twice-requires c κs = search needs
-
-add-i : tie.Need-add-i Inv-loop μ-loop
-add-i c = search needs
-
-loop-less : tie.Need-loop-less Inv-loop μ-loop
-loop-less c = search needs
-
-loop-again : tie.Need-loop-again Inv-loop μ-loop
-loop-again c =
-    gather-turn
-    (c .before .before .before .before .loop .inv)
-    (c .before .before .before .loop-test .taken)
-    (or-same (c .before .row-broken .ensures) (c .open-twice .ensures))
-
-returns : tie.Need-returns Inv-loop μ-loop
-unfolding broken
-returns c = gather-end (c .before .loop .inv) (c .loop-test .left)
+returns-2 : tie.Need-returns-2
+returns-2 c =
+    let sound = c .before .before in
+    c .any-id-twice .ensures
+    ∙ ap (λ (ids : List ℕ). any (λ i. any (idTwice ids i) i) rows) (c .before .ids-of .ensures)
+    ∙ sym (ids-break (sound .before .before .args .table) (sym (sound .before .any-row-broken .ensures) ∙ sound .if1 .left))
 
 pub is-broken-spec : {M : Type 1} → statement M
-is-broken-spec =
-    tie.close
-    (tie.spec
-    Inv-loop
-    μ-loop
-    loop-holds
-    mul-row
-    element-copy-out-row
-    row-broken-requires
-    open-twice-requires
-    add-i
-    loop-less
-    loop-again
-    returns)
+is-broken-spec = tie.close (tie.spec any-row-broken-requires returns ids-of-requires any-id-twice-requires returns-2)

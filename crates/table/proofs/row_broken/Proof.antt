@@ -1,75 +1,66 @@
--- `table::row_broken` gathers the faults of the four flows behind that of the ID.
-use Prim.Native.Nat.{_-_}
-use Rattle.octets.proofs.Counts.{Gathered, gather-begin, gather-turn, gather-end}
-use Rattle.flow.specs.Flow.{flows}
-use Rattle.octets.specs.Count.{any}
-use Rattle.table.specs.declared.Row.{Row}
-use Rattle.table.specs.Rows.{isClosed, isDmpt, flowAt}
-use Rattle.table.specs.Broken.{notZero, flowBroken, rowBroken}
-use mathlib.Core.Path.{_≡_}
-use mathlib.Core.Bool.{Bool, not, _&&_, _||_}
-use lib.Dec.{eqb}
+-- `table::row_broken` asks of a row what its kind wants; that this is the rule is said in Asking.antt.
+use mathlib.Core.Path.{refl, sym, _∙_}
+use borrow.Author.Tests.{eq-eqb, ne-eqb}
+use Rattle.table.proofs.Asking.{psp-asked, dmpt-asked, other-asked}
 use borrow.Author.Needs.{needs}
 use Rattle.table.proofs.row_broken.Statement.{statement}
 use Rattle.table.proofs.row_broken.Tie as tie
 
--- the two questions about the kind are asked once, before the loop
-as-defined : (row : Row) {closed dmpt bad : Bool} → closed ≡ isClosed (row .kind) → dmpt ≡ isDmpt (row .kind) →
-    bad ≡ (((not closed && eqb (row .id) 0) || (closed && notZero (row .id))) || any (λ k. flowBroken closed dmpt k (flowAt row k)) flows) →
-    bad ≡ rowBroken row
-as-defined row a b h = rw (a, b) at h
-
-abbrev Inv-loop : tie.InvT-loop
-Inv-loop row closed dmpt bad₀ k₀ bad k = Gathered bad₀ (λ k. flowBroken closed dmpt k (flowAt row k)) flows bad k
-
-abbrev μ-loop : tie.MeasureT-loop
-μ-loop row closed dmpt bad₀ k₀ bad k = flows - k
-
-is-closed-requires : tie.Need-is-closed-requires Inv-loop μ-loop
-is-closed-requires c κs = search needs
-
-is-dmpt-requires : tie.Need-is-dmpt-requires Inv-loop μ-loop
-is-dmpt-requires c κs = search needs
-
-loop-holds : tie.Need-loop-holds Inv-loop μ-loop
-loop-holds c = gather-begin _ _ _
-
-mul-flow : tie.Need-mul-flow Inv-loop μ-loop
-mul-flow c = search needs
-
-element-copy-out-flow : tie.Need-element-copy-out-flow Inv-loop μ-loop
-element-copy-out-flow c = search needs
-
-flow-broken-requires : tie.Need-flow-broken-requires Inv-loop μ-loop
-flow-broken-requires c κs = search needs
-
-add-k : tie.Need-add-k Inv-loop μ-loop
-add-k c = search needs
-
-loop-less : tie.Need-loop-less Inv-loop μ-loop
-loop-less c = search needs
-
-loop-again : tie.Need-loop-again Inv-loop μ-loop
-loop-again c = gather-turn (c .before .before .before .loop .inv) (c .before .before .loop-test .taken) (c .flow-broken .ensures)
-
-returns : tie.Need-returns Inv-loop μ-loop
+returns : tie.Need-returns
 returns c =
-    as-defined (c .before .before .before .before .args .t1) (c .before .before .before .is-closed .ensures) (c .before .before .is-dmpt .ensures)
-    (gather-end (c .before .loop .inv) (c .loop-test .left))
+    let psp = c .before .before in
+    sym (psp-asked (psp .before .args .row) (psp .if1 .taken) ∙ rw (eq-eqb _ _ (c .if2 .taken)) refl)
+
+any-unfit-requires : tie.Need-any-unfit-requires
+any-unfit-requires c κs = search needs
+
+returns-2 : tie.Need-returns-2
+returns-2 c =
+    let psp = c .before .before .before in
+    sym
+    (psp-asked (psp .before .args .row) (psp .if1 .taken)
+    ∙ rw (ne-eqb _ _ (c .before .if2 .left)) (sym (c .any-unfit .ensures)))
+
+returns-3 : tie.Need-returns-3
+returns-3 c =
+    let dmpt = c .before .before in
+    sym (dmpt-asked (dmpt .before .before .args .row) (dmpt .if3 .taken) ∙ rw (eq-eqb _ _ (c .if4 .taken)) refl)
+
+any-unfit-requires-2 : tie.Need-any-unfit-requires-2
+any-unfit-requires-2 c κs = search needs
+
+returns-4 : tie.Need-returns-4
+returns-4 c =
+    let dmpt = c .before .before .before in
+    sym
+    (dmpt-asked (dmpt .before .before .args .row) (dmpt .if3 .taken)
+    ∙ rw (ne-eqb _ _ (c .before .if4 .left)) (sym (c .any-unfit2 .ensures)))
+
+returns-5 : tie.Need-returns-5
+returns-5 c =
+    let other = c .before .before in
+    sym (other-asked (other .before .before .args .row) (other .before .if1 .left) (other .if3 .left) ∙ rw (c .if5 .taken) refl)
+
+any-unfit-requires-3 : tie.Need-any-unfit-requires-3
+any-unfit-requires-3 c κs = search needs
+
+returns-6 : tie.Need-returns-6
+returns-6 c =
+    let other = c .before .before .before in
+    sym
+    (other-asked (other .before .before .args .row) (other .before .if1 .left) (other .if3 .left)
+    ∙ rw (c .before .if5 .left) (sym (c .any-unfit3 .ensures)))
 
 pub row-broken-spec : {M : Type 1} → statement M
 row-broken-spec =
     tie.close
     (tie.spec
-    Inv-loop
-    μ-loop
-    is-closed-requires
-    is-dmpt-requires
-    loop-holds
-    mul-flow
-    element-copy-out-flow
-    flow-broken-requires
-    add-k
-    loop-less
-    loop-again
-    returns)
+    returns
+    any-unfit-requires
+    returns-2
+    returns-3
+    any-unfit-requires-2
+    returns-4
+    returns-5
+    any-unfit-requires-3
+    returns-6)

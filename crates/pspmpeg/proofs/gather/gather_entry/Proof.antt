@@ -5,7 +5,7 @@ use Rattle.capture.proofs.Checking.{entry-inside}
 use Rattle.card.specs.History.{framesOf}
 use Rattle.listing.specs.Run.{answerAt}
 use Rattle.listing.proofs.Walking.{stands-at}
-use Rattle.pspmpeg.proofs.Gathering.{chosen, not-chosen, fits-found, adds-found}
+use Rattle.pspmpeg.proofs.Gathering.{table-stands, chosen, not-chosen, fits-found, adds-found}
 use borrow.Author.Needs.{needs}
 use Rattle.pspmpeg.proofs.gather.gather_entry.Statement.{statement}
 use Rattle.pspmpeg.proofs.gather.gather_entry.Tie as tie
@@ -21,7 +21,7 @@ body-at-requires c κs =
     stands-at (start .pre .0 .0) (start .pre .0 .1)
 
 is-for-requires : tie.Need-is-for-requires
-is-for-requires c κs = search needs
+is-for-requires c κs = table-stands (c .before .before .before .before .before .before .before .before .before .before .before .before .pre .0 .0)
 
 list-entry-requires : tie.Need-list-entry-requires
 list-entry-requires c κs = search needs

@@ -1,7 +1,6 @@
 -- `trace::rows::write_flow` writes nothing for a fresh flow, and else the pieces of its line, one behind the other.
 use Prim.Native.Nat.{_+_, _≤_}
 use native.Mathlib.Omega.{arith}
-use borrow.Author.Tests.{not-true, not-false}
 use Rattle.text.specs.Text.{Wrote}
 use Rattle.text.proofs.Writing.{wrote-length}
 use Rattle.trace.proofs.Tracing.{flow-fresh, place-inside, flowNumbers, numbersRoom, numbers-written, space-room, held-room, end-room, flow-written}
@@ -27,7 +26,7 @@ numbers c =
 returns : tie.Need-returns
 returns c =
     let a = c .before .before .before .before .args in
-    flow-fresh _ _ (a .holding .now) (a .r) (a .k) (a .flow) (not-true (a .flow .heard) (c .if1 .taken)) (c .before .before .before .before .pre .1 .1)
+    flow-fresh _ _ (a .holding .now) (a .r) (a .k) (a .flow) (c .if1 .taken) (c .before .before .before .before .pre .1 .1)
 
 slice-aggregate-write-words : tie.Need-slice-aggregate-write-words
 slice-aggregate-write-words c = search needs
@@ -95,7 +94,7 @@ same-length c =
     let p = start behind .pre in
     wrote-length (flow-written (a .r) (a .k) (a .flow) (p .0 .2) (p .1 .1) (numbers behind) (c .before .before .before .before .before .before .before .before .before .before .before .before .write-byte .ensures) _ (c .before .before .before .before .before .before .before .wide .ensures .0)
     (a .holding .now) _ (c .before .before .before .before .before .before .before .before .before .place-of .ensures) (c .before .before .before .before .before .before .write-held .ensures .0) (c .before .before .before .before .before .before .write-held .ensures .1)
-    (not-false (a .flow .heard) (behind .before .before .before .before .before .before .before .before .before .before .before .before .before .before .before .before .before .before .before .before .before .if1 .left)) (c .before .before .write-byte2 .ensures) .0)
+    (behind .before .before .before .before .before .before .before .before .before .before .before .before .before .before .before .before .before .before .before .before .before .if1 .left) (c .before .before .write-byte2 .ensures) .0)
 
 returns-2 : tie.Need-returns-2
 returns-2 c =
@@ -104,7 +103,7 @@ returns-2 c =
     let p = start behind .pre in
     flow-written (a .r) (a .k) (a .flow) (p .0 .2) (p .1 .1) (numbers behind) (c .before .before .before .before .before .before .before .before .before .before .before .before .write-byte .ensures) _ (c .before .before .before .before .before .before .before .wide .ensures .0)
     (a .holding .now) _ (c .before .before .before .before .before .before .before .before .before .place-of .ensures) (c .before .before .before .before .before .before .write-held .ensures .0) (c .before .before .before .before .before .before .write-held .ensures .1)
-    (not-false (a .flow .heard) (behind .before .before .before .before .before .before .before .before .before .before .before .before .before .before .before .before .before .before .before .before .before .if1 .left)) (c .before .before .write-byte2 .ensures)
+    (behind .before .before .before .before .before .before .before .before .before .before .before .before .before .before .before .before .before .before .before .before .before .if1 .left) (c .before .before .write-byte2 .ensures)
 
 pub write-flow-spec : {M : Type 1} → statement M
 write-flow-spec =

@@ -19,9 +19,6 @@ write-decimal-requires c κs = search needs
 write-column-requires : tie.Need-write-column-requires
 write-column-requires c κs = search needs
 
-kind-number-requires : tie.Need-kind-number-requires
-kind-number-requires c κs = search needs
-
 write-column-requires-2 : tie.Need-write-column-requires-2
 write-column-requires-2 c κs = search needs
 
@@ -33,10 +30,15 @@ same-length c = search needs
 
 returns : tie.Need-returns
 returns c =
-    row-line-written (c .before .before .before .before .before .before .before .before .before .before .before .before .before .before .before .before .before .before .before .before .before .before .before .args .r) (c .before .before .before .before .before .before .before .before .before .before .before .before .before .before .before .before .before .before .before .before .before .before .before .args .row) _ (c .before .before .before .before .before .before .before .kind-number .ensures) (c .before .before .before .before .before .before .before .before .before .before .before .before .before .before .before .before .before .before .before .write-words .ensures)
-    (c .before .before .before .before .before .before .before .before .before .before .before .before .before .before .before .write-decimal .ensures .0) (c .before .before .before .before .before .before .before .before .before .before .before .before .before .before .before .write-decimal .ensures .1)
-    (c .before .before .before .before .before .before .before .before .before .before .before .write-column .ensures .0) (c .before .before .before .before .before .before .before .before .before .before .before .write-column .ensures .1)
-    (c .before .before .before .before .before .before .write-column2 .ensures .0) (c .before .before .before .before .before .before .write-column2 .ensures .1) (c .before .before .write-byte .ensures)
+    let end = c .before .before in
+    let kind = end .before .before .before .before in
+    let id = kind .before .before .before .before in
+    let number = id .before .before .before .before in
+    let word = number .before .before .before .before in
+    let a = word .before .before .before .before .args in
+    row-line-written (a .r) (a .row) (word .write-words .ensures)
+    (number .write-decimal .ensures .0) (number .write-decimal .ensures .1) (id .write-column .ensures .0) (id .write-column .ensures .1)
+    (kind .write-column2 .ensures .0) (kind .write-column2 .ensures .1) (end .write-byte .ensures)
 
 pub write-row-line-spec : {M : Type 1} → statement M
 write-row-line-spec =
@@ -47,7 +49,6 @@ write-row-line-spec =
     cast-write-decimal
     write-decimal-requires
     write-column-requires
-    kind-number-requires
     write-column-requires-2
     write-byte-requires
     same-length

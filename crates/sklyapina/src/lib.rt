@@ -1,0 +1,113 @@
+// What the card's host program, in C, can call. A static library exports the functions of one crate alone, so every export stands here, or
+// in `modulator`. Each is the call of a crate below, as it stands, and its contract is that call's; include/sklyapina.h is its other side.
+// Nothing checks the one against the other but the tests from C.
+//
+// A call is given all that it may touch and keeps none of it: there is no state here, no heap, and no pointer outlives its call.
+pub mod modulator;
+
+ghost use Rattle.packet.specs.Header.{ip};
+ghost use Rattle.packet.specs.Check.{PermitsCheck, PermitsSegmentCause, PermitsSegmentExtent};
+ghost use Rattle.table.specs.Calls.{PermitsOpenByNumber, PermitsClose};
+ghost use Rattle.join.specs.Slices.{asSlices};
+ghost use Rattle.card.specs.Receive.{PermitsReceive};
+ghost use Rattle.sender.specs.Send.{PermitsSend};
+use card::Received;
+use packet::Extent;
+use sender::Position;
+use sender::Sent;
+use table::Closing;
+use table::Opening;
+use table::Table;
+
+// Opens a session of this kind (1 PSP, 2 D-MPT); or refuses, and then the table comes back as it was given.
+#[no_mangle]
+pub extern "C" fn sklyapina_open(table: Table, id: u32, kind: u32) -> Opening
+    ensures { λ r. ⌜ PermitsOpenByNumber table id kind r ⌝ }
+{
+    table::open_by_number(table, id, kind)
+}
+
+// Closes a session, and says how many held bytes are dropped with it; or refuses, and then the table comes back as it was given.
+#[no_mangle]
+pub extern "C" fn sklyapina_close(table: Table, id: u32) -> Closing
+    ensures { λ r. ⌜ PermitsClose table id r ⌝ }
+{
+    table::close(table, id)
+}
+
+// The packet check: the first refusal that a packet of this kind (1 PSP, 2 D-MPT) meets whatever the table, or 0.
+#[no_mangle]
+pub extern "C" fn sklyapina_check(kind: u32, packet: &[u8]) -> u32
+    ensures { λ r. ⌜ PermitsCheck kind (now (packet .entry)) r ⌝ }
+{
+    packet::check(kind, packet)
+}
+
+// Why segment k of a PSP packet is refused, or 0.
+#[no_mangle]
+pub extern "C" fn sklyapina_segment_cause(packet: &[u8], k: usize) -> u32
+    ensures { λ r. ⌜ PermitsSegmentCause (now (packet .entry)) k r ⌝ }
+{
+    packet::segment_cause(packet, k)
+}
+
+// Where segment k of a PSP packet stands in it. (The stretch itself, a reference, cannot cross to C.)
+#[no_mangle]
+pub extern "C" fn sklyapina_segment(packet: &[u8], k: usize) -> Extent
+    ensures { λ r. ⌜ PermitsSegmentExtent (now (packet .entry)) k r ⌝ }
+{
+    packet::segment_extent(packet, k)
+}
+
+// Takes a packet: delivers the frames that it completes, and holds what it begins; or refuses it, and then nothing has changed.
+#[no_mangle]
+pub extern "C" fn sklyapina_receive(
+    table: Table,
+    holding: &mut [u8],
+    packet: &[u8],
+    output: &mut [u8],
+    lengths: &mut [u16],
+) -> Received
+    ensures { λ r. ⌜ PermitsReceive table (ip (now (packet .entry)))
+        (asSlices (now (holding .entry)) (now (output .entry)) (now (lengths .entry)))
+        (record { answer = r; slices = asSlices (now (holding .exit)) (now (output .exit)) (now (lengths .exit)) }) ⌝ }
+{
+    card::receive(table, holding, packet, output, lengths)
+}
+
+// Writes the next packet of these frames for a flow of a session at the front of the output; or refuses, and then nothing has changed.
+#[no_mangle]
+pub extern "C" fn sklyapina_send(
+    session: u32,
+    flow: usize,
+    number: u16,
+    limit: usize,
+    frames: &[u8],
+    lengths: &[u16],
+    position: Position,
+    output: &mut [u8],
+) -> Sent
+    ensures { λ r. ⌜ PermitsSend
+        (record {
+          session = session;
+          flow = flow;
+          number = number;
+          limit = limit;
+          bytes = now (frames .entry);
+          lens = now (lengths .entry);
+          position = position;
+          output = now (output .entry);
+        })
+        (record { answer = r; output = now (output .exit) }) ⌝ }
+{
+    sender::send(
+        session,
+        flow,
+        number,
+        limit,
+        frames,
+        lengths,
+        position,
+        output,
+    )
+}

@@ -1,0 +1,67 @@
+// What the host program calls on the modulator's side (W3): frames into MPEG packets, MPEG packets back into frames, and the null packet.
+// Each is the call of crate `mpeg` as it stands, and its contract is that call's.
+ghost use mathlib.Core.Path.{_≡_};
+ghost use Rattle.mpeg.specs.Packet.{nullPacket};
+ghost use Rattle.mpeg.specs.Write.{PermitsWrite};
+ghost use Rattle.mpeg.specs.Read.{PermitsRead};
+use mpeg::reader;
+use mpeg::reader::ReadBack;
+use mpeg::writer;
+use mpeg::writer::Written;
+use packet::dmpt;
+
+// A whole MPEG packet. C returns no array; a struct that has one it does.
+#[repr(C)]
+pub struct MpegPacket {
+    pub bytes: [u8; dmpt::MPEG_LENGTH],
+}
+
+// Writes the next MPEG packet of these frames at the front of the output; or refuses, and then nothing has changed.
+#[no_mangle]
+pub extern "C" fn sklyapina_mpeg_write(
+    frames: &[u8],
+    lengths: &[u16],
+    place: usize,
+    count: u8,
+    output: &mut [u8],
+) -> Written
+    ensures { λ r. ⌜ PermitsWrite
+        (record {
+          bytes = now (frames .entry);
+          lens = now (lengths .entry);
+          place = place;
+          count = count;
+          output = now (output .entry);
+        })
+        (record { answer = r; output = now (output .exit) }) ⌝ }
+{
+    writer::write(frames, lengths, place, count, output)
+}
+
+// The frames back from MPEG packets, at the front of the output, and their lengths at the front of the other slice; or refuses, and then
+// nothing has changed.
+#[no_mangle]
+pub extern "C" fn sklyapina_mpeg_read(
+    packets: &[u8],
+    output: &mut [u8],
+    lengths: &mut [u16],
+) -> ReadBack
+    ensures { λ r. ⌜ PermitsRead
+        (record {
+          packets = now (packets .entry);
+          output = now (output .entry);
+          lens = now (lengths .entry);
+        })
+        (record { answer = r; output = now (output .exit); lens = now (lengths .exit) }) ⌝ }
+{
+    reader::read(packets, output, lengths)
+}
+
+// The packet that is sent where nothing waits.
+#[no_mangle]
+pub extern "C" fn sklyapina_mpeg_null() -> MpegPacket
+    ensures { λ r. ⌜ r .bytes ≡ nullPacket ⌝ }
+{
+    let bytes = mpeg::null_packet();
+    MpegPacket { bytes }
+}
