@@ -32,8 +32,8 @@ heardMark = 1
 abbrev pub fresh : Flow
 fresh = record { heard = 0; expected = 0; held = 0 }
 
--- Whether a flow is fresh is read off its mark alone, and any mark but 0 counts as heard. (A mark above 1, or the mark 0 with something held
--- or expected, stands in a broken table, which open, close and the data call refuse by 13; `judge` alone refuses nothing.)
+-- Whether a flow is fresh is read off its mark alone, and any mark but 0 counts as heard. (A mark above 1, or the mark 0 with something
+-- held or expected, stands in a broken table, which open, close and the data call refuse by 13; `judge` alone refuses nothing.)
 abbrev pub isFresh : Flow → Bool
 isFresh f = eqb (f .heard) 0
 
