@@ -17,25 +17,29 @@ use Rattle.capture.specs.declared.reader.Surveyed.{Surveyed}
 use Rattle.capture.specs.File.{headLength, entryLength, longestFile, mostEntries, idBody, exactly, anyLength, noKind, kinds, bodyIn, isKind, takesLength, entryCount, kindAt, secondAt, bodyLength, bodyStart, wrongParts, wrongEntry, fileRefusals, fileRefusal, nthEntry, StandsAt}
 
 -- an entry's parts are wrong: the table of kinds, looked up number by number, comes to this
-wrong-by-numbers : (psp dmpt close data-kind zero-second : Bool) (size : ℕ) →
-    ((not (((psp || dmpt) || close) || data-kind) || not zero-second) || (((psp || dmpt) || close) && not (eqb size idBody)))
-    ≡ (let b = cond psp (exactly idBody) (cond dmpt (exactly idBody) (cond close (exactly idBody) (cond data-kind anyLength noKind))) in
+wrong-by-numbers : (psp dmpt close over-ip over-udp zero-second : Bool) (size : ℕ) →
+    ((not (((psp || dmpt) || close) || (over-ip || over-udp)) || not zero-second) || (((psp || dmpt) || close) && not (eqb size idBody)))
+    ≡ (let packet = cond over-ip anyLength (cond over-udp anyLength noKind) in
+    let b = cond psp (exactly idBody) (cond dmpt (exactly idBody) (cond close (exactly idBody) packet)) in
     not (isKind b) || not zero-second || not (takesLength b size))
-wrong-by-numbers true dmpt close data-kind true size = refl
-wrong-by-numbers true dmpt close data-kind false size = refl
-wrong-by-numbers false true close data-kind true size = refl
-wrong-by-numbers false true close data-kind false size = refl
-wrong-by-numbers false false true data-kind true size = refl
-wrong-by-numbers false false true data-kind false size = refl
-wrong-by-numbers false false false true true size = refl
-wrong-by-numbers false false false true false size = refl
-wrong-by-numbers false false false false true size = refl
-wrong-by-numbers false false false false false size = refl
+wrong-by-numbers true dmpt close over-ip over-udp true size = refl
+wrong-by-numbers true dmpt close over-ip over-udp false size = refl
+wrong-by-numbers false true close over-ip over-udp true size = refl
+wrong-by-numbers false true close over-ip over-udp false size = refl
+wrong-by-numbers false false true over-ip over-udp true size = refl
+wrong-by-numbers false false true over-ip over-udp false size = refl
+wrong-by-numbers false false false true over-udp true size = refl
+wrong-by-numbers false false false true over-udp false size = refl
+wrong-by-numbers false false false false true true size = refl
+wrong-by-numbers false false false false true false size = refl
+wrong-by-numbers false false false false false true size = refl
+wrong-by-numbers false false false false false false size = refl
 
 pub parts-wrong : (kind second size : ℕ) →
-    ((not (((eqb kind 1 || eqb kind 2) || eqb kind 3) || eqb kind 4) || not (eqb second 0)) || (((eqb kind 1 || eqb kind 2) || eqb kind 3) && not (eqb size 4)))
+    ((not (((eqb kind 1 || eqb kind 2) || eqb kind 3) || (eqb kind 4 || eqb kind 5)) || not (eqb second 0))
+    || (((eqb kind 1 || eqb kind 2) || eqb kind 3) && not (eqb size 4)))
     ≡ wrongParts kind second size
-parts-wrong kind second size = wrong-by-numbers (eqb kind 1) (eqb kind 2) (eqb kind 3) (eqb kind 4) (eqb second 0) size
+parts-wrong kind second size = wrong-by-numbers (eqb kind 1) (eqb kind 2) (eqb kind 3) (eqb kind 4) (eqb kind 5) (eqb second 0) size
 
 abbrev found : ℕ → Bool → Surveyed
 found end wrong = record { end = end; wrong = wrong }

@@ -97,9 +97,9 @@ pub too-many : fileRefusal (0x03 ∷ 0xE9 ∷ []) ≡ 43
 unfolding fileRefusal bodyStart any sumTo
 too-many = refl
 
--- 44: a kind that is not in the table; a second byte that is not 0; an opening whose body has three bytes
+-- 44: a kind that no request names; a second byte that is not 0; an opening whose body has three bytes
 pub wrong-entries :
-    (fileRefusal (0x00 ∷ 0x01 ∷ 0x05 ∷ 0x00 ∷ 0x00 ∷ 0x00 ∷ []) ≡ 44)
+    (fileRefusal (0x00 ∷ 0x01 ∷ 0x08 ∷ 0x00 ∷ 0x00 ∷ 0x00 ∷ []) ≡ 44)
     × (fileRefusal (0x00 ∷ 0x01 ∷ 0x04 ∷ 0x01 ∷ 0x00 ∷ 0x00 ∷ []) ≡ 44)
     × (fileRefusal (0x00 ∷ 0x01 ∷ 0x01 ∷ 0x00 ∷ 0x00 ∷ 0x03 ∷ 0x00 ∷ 0x01 ∷ 0x01 ∷ []) ≡ 44)
 unfolding fileRefusal bodyStart any sumTo
@@ -116,7 +116,7 @@ wrong-end = (refl, refl)
 pub orders : (fileRefusal (0x03 ∷ 0xE9 ∷ replicate 59999 0x00) ≡ 41)
     × (fileRefusal [] ≡ 42)
     × (fileRefusal (0x04 ∷ []) ≡ 42)
-    × (fileRefusal (0x00 ∷ 0x01 ∷ 0x05 ∷ 0x00 ∷ 0x00 ∷ 0x00 ∷ 0x00 ∷ []) ≡ 44)
+    × (fileRefusal (0x00 ∷ 0x01 ∷ 0x08 ∷ 0x00 ∷ 0x00 ∷ 0x00 ∷ 0x00 ∷ []) ≡ 44)
 unfolding fileRefusal bodyStart any sumTo
 orders = (refl, refl, refl, refl)
 
@@ -126,10 +126,12 @@ pub each-entry : (fileRefusal (0x00 ∷ 0x02 ∷ 0x04 ∷ 0x00 ∷ 0x00 ∷ 0x00
 unfolding fileRefusal bodyStart any sumTo
 each-entry = (refl, refl)
 
--- a D-MPT session opens, with four bytes and no other number; a close has four; a data entry may have none
+-- a D-MPT session opens, with four bytes and no other number; a close has four; a data entry may have none, over UDP too (W1)
 pub each-kind : (fileRefusal (0x00 ∷ 0x01 ∷ 0x02 ∷ 0x00 ∷ 0x00 ∷ 0x04 ∷ 0x00 ∷ 0x00 ∷ 0x01 ∷ 0x01 ∷ []) ≡ 0)
     × (fileRefusal (0x00 ∷ 0x01 ∷ 0x02 ∷ 0x00 ∷ 0x00 ∷ 0x03 ∷ 0x00 ∷ 0x01 ∷ 0x01 ∷ []) ≡ 44)
     × (fileRefusal (0x00 ∷ 0x01 ∷ 0x03 ∷ 0x00 ∷ 0x00 ∷ 0x05 ∷ 0x00 ∷ 0x00 ∷ 0x01 ∷ 0x01 ∷ 0x00 ∷ []) ≡ 44)
     × (fileRefusal (0x00 ∷ 0x01 ∷ 0x04 ∷ 0x00 ∷ 0x00 ∷ 0x00 ∷ []) ≡ 0)
+    × (fileRefusal (0x00 ∷ 0x01 ∷ 0x05 ∷ 0x00 ∷ 0x00 ∷ 0x00 ∷ []) ≡ 0)
+    × (fileRefusal (0x00 ∷ 0x01 ∷ 0x05 ∷ 0x00 ∷ 0x00 ∷ 0x03 ∷ 0x00 ∷ 0x03 ∷ 0x00 ∷ []) ≡ 0)
 unfolding fileRefusal bodyStart any sumTo
-each-kind = (refl, refl, refl, refl)
+each-kind = (refl, refl, refl, refl, refl, refl)

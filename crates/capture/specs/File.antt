@@ -37,8 +37,12 @@ openDmpt = 2
 abbrev pub closing : ℕ
 closing = 3
 
+-- a packet that came over IP, and one that came over UDP (document 02, W1)
 abbrev pub dataEntry : ℕ
 dataEntry = 4
+
+abbrev pub dataOverUdp : ℕ
+dataOverUdp = 5
 
 -- how long a session ID is, as the body of an entry
 abbrev pub idBody : ℕ
@@ -60,6 +64,7 @@ kinds =
     ∷ record { number = openDmpt; its-body = exactly idBody }
     ∷ record { number = closing; its-body = exactly idBody }
     ∷ record { number = dataEntry; its-body = anyLength }
+    ∷ record { number = dataOverUdp; its-body = anyLength }
     ∷ []
 
 abbrev pub bodyIn : List KindRow → ℕ → Body

@@ -29,7 +29,10 @@ pub const OPEN_DMPT: u8 = 2;
 
 pub const CLOSE: u8 = 3;
 
+// A packet that came over IP, and one that came over UDP.
 pub const DATA: u8 = 4;
+
+pub const DATA_OVER_UDP: u8 = 5;
 
 // A capture that is being written: how many entries it has, and how many bytes their bodies have together.
 pub struct Writer {

@@ -7,6 +7,7 @@ ghost use Rattle.octets.specs.Count.{any};
 ghost use Rattle.capture.specs.File.{headLength, entryLength, mostEntries, entryCount, kindAt, bodyLength, bodyStart, wrongParts, wrongEntry, PermitsCheck, PermitsBody, StandsAt};
 use crate::CLOSE;
 use crate::DATA;
+use crate::DATA_OVER_UDP;
 use crate::ENTRY_LENGTH;
 use crate::HEAD_LENGTH;
 use crate::LONGEST_FILE;
@@ -46,7 +47,8 @@ fn wrong_parts(kind: u8, second: u8, size: usize) -> bool
     ensures { λ r. ⌜ r ≡ wrongParts kind second size ⌝ }
 {
     let with_id = (kind == OPEN_PSP) | (kind == OPEN_DMPT) | (kind == CLOSE);
-    !(with_id | (kind == DATA)) | (second != 0) | (with_id & (size != ID_BODY))
+    let with_packet = (kind == DATA) | (kind == DATA_OVER_UDP);
+    !(with_id | with_packet) | (second != 0) | (with_id & (size != ID_BODY))
 }
 
 // What a walk over the first entries finds: where the bodies end, and whether an entry is wrong.

@@ -48,7 +48,8 @@ module _ (t : Table) (p : Packet) (s : Slices) where
       let given : first (dataRefusals t p s) ≡ suc c = sym (by-code (first (dataRefusals t p s)) t (rowOf t p) (sub p) s) ∙ z in
       rw given refl
 
--- One record for each stretch of the order, so that a number more in one of them moves nothing elsewhere. Refusals 13 and 2 to 4 passed:
+-- One record for each stretch of the order, so that a number more in one of them moves nothing elsewhere. Refusals 13, 24, 2, 3, 15 and 4
+-- passed:
 pub record EarlyOver (t : Table) (p : Packet) : Type 0 where
   pub whole : broken t ≡ false
   pub passed : EarlyPassed p

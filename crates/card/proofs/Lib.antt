@@ -5,4 +5,5 @@ pub mod Unique
 pub mod Accepted
 pub mod Limits
 pub mod Step
+pub mod Transports
 pub mod Keeping

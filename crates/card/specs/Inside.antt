@@ -11,7 +11,7 @@ use Rattle.octets.specs.Stretch.{part, joined}
 use Rattle.flow.specs.declared.Flow.{Flow}
 use Rattle.flow.specs.declared.Judged.{Judged}
 use Rattle.flow.specs.Flow.{longest}
-use Rattle.packet.specs.Header.{Packet, sub, sessionId, idLength, headerLength, longestPacket}
+use Rattle.packet.specs.Header.{Packet, lead, sub, sessionId, idLength, headerLength, longestPacket}
 use Rattle.table.specs.declared.Row.{Row}
 use Rattle.table.specs.declared.Table.{Table}
 use Rattle.table.specs.declared.Terms.{Terms}
@@ -32,7 +32,8 @@ use Rattle.card.specs.Receive.{tooSmall, earlyRefusals, packetRefusals, 
 abbrev pub smallBy : ℕ → ℕ → ℕ → Bool
 smallBy holding output lens = ltb holding holdingSize || ltb output mostBytes || ltb lens mostFrames
 
--- Seeking a packet's session: refusals 1, 13 and 2 to 5; or its row. A row is named in any case, so that there is one to be put back.
+-- Seeking a packet's session: refusals 1, 13, 24, 2, 3, 15, 4 and 5; or its row. A row is named in any case, so that there is one to be put
+-- back.
 abbrev pub seekRefusals : Table → Packet → Bool → List Refusal
 seekRefusals t p small = 1 when small ∷ earlyRefusals t p ++ (5 when not (isOpen t (sessionId p)) ∷ [])
 
@@ -79,11 +80,11 @@ orElse (suc c) behind = suc c
 unfoldable pub takes : ℕ → ℕ → Row → Packet → Slices → TakenOutcome
 takes code r row p s = takenAs (orElse code (first (rowRefusals row (sub p)))) r row (sub p) s
 
--- what a row is given: refusals 1, 13 and 2 to 5 have passed
+-- what a row is given: all that can be refused without it has passed
 pub record Ready (row : Row) (p : Packet) (s : Slices) : Type 0 where
   pub large : tooSmall s ≡ false
   pub sound : rowBroken row ≡ false
-  pub named : p .lead + idLength ≤ length (p .bytes)
+  pub named : lead p + idLength ≤ length (p .bytes)
   pub header : headerLength ≤ length (sub p)
   pub short : idLength + length (sub p) ≤ longestPacket
 

@@ -1,7 +1,7 @@
--- The data call, whole (document 01, "The card in numbers", "Opening, closing, listening" and "Refusal numbers"). It is given the table,
--- a packet, and three slices: the holding slice, and two for what comes out, the frames back to back and their lengths. Either it is
--- refused, with the first number of the order that applies, all counts 0 and everything as it was; or the packet's flow hears it, and
--- that flow's record, its place and what is delivered are all that changes.
+-- The data call, whole (document 01, "The card in numbers", "Opening, closing, listening" and "Refusal numbers"; document 02, W1). It is
+-- given the table, a packet with its transport, and three slices: the holding slice, and two for what comes out, the frames back to back
+-- and their lengths. Either it is refused, with the first number of the order that applies, all counts 0 and everything as it was; or the
+-- packet's flow hears it, and that flow's record, its place and what is delivered are all that changes.
 use Prim.Native.Nat.{ℕ, zero, suc, _+_, _*_}
 use mathlib.Core.Path.{_≡_}
 use mathlib.Core.Bool.{Bool, cond, not, _||_}
@@ -67,11 +67,11 @@ heldBy t r sub s = heldFor (rowAt t r) r sub s
 abbrev pub heardBy : Table → ℕ → List ℕ → Slices → Heard
 heardBy t r sub s = heardIn (rowAt t r) r sub s
 
--- The refusals, in order: 1, 13, 2 to 4, 5, 6 to 11 by the kind of the session, 12.
+-- The refusals, in order: 1, 13, 24 for the transport, 2, 3, 15, 4, 5, 6 to 11 by the kind of the session, 12.
 abbrev pub tooSmall : Slices → Bool
 tooSmall s = ltb (length (s .holding)) holdingSize || ltb (length (s .output)) mostBytes || ltb (length (s .lengths)) mostFrames
 
--- 13, then 2 to 4, which need no session
+-- 13, then 24, 2, 3, 15 and 4, which need no session
 abbrev pub earlyRefusals : Table → Packet → List Refusal
 earlyRefusals t p = 13 when broken t ∷ beforeSession p
 

@@ -9,7 +9,7 @@ ghost use lib.ListN.{length};
 ghost use Rattle.refusal.specs.Refusal.{first};
 ghost use Rattle.octets.specs.Stretch.{part};
 ghost use Rattle.flow.specs.Flow.{flows};
-ghost use Rattle.packet.specs.Header.{ip, mostLead, headerLength};
+ghost use Rattle.packet.specs.Header.{packetBy, headerLength};
 ghost use Rattle.table.specs.Rows.{rows};
 ghost use Rattle.join.specs.Slices.{asSlices};
 ghost use Rattle.join.specs.Placed.{nothingYet, Placed, Roomy, Within};
@@ -52,19 +52,20 @@ pub struct Received {
 // is changed here and nowhere below: a row is taken out of it, and put back, as it was where the packet is refused.
 pub fn receive(
     table: Table,
+    transport: u32,
     holding: &mut [u8],
     packet: &[u8],
     output: &mut [u8],
     lengths: &mut [u16],
 ) -> Received
-    ensures { λ r. ⌜ PermitsReceive table (ip (now (packet .entry)))
+    ensures { λ r. ⌜ PermitsReceive table (packetBy transport (now (packet .entry)))
         (asSlices (now (holding .entry)) (now (output .entry)) (now (lengths .entry)))
         (record { answer = r; slices = asSlices (now (holding .exit)) (now (output .exit)) (now (lengths .exit)) }) ⌝ }
 {
     let found = seek(
         table,
         packet,
-        header::OVER_IP,
+        transport,
         holding.len(),
         output.len(),
         lengths.len(),
@@ -78,7 +79,7 @@ pub fn receive(
         at,
         holding,
         packet,
-        header::OVER_IP,
+        transport,
         output,
         lengths,
     );
@@ -100,17 +101,16 @@ struct Found {
     row: usize,
 }
 
-// Refusals 1, 13 and 2 to 5, in this order; or the session's row.
+// Refusals 1, 13, 24 for the transport, 2, 3, 15, 4 and 5, in this order; or the session's row.
 fn seek(
     table: Table,
     packet: &[u8],
-    lead: usize,
+    transport: u32,
     holding: usize,
     output: usize,
     lengths: usize,
 ) -> Found
-    requires { ⌜ lead ≤ mostLead ⌝ }
-    ensures { λ r. ⌜ Seeks table (record { lead = lead; bytes = now (packet .entry) }) (smallBy holding output lengths) r ⌝ }
+    ensures { λ r. ⌜ Seeks table (packetBy transport (now (packet .entry))) (smallBy holding output lengths) r ⌝ }
 {
     if too_small(holding, output, lengths) {
         return not_found(refusal::SLICE_TOO_SMALL);
@@ -118,11 +118,11 @@ fn seek(
     if table::is_broken(table) {
         return not_found(refusal::TABLE_BROKEN);
     }
-    let early = header::refuse_before_session(packet, lead);
+    let early = header::refuse_before_session(packet, transport);
     if early != refusal::NONE {
         return not_found(early);
     }
-    let row = table::find_row(table, header::session_id(packet, lead));
+    let row = table::find_row(table, header::session_id(packet, transport));
     if ROWS <= row {
         return not_found(refusal::SESSION_NOT_OPEN);
     }
@@ -176,21 +176,21 @@ fn take(
     at: usize,
     holding: &mut [u8],
     packet: &[u8],
-    lead: usize,
+    transport: u32,
     output: &mut [u8],
     lengths: &mut [u16],
 ) -> Taken
     requires { ⌜ at < rows ⌝ }
-    requires { ⌜ (code ≡ 0 → Ready row (record { lead = lead; bytes = now packet }) (asSlices (now holding) (now output) (now lengths))) ⌝ }
+    requires { ⌜ (code ≡ 0 → Ready row (packetBy transport (now packet)) (asSlices (now holding) (now output) (now lengths))) ⌝ }
     ensures { λ r. ⌜ _≡_ {A = TakenOutcome}
         (record { taken = r; slices = asSlices (now (holding .exit)) (now (output .exit)) (now (lengths .exit)) })
-        (takes code at row (record { lead = lead; bytes = now (packet .entry) })
+        (takes code at row (packetBy transport (now (packet .entry)))
         (asSlices (now (holding .entry)) (now (output .entry)) (now (lengths .entry)))) ⌝ }
 {
     if code != refusal::NONE {
         return not_taken(code, row);
     }
-    let sub = header::sub_of(packet, lead);
+    let sub = header::sub_of(packet, transport);
     let terms = table::terms_of(row);
     let refused = refuse_packet(terms, sub);
     if refused != refusal::NONE {

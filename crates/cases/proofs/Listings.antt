@@ -12,6 +12,7 @@ use Rattle.flow.specs.Numbers.{ahead, next}
 use Rattle.flow.specs.Flow.{fresh}
 use Rattle.packet.specs.Segments.{bodyAt, segmentAt, segments}
 use Rattle.packet.specs.Psp.{wanted}
+use Rattle.packet.proofs.Examples.{A, B}
 use Rattle.table.specs.declared.Row.{Row}
 use Rattle.table.specs.Broken.{broken}
 use Rattle.table.specs.Calls.{opened, closed}
@@ -165,6 +166,45 @@ unfolding trace traceBy tracedAt framesText frameLine rowsText rowText rowLine f
     opened closed broken received receivedBy carriedOut refused hear pspFate settledBy settled fateBy fate atGap inOrder wanted bodyAt segmentAt segments
     ahead next part rest put joined lengths any least sumTo upTo
 gap-traced = refl
+
+-- A core that speaks UDP (W1, kind 5): A over UDP; a control message of its own, with T set; B over IP; what is over IP given as if it were
+-- over UDP.
+abbrev by-either : List ℕ
+by-either =
+    fileOf
+    (opening 1 0x01
+    ∷ record { kind = 5; body = 0x00 ∷ 0x03 ∷ 0x00 ∷ 0x00 ∷ A }
+    ∷ record { kind = 5; body = 0xC8 ∷ 0x03 ∷ 0x00 ∷ 0x0C ∷ replicate 8 0x00 }
+    ∷ record { kind = 4; body = B }
+    ∷ record { kind = 5; body = B }
+    ∷ record { kind = 5; body = [] } ∷ [])
+
+pub either-traced : trace by-either
+    ≡ ascii "n what code frames bytes dropped gap\n"
+    ++ ascii "0 open 0 0 0 0 0\n"
+    ++ ascii " row 0 257 1\n"
+    ++ ascii "1 data 0 1 6 0 0\n"
+    ++ ascii " frame 111213141516\n"
+    ++ ascii " row 0 257 1\n"
+    ++ ascii " flow 0 1 0 2 2122\n"
+    ++ ascii "2 data 15 0 0 0 0\n"
+    ++ ascii " row 0 257 1\n"
+    ++ ascii " flow 0 1 0 2 2122\n"
+    ++ ascii "3 data 0 1 9 0 0\n"
+    ++ ascii " frame 212223242526272829\n"
+    ++ ascii " row 0 257 1\n"
+    ++ ascii " flow 0 1 1 0 -\n"
+    ++ ascii "4 data 15 0 0 0 0\n"
+    ++ ascii " row 0 257 1\n"
+    ++ ascii " flow 0 1 1 0 -\n"
+    ++ ascii "5 data 2 0 0 0 0\n"
+    ++ ascii " row 0 257 1\n"
+    ++ ascii " flow 0 1 1 0 -\n"
+unfolding trace traceBy tracedAt framesText frameLine rowsText rowText rowLine flowText flowLine hex cutBy lineAt line columns decimal
+    digits column fileOf fileRefusal bodyStart nthEntry begin runOne standing answerAt answer after opened closed broken received receivedBy
+    carriedOut refused hear pspFate settledBy settled fateBy fate atGap inOrder wanted bodyAt segmentAt segments ahead next part rest put
+    joined lengths any least sumTo upTo
+either-traced = refl
 
 -- six rows, and four flows in the last
 abbrev openRow : ℕ → List Flow → Row

@@ -6,14 +6,15 @@ use mathlib.Core.Path.{_≡_, refl, sym}
 use mathlib.Core.Bool.{Bool, true, false, true≢false}
 use mathlib.Core.List.{List, [], _∷_, map}
 use native.Mathlib.Omega.{arith}
-use lib.ListN.{length, getD, replicate, length-replicate}
+use lib.ListN.{length, getD, drop, replicate, length-replicate}
 use Rattle.octets.specs.Stretch.{part, rest, put, joined, lengths, cutBy}
 use Rattle.octets.specs.Count.{any, least, sumTo, upTo}
+use Rattle.octets.specs.Each.{Each}
 use Rattle.flow.specs.Numbers.{ahead, next, numberAt}
 use Rattle.packet.specs.Segments.{bodyAt, segmentAt, segments}
 use Rattle.packet.specs.Psp.{wanted}
 use Rattle.packet.specs.Check.{checkRefusals, check}
-use Rattle.packet.specs.Header.{Packet, ip, sub, number}
+use Rattle.packet.specs.Header.{Packet, packetBy, ip, udp, inUdp, sub, number}
 use Rattle.table.specs.Broken.{broken}
 use Rattle.table.specs.Calls.{asking, opened, closed}
 use Rattle.join.specs.Join.{settledBy, settled, fateBy, fate, atGap, inOrder, pspFate}
@@ -21,13 +22,14 @@ use Rattle.card.specs.Hear.{hear}
 use Rattle.card.specs.Receive.{carriedOut, refused, receivedBy, received}
 use Rattle.card.specs.History.{Call, opens, closes, hands, answer, after, afterAll, emptyCard}
 use Rattle.sender.specs.Rules.{Pieces, packetAt, wholeFrame, begunFrame, inTurn, allSegments, KeepsRules}
-use Rattle.promises.specs.Words.{packetsTo, framesOut, LongEnough}
+use Rattle.promises.specs.Words.{handsTo, packetsTo, framesOut, Room, LongEnough}
 use Rattle.promises.specs.Arrivals.{inTime, placesFrom, carriers}
 use Rattle.promises.specs.Demand.{Sending, Run, openedCard, comesOut}
 use Rattle.promises.specs.Gaps.{Verdict, verdictsOut, verdictsFrom, verdictsOf}
 
--- Demand 3. Four frames, cut into pieces: the first is cut in two, the third too, and a fifth is begun. They go in four packets that are numbered
--- from 0xFFFE on, so that the third has number 0.
+-- Demand 3. Four frames, cut into pieces: the first is cut in two, the third too, and a fifth is begun. They go in four packets that are
+-- numbered from 0xFFFE on, so that the third has number 0; over IP and over UDP in turn, so that both frames that are cut are cut over the
+-- two transports.
 abbrev pub frames : List Pieces
 frames =
     ((0x11 ∷ 0x12 ∷ []) ∷ (0x13 ∷ []) ∷ [])
@@ -43,20 +45,21 @@ to-101 behind = 0x00 ∷ 0x00 ∷ 0x01 ∷ 0x01 ∷ behind
 abbrev pub to-102 : List ℕ → List ℕ
 to-102 behind = 0x00 ∷ 0x00 ∷ 0x01 ∷ 0x02 ∷ behind
 
-abbrev pub packet0 : List ℕ
-packet0 = to-101 (0x41 ∷ 0x01 ∷ 0xFF ∷ 0xFE ∷ 0x80 ∷ 0x02 ∷ 0x11 ∷ 0x12 ∷ [])
+abbrev pub packet0 : Packet
+packet0 = ip (to-101 (0x41 ∷ 0x01 ∷ 0xFF ∷ 0xFE ∷ 0x80 ∷ 0x02 ∷ 0x11 ∷ 0x12 ∷ []))
 
-abbrev pub packet1 : List ℕ
-packet1 = to-101 (0x41 ∷ 0x03 ∷ 0xFF ∷ 0xFF ∷ 0x40 ∷ 0x01 ∷ 0xC0 ∷ 0x01 ∷ 0x80 ∷ 0x01 ∷ 0x13 ∷ 0x21 ∷ 0x31 ∷ [])
+abbrev pub packet1 : Packet
+packet1 = inUdp (to-101 (0x41 ∷ 0x03 ∷ 0xFF ∷ 0xFF ∷ 0x40 ∷ 0x01 ∷ 0xC0 ∷ 0x01 ∷ 0x80 ∷ 0x01 ∷ 0x13 ∷ 0x21 ∷ 0x31 ∷ []))
 
-abbrev pub packet2 : List ℕ
-packet2 = to-101 (0x41 ∷ 0x01 ∷ 0x00 ∷ 0x00 ∷ 0x40 ∷ 0x02 ∷ 0x32 ∷ 0x33 ∷ [])
+abbrev pub packet2 : Packet
+packet2 = ip (to-101 (0x41 ∷ 0x01 ∷ 0x00 ∷ 0x00 ∷ 0x40 ∷ 0x02 ∷ 0x32 ∷ 0x33 ∷ []))
 
-abbrev pub packet3 : List ℕ
-packet3 = to-101 (0x41 ∷ 0x02 ∷ 0x00 ∷ 0x01 ∷ 0xC0 ∷ 0x02 ∷ 0x80 ∷ 0x01 ∷ 0x41 ∷ 0x42 ∷ 0x51 ∷ [])
+-- (with every bit set that nobody reads before the session ID)
+abbrev pub packet3 : Packet
+packet3 = udp (0x7F ∷ 0xF3 ∷ 0xFF ∷ 0xFF ∷ to-101 (0x41 ∷ 0x02 ∷ 0x00 ∷ 0x01 ∷ 0xC0 ∷ 0x02 ∷ 0x80 ∷ 0x01 ∷ 0x41 ∷ 0x42 ∷ 0x51 ∷ []))
 
 abbrev pub packets : List Packet
-packets = ip packet0 ∷ ip packet1 ∷ ip packet2 ∷ ip packet3 ∷ []
+packets = packet0 ∷ packet1 ∷ packet2 ∷ packet3 ∷ []
 
 pub keeps : KeepsRules (record { session = 0x101; flow = 1; start = 0xFFFE }) frames ((0x51 ∷ []) ∷ []) packets
 unfolding part rest joined any sumTo upTo bodyAt segmentAt segments wanted check checkRefusals numberAt wholeFrame begunFrame inTurn allSegments
@@ -86,11 +89,12 @@ sending =
       keeps-rules = keeps;
     }
 
--- One run: the fourth packet overtakes the third, which then comes late, and comes again itself. Between them other calls: session 0x102 is open
--- before, holds half a frame in its own flow 1, begins another and is closed; an open of 0x101 is refused; a scrap of five bytes is refused; flow 2 of 0x101 begins
--- a frame of its own.
-abbrev pub hand : List ℕ → Call
-hand packet = hands (record { packet = ip packet; output = replicate 6144 0; lengths = replicate 127 0 })
+-- One run: the fourth packet overtakes the third, which then comes late, and comes again itself. Between them other calls: session 0x102 is
+-- open before, holds half a frame in its own flow 1, begins another and is closed; an open of 0x101 is refused; a scrap of five bytes is
+-- refused; so are a control message over UDP and a packet by a transport that there is not, which would be of this flow; flow 2 of 0x101
+-- begins a frame of its own.
+abbrev pub hand : Packet → Call
+hand packet = hands (record { packet = packet; output = replicate 6144 0; lengths = replicate 127 0 })
 
 abbrev pub others-half : List ℕ
 others-half = to-102 (0x41 ∷ 0x01 ∷ 0x12 ∷ 0x34 ∷ 0x80 ∷ 0x03 ∷ 0x61 ∷ 0x62 ∷ 0x63 ∷ [])
@@ -104,12 +108,14 @@ flow-2-half = to-101 (0x42 ∷ 0x01 ∷ 0x00 ∷ 0x07 ∷ 0x80 ∷ 0x02 ∷ 0x71
 abbrev pub overtaken-calls : List Call
 overtaken-calls =
     hand packet0
-    ∷ hand others-next
+    ∷ hand (ip others-next)
     ∷ hand packet1
     ∷ closes 0x102
     ∷ opens (asking kind.Dmpt 0x101)
     ∷ hands (record { packet = ip (to-101 (0x41 ∷ [])); output = []; lengths = [] })
-    ∷ hand flow-2-half
+    ∷ hand (udp (0x80 ∷ 0x03 ∷ 0x00 ∷ 0x00 ∷ packet2 .bytes))
+    ∷ hand (packetBy 3 (packet2 .bytes))
+    ∷ hand (inUdp flow-2-half)
     ∷ hand packet3
     ∷ hand packet2
     ∷ hand packet3
@@ -119,7 +125,7 @@ pub long-slices : (mine : Bool) → mine ≡ true → (6144 ≤ length {A = ℕ}
 long-slices mine e = (omega (arith, length-replicate {A = ℕ} 6144 0), omega (arith, length-replicate {A = ℕ} 127 0))
 
 abbrev pub before : List Call
-before = opens (asking kind.Psp 0x102) ∷ hand others-half ∷ []
+before = opens (asking kind.Psp 0x102) ∷ hand (inUdp others-half) ∷ []
 
 pub opens-101 : (answer (afterAll (emptyCard (replicate 49152 0)) before) (opens (asking kind.Psp 0x101))) .code ≡ 0
 unfolding part rest put joined lengths any least sumTo upTo ahead next bodyAt segmentAt segments wanted broken opened settledBy settled fateBy fate atGap inOrder pspFate hear carriedOut refused receivedBy received answer after afterAll
@@ -129,8 +135,12 @@ pub overtaken-long : LongEnough kind.Psp 0x101 1 (replicate 49152 0) overtaken-c
 unfolding rest
 overtaken-long = (
   omega (arith, length-replicate {A = ℕ} 49152 0),
-  (long-slices true, (long-slices false, (long-slices true, ((λ e. tt), ((λ e. tt), ((λ e. absurd (true≢false (sym e))), (long-slices false, (long-slices true, (long-slices true, (long-slices true, tt)))))))))),
+  (long-slices true, (long-slices false, (long-slices true, ((λ e. tt), ((λ e. tt), ((λ e. absurd (true≢false (sym e))), behind)))))),
 )
+  where
+    -- the two packets of nobody and the half on flow 2, then the last three of the flow
+    behind : Each (λ x. handsTo kind.Psp 0x101 1 x ≡ true → Room x) (drop 6 overtaken-calls)
+    behind = (long-slices false, (long-slices false, (long-slices false, (long-slices true, (long-slices true, (long-slices true, tt))))))
 
 pub overtaken-only : packetsTo kind.Psp 0x101 1 overtaken-calls ≡ map (packetAt packets) (0 ∷ 1 ∷ 3 ∷ 2 ∷ 3 ∷ [])
 unfolding rest packetsTo
@@ -144,7 +154,7 @@ overtaken =
       calls = overtaken-calls;
       arrivals = 0 ∷ 1 ∷ 3 ∷ 2 ∷ 3 ∷ [];
       opens-now = opens-101;
-      stays-open = (refl, (refl, (refl, (refl, (refl, (refl, (refl, (refl, (refl, (refl, tt))))))))));
+      stays-open = (refl, (refl, (refl, (refl, (refl, (refl, (refl, (refl, (refl, (refl, (refl, (refl, tt))))))))))));
       long-enough = overtaken-long;
       only-these = overtaken-only;
       in-window = (omega arith, omega arith, (omega arith, omega arith, (omega arith, omega arith, (omega arith, omega arith, tt))));

@@ -1,6 +1,6 @@
 -- Closed instances at edges that the others do not touch: what is counted of a value, the bound at its two ends, a gap that a session is told, a close of
--- another session and a malformed packet while a frame is half there, flow 3, a row that came free, D-MPT with numbers, bytes before the
--- session ID, and a frame that is cut twice. It cites definitions alone, so that it can be held against wrong ones.
+-- another session and a malformed packet while a frame is half there, flow 3, a row that came free, D-MPT with numbers, both transports,
+-- and a frame that is cut twice. It cites definitions alone, so that it can be held against wrong ones.
 use Prim.Native.Nat.{ℕ}
 use mathlib.Core.Path.{_≡_, refl}
 use mathlib.Core.List.{List, [], _∷_, _++_}
@@ -9,7 +9,7 @@ use lib.ListN.{take, set, replicate}
 use Rattle.octets.specs.Stretch.{part, rest, put, joined, lengths}
 use Rattle.octets.specs.Count.{any, least, sumTo, upTo}
 use Rattle.flow.specs.Numbers.{ahead, next}
-use Rattle.packet.specs.Header.{Packet}
+use Rattle.packet.specs.Header.{Packet, packetBy, udp, inUdp}
 use Rattle.packet.specs.Segments.{bodyAt, segmentAt, segments}
 use Rattle.packet.specs.Psp.{wanted}
 use Rattle.packet.specs.Dmpt.{mpegAt, mpegs}
@@ -56,19 +56,32 @@ gap-is-told : told 0x101 fresh-101 (hand A ∷ hand (whole3 4) ∷ []) ≡ one-f
 unfolding part rest put joined lengths any least sumTo upTo ahead next bodyAt segmentAt segments wanted broken opened settledBy settled fateBy fate atGap inOrder pspFate hear carriedOut refused receivedBy received answer after afterAll told
 gap-is-told = refl
 
--- Packets with four bytes before the session ID, and such without, on one flow: the session is told the same.
-abbrev four-before : List ℕ → Packet
-four-before packet = record { lead = 4; bytes = 0x00 ∷ 0x03 ∷ 0x00 ∷ 0x00 ∷ packet }
-
-abbrev hand-behind : List ℕ → Call
-hand-behind packet = hands (record { packet = four-before packet; output = replicate mostBytes 0; lengths = replicate mostFrames 0 })
+-- Packets over UDP and over IP on one flow: the session is told the same.
+abbrev hand-by : Packet → Call
+hand-by packet = hands (record { packet = packet; output = replicate mostBytes 0; lengths = replicate mostFrames 0 })
 
 abbrev late : Told
 late = record { code = 12; frames = 0; bytes = 0; dropped = 0; gap = 0; output = []; lengths = [] }
 
-lead-is-passed-over : told 0x101 fresh-101 (hand-behind A ∷ hand B ∷ hand-behind B ∷ []) ≡ one-frame 6 0 0 of6 ∷ one-frame 9 0 0 of9 ∷ late ∷ []
-unfolding part rest put joined lengths any least sumTo upTo ahead next bodyAt segmentAt segments wanted broken opened settledBy settled fateBy fate atGap inOrder pspFate hear carriedOut refused receivedBy received answer after afterAll told
-lead-is-passed-over = refl
+two-transports : told 0x101 fresh-101 (hand-by (inUdp A) ∷ hand B ∷ hand-by (inUdp B) ∷ [])
+    ≡ one-frame 6 0 0 of6 ∷ one-frame 9 0 0 of9 ∷ late ∷ []
+unfolding part rest put joined lengths any least sumTo upTo ahead next bodyAt segmentAt segments wanted broken opened settledBy settled
+    fateBy fate atGap inOrder pspFate hear carriedOut refused receivedBy received answer after afterAll told
+two-transports = refl
+
+-- Between A and B come packets in which nobody reads a session ID: B with T set, B by another version, B by a transport that there is not.
+-- They are nobody's, and change nothing.
+abbrev with-t : List ℕ → Packet
+with-t packet = udp (0x80 ∷ 0x03 ∷ 0x00 ∷ 0x00 ∷ packet)
+
+abbrev version-2 : List ℕ → Packet
+version-2 packet = udp (0x00 ∷ 0x02 ∷ 0x00 ∷ 0x00 ∷ packet)
+
+nobodys : told 0x101 fresh-101 (hand A ∷ hand-by (with-t B) ∷ hand-by (version-2 B) ∷ hand-by (packetBy 3 B) ∷ hand-by (inUdp B) ∷ [])
+    ≡ one-frame 6 0 0 of6 ∷ one-frame 9 0 0 of9 ∷ []
+unfolding part rest put joined lengths any least sumTo upTo ahead next bodyAt segmentAt segments wanted broken opened settledBy settled
+    fateBy fate atGap inOrder pspFate hear carriedOut refused receivedBy received answer after afterAll told
+nobodys = refl
 
 -- Between A and B another session is closed, and a packet with number 3 is refused, whose last byte is cut: B finds what A left, and the number is expected.
 abbrev half-there : List Call

@@ -1,6 +1,6 @@
 -- Closed instances of isolation and of open-by-ids: one session, told the same whether it is alone on the card or among others; and opens on two tables with the
 -- same open IDs in other rows. It cites definitions alone, so that it can be held against wrong ones.
-use Rattle.packet.specs.Header.{ip}
+use Rattle.packet.specs.Header.{Packet, ip, udp, inUdp}
 use Prim.Native.Nat.{ℕ}
 use mathlib.Core.Path.{_≡_, refl}
 use mathlib.Core.Bool.{true, false}
@@ -21,36 +21,41 @@ use Rattle.card.specs.History.{Card, Call, opens, closes, hands, answer, after,
 use Rattle.promises.specs.Isolation.{own, Told, told, cardAfter}
 use Rattle.promises.specs.Marked.{A, B, hand, of6, of9}
 
--- A and B, then the half of a frame on flow 2, then the close: alone but for a session in row 0 that is never heard of again, so that it is in row 1
+-- A over UDP and B over IP, then the half of a frame on flow 2, then the close: alone but for a session in row 0 that is never heard of
+-- again, so that it is in row 1
 abbrev half-a-frame : List ℕ
 half-a-frame = 0x00 ∷ 0x00 ∷ 0x01 ∷ 0x01 ∷ 0x42 ∷ 0x01 ∷ 0x00 ∷ 0x09 ∷ 0x80 ∷ 0x02 ∷ 0x81 ∷ 0x82 ∷ []
 
+abbrev hand-by : Packet → Call
+hand-by packet = hands (record { packet = packet; output = replicate 6144 0; lengths = replicate 127 0 })
+
 abbrev alone-calls : List Call
-alone-calls = hand A ∷ hand B ∷ hand half-a-frame ∷ closes 0x101 ∷ []
+alone-calls = hand-by (inUdp A) ∷ hand B ∷ hand half-a-frame ∷ closes 0x101 ∷ []
 
 abbrev one-before : List Call
 one-before = opens (asking kind.Psp 0x109) ∷ []
 
 -- The same among others, in row 0, which another session had left. Session 0x102, in row 1, hears the like on its own flow 1, between A and B, and is closed; an
--- open of 0x101 is refused; and what is lent is as long, but not the same.
+-- open of 0x101 is refused, and so is a control message over UDP; and what is lent is as long, but not the same.
 abbrev to-102 : ℕ → List ℕ
 to-102 number = 0x00 ∷ 0x00 ∷ 0x01 ∷ 0x02 ∷ 0x41 ∷ 0x01 ∷ 0x00 ∷ number ∷ 0x80 ∷ 0x03 ∷ 0x91 ∷ 0x92 ∷ 0x93 ∷ []
 
-abbrev hand-other : List ℕ → Call
-hand-other packet = hands (record { packet = ip packet; output = replicate 6144 7; lengths = replicate 127 8 })
+abbrev hand-other : Packet → Call
+hand-other packet = hands (record { packet = packet; output = replicate 6144 7; lengths = replicate 127 8 })
 
 abbrev others-first : List Call
 others-first = opens (asking kind.Dmpt 0x104) ∷ opens (asking kind.Psp 0x102) ∷ hand (to-102 0) ∷ closes 0x104 ∷ []
 
 abbrev among-others : List Call
 among-others =
-    hand-other A
-    ∷ hand (to-102 1)
+    hand-other (inUdp A)
+    ∷ hand-by (inUdp (to-102 1))
+    ∷ hand-by (udp (0x80 ∷ 0x03 ∷ 0x00 ∷ 0x00 ∷ B))
     ∷ closes 0x102
     ∷ opens (asking kind.Dmpt 0x101)
-    ∷ hand-other B
+    ∷ hand-other (ip B)
     ∷ opens (asking kind.Psp 0x103)
-    ∷ hand-other half-a-frame
+    ∷ hand-other (ip half-a-frame)
     ∷ closes 0x101
     ∷ hand A
     ∷ []

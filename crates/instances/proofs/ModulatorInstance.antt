@@ -15,7 +15,7 @@ use Rattle.flow.specs.Numbers.{ahead, next, numberAt}
 use Rattle.packet.specs.Segments.{bodyAt, segmentAt, segments}
 use Rattle.packet.specs.Psp.{wanted}
 use Rattle.packet.specs.Check.{checkRefusals, check}
-use Rattle.packet.specs.Header.{Packet, ip, sub, number}
+use Rattle.packet.specs.Header.{Packet, ip, inUdp, sub, number}
 use Rattle.table.specs.Broken.{broken}
 use Rattle.table.specs.Calls.{asking, opened, closed}
 use Rattle.join.specs.Join.{settledBy, settled, fateBy, fate, atGap, inOrder, pspFate}
@@ -54,7 +54,7 @@ frames = (six ∷ []) ∷ ((0x00 ∷ 0x00 ∷ 0x00 ∷ []) ∷ (0x02 ∷ 0xB1 �
 
 abbrev pub packets : List Packet
 packets =
-    ip (to-101 (0x41 ∷ 0x02 ∷ 0xFF ∷ 0xFF ∷ 0xC0 ∷ 0x06 ∷ 0x80 ∷ 0x03 ∷ six ++ (0x00 ∷ 0x00 ∷ 0x00 ∷ [])))
+    inUdp (to-101 (0x41 ∷ 0x02 ∷ 0xFF ∷ 0xFF ∷ 0xC0 ∷ 0x06 ∷ 0x80 ∷ 0x03 ∷ six ++ (0x00 ∷ 0x00 ∷ 0x00 ∷ [])))
     ∷ ip (to-101 (0x41 ∷ 0x01 ∷ 0x00 ∷ 0x00 ∷ 0x40 ∷ 0x05 ∷ 0x02 ∷ 0xB1 ∷ 0xB2 ∷ 0xB3 ∷ 0xB4 ∷ []))
     ∷ ip (to-101 (0x41 ∷ 0x01 ∷ 0x00 ∷ 0x01 ∷ 0xC0 ∷ 0x07 ∷ seven))
     ∷ []

@@ -2,8 +2,8 @@
 use Rattle.table.specs.declared.Kind.the-variants as kind
 use Prim.Native.Nat.{ℕ, zero, suc, _≤_}
 use mathlib.Core.Path.{_≡_, refl, sym, ap}
-use mathlib.Core.Bool.{false}
-use mathlib.Core.List.{[], _∷_, map}
+use mathlib.Core.Bool.{true, false}
+use mathlib.Core.List.{List, [], _∷_}
 use native.Mathlib.Omega.{arith}
 use lib.ListN.{length, replicate, length-replicate}
 use Rattle.octets.specs.Stretch.{part, rest, put, joined, lengths, cutBy}
@@ -11,24 +11,25 @@ use Rattle.octets.specs.Count.{any, least, sumTo, upTo}
 use Rattle.octets.specs.Each.{Each}
 use Rattle.flow.specs.Numbers.{ahead, next}
 use Rattle.packet.specs.Segments.{bodyAt, segmentAt, segments}
-use Rattle.packet.specs.Header.{ip}
+use Rattle.packet.specs.Header.{inUdp}
 use Rattle.packet.specs.Psp.{wanted}
 use Rattle.table.specs.Broken.{broken}
 use Rattle.table.specs.Calls.{asking, opened}
 use Rattle.join.specs.Join.{settledBy, settled, fateBy, fate, atGap, inOrder, pspFate}
 use Rattle.card.specs.Hear.{hear}
 use Rattle.card.specs.Receive.{carriedOut, refused, receivedBy, received}
-use Rattle.card.specs.History.{opens, answer, after, afterAll, emptyCard}
+use Rattle.card.specs.History.{Call, opens, hands, answer, after, afterAll, emptyCard}
 use Rattle.sender.specs.Cut.{frameStart, cut}
 use Rattle.sender.specs.Packet.{packetOf}
 use Rattle.sender.specs.Send as sender
-use Rattle.sender.specs.Series.{Usable, startOfFrame, seriesPackets}
+use Rattle.sender.specs.Series.{Usable, startOfFrame, seriesPackets, goOut}
 use Rattle.promises.specs.Words.{packetsTo, framesOut, LongEnough}
 use Rattle.promises.specs.Marked.{A, B, hand, of6, of9, m12, limit16}
 use Rattle.promises.specs.RoundTrip.{Given, framesGiven, packetsGiven, InOrder}
 
 -- The frames of the last marked case, of 6 and 9 bytes, are sent with the limit 16 and with calls enough, fifteen, of which two send a
--- packet: A and B, as in the other cases. These are handed in on an empty card, on which their session is opened.
+-- packet: A and B, as in the other cases. A goes over UDP and B over IP. They are handed in on an empty card, on which their session is
+-- opened.
 pub round-trip-sends : seriesPackets m12 0xFFFF (startOfFrame 0) (replicate 15 limit16) ≡ A ∷ B ∷ []
 unfolding part put joined any sumTo next seriesPackets frameStart cut packetOf sender.cutFor sender.written sender.refused sender.sentBy sender.sent
 round-trip-sends = refl
@@ -47,6 +48,7 @@ given-m12 =
       job = m12;
       number = 0xFFFF;
       turns = replicate 15 limit16;
+      ways = true ∷ [];
       sound = record { addressed = refl; four-bytes = omega arith; frames-sound = round-trip-sound };
       two-bytes = omega arith;
       usable = all-usable 15;
@@ -57,23 +59,26 @@ pub round-trip-opens : (answer (afterAll (emptyCard (replicate 49152 0)) []) (op
 unfolding any least broken opened answer afterAll
 round-trip-opens = refl
 
-pub round-trip-long : LongEnough kind.Psp 0x101 1 (replicate 49152 0) (hand A ∷ hand B ∷ [])
+abbrev pub hand-udp : List ℕ → Call
+hand-udp packet = hands (record { packet = inUdp packet; output = replicate 6144 0; lengths = replicate 127 0 })
+
+pub round-trip-long : LongEnough kind.Psp 0x101 1 (replicate 49152 0) (hand-udp A ∷ hand B ∷ [])
 unfolding rest
 round-trip-long =
     let out : 6144 ≤ length {A = ℕ} (replicate 6144 0) = omega (arith, length-replicate {A = ℕ} 6144 0) in
     let lens : 127 ≤ length {A = ℕ} (replicate 127 0) = omega (arith, length-replicate {A = ℕ} 127 0) in
     (omega (arith, length-replicate {A = ℕ} 49152 0), ((λ e. (out, lens)), ((λ e. (out, lens)), tt)))
 
-pub round-trip-arrive : packetsTo kind.Psp 0x101 1 (hand A ∷ hand B ∷ []) ≡ packetsGiven given-m12
-unfolding rest packetsTo
-round-trip-arrive = sym (ap (map ip) round-trip-sends)
+pub round-trip-arrive : packetsTo kind.Psp 0x101 1 (hand-udp A ∷ hand B ∷ []) ≡ packetsGiven given-m12
+unfolding rest packetsTo goOut
+round-trip-arrive = sym (ap (goOut (true ∷ [])) round-trip-sends)
 
 abbrev pub in-order-m12 : InOrder given-m12
 in-order-m12 =
     record {
       holding = replicate 49152 0;
       before = [];
-      calls = hand A ∷ hand B ∷ [];
+      calls = hand-udp A ∷ hand B ∷ [];
       opens-now = round-trip-opens;
       stays-open = (refl, (refl, tt));
       long-enough = round-trip-long;

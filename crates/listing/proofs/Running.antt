@@ -8,17 +8,17 @@ use lib.Dec.{eqb}
 use lib.ListN.{length}
 use borrow.Author.Tests.{eq-eqb, ne-eqb, eqb-true}
 use Rattle.octets.specs.Bytes.{be32At}
-use Rattle.packet.specs.Header.{ip}
+use Rattle.packet.specs.Header.{packetBy}
 use Rattle.table.specs.declared.Table.{Table}
 use Rattle.table.specs.declared.Kind.{Kind}
 use Rattle.table.specs.declared.Kind.the-variants as session-kind
 use Rattle.table.specs.Calls.{asking, opened, closed}
 use Rattle.join.specs.Slices.{asSlices}
 use Rattle.card.specs.declared.Received.{Received}
-use Rattle.card.specs.Receive.{PermitsReceive}
+use Rattle.card.specs.Receive.{Outcome, PermitsReceive}
 use Rattle.card.specs.History.{Arrival, Call, opens, closes, hands, handed, answer, after}
 use Rattle.capture.specs.File.{Entry, openPsp, openDmpt, closing, idBody, bodyIn, kinds, takesLength}
-use Rattle.listing.specs.Run.{Running, asks, callOf, outputAfter, lengthsAfter, runOne}
+use Rattle.listing.specs.Run.{Running, asks, transportOf, packetOf, callOf, outputAfter, lengthsAfter, runOne}
 use Rattle.listing.specs.Walk.{asRunning, answered, Counts, RunsTo}
 
 abbrev entryOf : ℕ → List ℕ → Entry
@@ -44,7 +44,7 @@ module _ (t : Table) (holding output lens : List ℕ) (kind : ℕ) (body : List 
   before = asRunning t holding output lens
 
   abbrev lent : Arrival
-  lent = record { packet = ip body; output = output; lengths = lens }
+  lent = record { packet = packetOf (entryOf kind body); output = output; lengths = lens }
 
   -- an entry that opens, as PSP or as D-MPT
   opened-as : (asked : Kind) (id : ℕ) (r : Received) → callOf before (entryOf kind body) ≡ opens (asks asked (entryOf kind body)) → id ≡ be32At body 0 →
@@ -100,11 +100,15 @@ module _ (t : Table) (holding output lens : List ℕ) (kind : ℕ) (body : List 
         data-call : callOf before (entryOf kind body) ≡ hands lent
         data-call = rw (ne-eqb kind openPsp other, ne-eqb kind openDmpt not-dmpt, ne-eqb kind closing not-close) refl
 
-        pub hands-packet : (r : Received) (holding′ output′ lens′ : List ℕ) →
-            PermitsReceive t (ip body) (asSlices holding output lens) (record { answer = r; slices = asSlices holding′ output′ lens′ }) →
+        pub hands-packet : (transport : ℕ) → transport ≡ transportOf kind → (r : Received) (holding′ output′ lens′ : List ℕ) →
+            PermitsReceive t (packetBy transport body) (asSlices holding output lens)
+            (record { answer = r; slices = asSlices holding′ output′ lens′ }) →
             RunsTo before (entryOf kind body) r holding′ output′ lens′
         unfolding answer after
-        hands-packet r holding′ output′ lens′ p =
+        hands-packet transport named r holding′ output′ lens′ permitted =
+            let o : Outcome = record { answer = r; slices = asSlices holding′ output′ lens′ } in
+            let p : PermitsReceive t (packetOf (entryOf kind body)) (asSlices holding output lens) o =
+            subst (λ (n : ℕ). PermitsReceive t (packetBy n body) (asSlices holding output lens) o) named permitted in
             ran-as before (entryOf kind body) (hands lent) r holding′ output′ lens′ data-call
             (record { its-code = p .its-number; its-frames = p .its-frames; its-bytes = p .its-bytes; its-dropped = p .its-dropped; its-gap = p .its-gap })
             (ap (λ (x : Table). asRunning x holding′ output′ lens′) (p .its-table)

@@ -8,7 +8,6 @@ use lib.Dec.{eqb}
 use Rattle.octets.specs.Bytes.{be32At, byteAt}
 use Rattle.octets.specs.Count.{sumTo}
 use Rattle.octets.proofs.Counts.{sum-none}
-use Rattle.packet.specs.Header.{ip}
 use Rattle.table.specs.declared.Request.{Request}
 use Rattle.table.specs.declared.Kind.the-variants as kind
 use Rattle.table.specs.Broken.{broken}
@@ -20,7 +19,7 @@ use Rattle.card.proofs.Keeping.{received-keeps}
 use Rattle.card.proofs.Step.{none-found}
 use Rattle.card.proofs.Limits.{within-limits, lengths-add-up}
 use Rattle.capture.specs.File.{Entry, openPsp, openDmpt, closing, nthEntry}
-use Rattle.listing.specs.Run.{Running, asks, callOf, outputAfter, lengthsAfter, answerTo, runOne, begin, standing, answerAt}
+use Rattle.listing.specs.Run.{Running, asks, packetOf, callOf, outputAfter, lengthsAfter, answerTo, runOne, begin, standing, answerAt}
 
 -- what holds of every call that an entry may stand for holds of the call that it stands for
 either : (P : Call → Type 0) (b : Bool) {x y : Call} → P x → P y → P (cond b x y)
@@ -28,7 +27,7 @@ either P true p q = p
 either P false p q = q
 
 by-call : (r : Running) (e : Entry) (P : Call → Type 0) → ((q : Request) → P (opens q)) → ((id : ℕ) → P (closes id)) →
-    P (hands (record { packet = ip (e .body); output = r .output; lengths = r .lengths })) → P (callOf r e)
+    P (hands (record { packet = packetOf e; output = r .output; lengths = r .lengths })) → P (callOf r e)
 by-call r e P on-open on-close on-data =
     either P (eqb (e .kind) openPsp) (on-open (asks kind.Psp e))
     (either P (eqb (e .kind) openDmpt) (on-open (asks kind.Dmpt e))
@@ -41,7 +40,7 @@ run-keeps r e whole =
     by-call r e (λ (x : Call). broken (after (r .card) x .table) ≡ false)
     (λ q. opened-keeps (r .card .table) q whole)
     (λ id. closed-keeps (r .card .table) id whole)
-    (received-keeps (r .card .table) (ip (e .body)) (asSlices (r .card .holding) (r .output) (r .lengths)) whole)
+    (received-keeps (r .card .table) (packetOf e) (asSlices (r .card .holding) (r .output) (r .lengths)) whole)
 
 pub never-broken : (file : List ℕ) (k : ℕ) → broken (standing file k .card .table) ≡ false
 unfolding standing begin
@@ -76,8 +75,8 @@ pub frames-short : (r : Running) (e : Entry) → Short (answerTo r e .frames) (r
 unfolding runOne answer
 frames-short r e =
     let s = asSlices (r .card .holding) (r .output) (r .lengths) in
-    let few = within-limits (r .card .table) (ip (e .body)) s in
+    let few = within-limits (r .card .table) (packetOf e) s in
     by-call r e (λ (x : Call). Short (answer (r .card) x .frames) (lengthsAfter x (r .lengths) (answer (r .card) x)))
     (λ q. none-short (r .lengths))
     (λ id. none-short (r .lengths))
-    (few .most-frames, omega (arith, few .most-bytes, lengths-add-up (r .card .table) (ip (e .body)) s))
+    (few .most-frames, omega (arith, few .most-bytes, lengths-add-up (r .card .table) (packetOf e) s))

@@ -6,7 +6,7 @@ use mathlib.Core.List.{List}
 use lib.Dec.{eqb}
 use lib.ListN.{replicate}
 use Rattle.octets.specs.Bytes.{be32At}
-use Rattle.packet.specs.Header.{ip}
+use Rattle.packet.specs.Header.{Packet, packetBy, overIp, overUdp}
 use Rattle.table.specs.declared.Kind.{Kind}
 use Rattle.table.specs.declared.Request.{Request}
 use Rattle.table.specs.declared.Kind.the-variants as kind
@@ -14,7 +14,7 @@ use Rattle.table.specs.Calls.{asking}
 use Rattle.join.specs.Slices.{mostBytes, mostFrames}
 use Rattle.card.specs.Receive.{holdingSize}
 use Rattle.card.specs.History.{Card, Call, opens, closes, hands, Answer, answer, after, emptyCard}
-use Rattle.capture.specs.File.{Entry, openPsp, openDmpt, closing, nthEntry}
+use Rattle.capture.specs.File.{Entry, openPsp, openDmpt, closing, dataOverUdp, nthEntry}
 
 pub record Running : Type 0 where
   pub card : Card
@@ -25,13 +25,20 @@ pub record Running : Type 0 where
 abbrev pub asks : Kind → Entry → Request
 asks asked e = asking asked (be32At (e .body) 0)
 
+-- the packet of a data entry, by the transport that its kind names
+abbrev pub transportOf : ℕ → ℕ
+transportOf number = cond (eqb number dataOverUdp) overUdp overIp
+
+abbrev pub packetOf : Entry → Packet
+packetOf e = packetBy (transportOf (e .kind)) (e .body)
+
 -- the call that an entry stands for
 abbrev pub callOf : Running → Entry → Call
 callOf r e =
     cond (eqb (e .kind) openPsp) (opens (asks kind.Psp e))
     (cond (eqb (e .kind) openDmpt) (opens (asks kind.Dmpt e))
     (cond (eqb (e .kind) closing) (closes (be32At (e .body) 0))
-    (hands (record { packet = ip (e .body); output = r .output; lengths = r .lengths }))))
+    (hands (record { packet = packetOf e; output = r .output; lengths = r .lengths }))))
 
 -- the slices after a call: a data call leaves them as its answer has them, and the other calls are not lent any
 abbrev pub outputAfter : Call → List ℕ → Answer → List ℕ

@@ -1,6 +1,6 @@
 // Running a capture from an empty table, entry by entry, and the listing that it prints.
 pub mod line;
-mod run;
+pub mod run;
 
 ghost use mathlib.Core.Path.{_≡_};
 ghost use Prim.Native.Nat.{_+_, _<_, _≤_};

@@ -4,8 +4,10 @@ ghost use mathlib.Core.Bool.{true};
 ghost use lib.ListN.{length};
 ghost use Rattle.table.specs.Calls.{asking, opened, closed};
 ghost use Rattle.capture.specs.File.{bodyIn, kinds, takesLength};
+ghost use Rattle.listing.specs.Run.{transportOf};
 ghost use Rattle.listing.specs.Walk.{asRunning, answered, RunsTo};
 use card::Received;
+use packet::header;
 use table::Kind;
 use table::Request;
 use table::Table;
@@ -41,6 +43,16 @@ fn close(table: Table, id: u32) -> Received
     plain(closing.code, closing.dropped, closing.table)
 }
 
+// The transport that a data entry's kind names.
+pub fn transport_of(kind: u8) -> u32
+    ensures { λ r. ⌜ r ≡ transportOf kind ⌝ }
+{
+    if kind == capture::DATA_OVER_UDP {
+        return header::UDP;
+    }
+    header::IP
+}
+
 // Carries out one entry.
 pub fn run_entry(
     table: Table,
@@ -63,5 +75,6 @@ pub fn run_entry(
     if kind == capture::CLOSE {
         return close(table, octets::read_u32(body, 0));
     }
-    card::receive(table, holding, body, output, lengths)
+    let transport = transport_of(kind);
+    card::receive(table, transport, holding, body, output, lengths)
 }

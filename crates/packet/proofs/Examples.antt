@@ -1,5 +1,5 @@
--- Packets A and B of document 01, changed ones, and D-MPT packets, by computation: the definitions answer what the paper says. Each
--- line would be refused with another number in it.
+-- Packets A and B of document 01, changed ones, D-MPT packets, and both over UDP, by computation: the definitions answer what the papers
+-- say. Each line would be refused with another number in it.
 use Prim.Native.Nat.{ℕ, _+_}
 use mathlib.Core.Path.{_≡_, refl}
 use mathlib.Core.Bool.{true, false}
@@ -9,7 +9,8 @@ use Rattle.octets.specs.Stretch.{part, rest}
 use Rattle.octets.specs.Count.{any, sumTo, upTo}
 use Rattle.flow.specs.Flow.{topFlow, flows}
 use Rattle.packet.specs.declared.Extent.{Extent}
-use Rattle.packet.specs.Header.{Packet, ip, sub, mostLead, sessionId, sSet, flowId, segmentCount, number, idLength, headerLength, shortestPacket}
+use Rattle.packet.specs.Header.{Packet, packetBy, ip, udp, udpFront, inUdp, sub, sessionId, sSet, flowId, segmentCount, number}
+use Rattle.packet.specs.Header.{idLength, headerLength, shortestPacket}
 use Rattle.packet.specs.Segments.{entryWidth, lengthIn, segments, segmentAt, bodyAt}
 use Rattle.packet.specs.Psp.{wanted}
 use Rattle.packet.specs.Dmpt.{mpegAt, mpegs, pid, nullPid}
@@ -24,23 +25,17 @@ B = 0x00 ∷ 0x00 ∷ 0x01 ∷ 0x01 ∷ 0x41 ∷ 0x01 ∷ 0x00 ∷ 0x00 ∷ 0x40
 abbrev checkIp : ℕ → List ℕ → ℕ
 checkIp kind bytes = check kind (ip bytes)
 
-abbrev led : List ℕ → Packet
-led bytes = record { lead = mostLead; bytes = bytes }
-
-abbrev checkLed : ℕ → List ℕ → ℕ
-checkLed kind bytes = check kind (led bytes)
+abbrev checkUdp : ℕ → List ℕ → ℕ
+checkUdp kind bytes = check kind (udp bytes)
 
 abbrev segmentGivenIp : List ℕ → ℕ → List ℕ
-segmentGivenIp bytes k = segmentGiven (ip bytes) k
+segmentGivenIp bytes k = segmentGiven 1 (ip bytes) k
 
 abbrev segmentExtentIp : List ℕ → ℕ → Extent
-segmentExtentIp bytes k = segmentExtent (ip bytes) k
-
-abbrev segmentExtentLed : List ℕ → ℕ → Extent
-segmentExtentLed bytes k = segmentExtent (led bytes) k
+segmentExtentIp bytes k = segmentExtent 1 (ip bytes) k
 
 abbrev segmentCauseIp : List ℕ → ℕ → ℕ
-segmentCauseIp bytes k = segmentCause (ip bytes) k
+segmentCauseIp bytes k = segmentCause 1 (ip bytes) k
 
 -- limits that the paper says in two ways
 limits : (topFlow + 1 ≡ flows) × (idLength + headerLength ≡ shortestPacket)
@@ -126,13 +121,6 @@ d-judged : (checkIp 2 D ≡ 0) × (checkIp 2 (set D 4 0x40) ≡ 0) × (checkIp 2
 unfolding check checkRefusals rest any sumTo mpegAt part
 d-judged = (refl, refl, refl, refl, refl, refl, refl, refl, refl, refl, refl, refl, refl, refl, refl, refl)
 
--- with four bytes before the session ID the limits are four higher, and the rest is read the same
-with-a-lead : (checkLed 1 (0 ∷ 3 ∷ 0 ∷ 0 ∷ A) ≡ 0) × (checkLed 1 (0 ∷ 3 ∷ 0 ∷ 0 ∷ take 7 A) ≡ 2)
-    × (checkLed 1 (0 ∷ 3 ∷ 0 ∷ 0 ∷ (A ++ replicate 4080 0)) ≡ 10) × (checkLed 1 (0 ∷ 3 ∷ 0 ∷ 0 ∷ (A ++ replicate 4081 0)) ≡ 3)
-    × (segmentExtentLed (0 ∷ 3 ∷ 0 ∷ 0 ∷ A) 1 ≡ record { start = 22; size = 2 })
-unfolding check checkRefusals segmentExtent segmentCause causeRefusals rest wanted bodyAt any sumTo
-with-a-lead = (refl, refl, refl, refl, refl)
-
 -- Fields in whole: a number of two unlike bytes; S beside V; 127 segments, with the reserved bit; a length of 14 bits; the null PID
 fields : (number (0x41 ∷ 0x02 ∷ 0x12 ∷ 0x34 ∷ []) ≡ 0x1234) × (sSet (0xC0 ∷ []) ≡ true) × (segmentCount (0x41 ∷ 0xFF ∷ []) ≡ 127)
     × (lengthIn 0xFFFF ≡ 16383) × (lengthIn 0xC800 ≡ 2048) × (pid (mpeg 0xFF) ≡ nullPid)
@@ -164,13 +152,54 @@ as-many : (length (segments entryWidth (sub (ip (three 0xC0 0xC0 0xC0)))) ≡ 3)
 unfolding segments segmentAt bodyAt rest part sumTo upTo mpegs mpegAt
 as-many = (refl, refl)
 
--- with a lead the session ID stands behind it, whatever the lead says
-lead-id : (checkLed 1 (0 ∷ 3 ∷ 0 ∷ 0 ∷ set (set A 2 0) 3 0) ≡ 4) × (checkLed 1 (0 ∷ 0 ∷ 0 ∷ 0 ∷ A) ≡ 0)
-unfolding check checkRefusals rest wanted bodyAt any sumTo
-lead-id = (refl, refl)
-
 -- entries of four bytes: marks and length stand in the first two
 wide-entries : segments 4 (0x41 ∷ 2 ∷ 0 ∷ 0 ∷ 0xC0 ∷ 1 ∷ 9 ∷ 9 ∷ 0x80 ∷ 2 ∷ 9 ∷ 9 ∷ 0x11 ∷ 0x21 ∷ 0x22 ∷ [])
     ≡ record { begins = true; ends = true; body = 0x11 ∷ [] } ∷ record { begins = true; ends = false; body = 0x21 ∷ 0x22 ∷ [] } ∷ []
 unfolding segments segmentAt bodyAt part sumTo upTo
 wide-entries = refl
+
+-- Over UDP (W1). Behind the four bytes the session ID and the rest are read as over IP, and the limits are four higher.
+over-udp : (checkUdp 1 (udpFront ++ A) ≡ 0) × (checkUdp 2 (udpFront ++ D) ≡ 0) × (checkUdp 1 (udpFront ++ take 7 A) ≡ 2)
+    × (checkUdp 1 (udpFront ++ take 8 A) ≡ 10) × (checkUdp 1 (udpFront ++ A ++ replicate 4080 0) ≡ 10)
+    × (checkUdp 1 (udpFront ++ A ++ replicate 4081 0) ≡ 3) × (checkUdp 1 (udpFront ++ set (set A 2 0) 3 0) ≡ 4)
+    × (checkUdp 1 (udpFront ++ set A 4 0xC1) ≡ 6) × (checkUdp 1 [] ≡ 2) × (sessionId (inUdp A) ≡ 0x101)
+unfolding check checkRefusals rest wanted bodyAt any sumTo mpegAt part
+over-udp = (refl, refl, refl, refl, refl, refl, refl, refl, refl, refl)
+
+-- 15: T set, also with another version; version 2, 0 and 4; version 3 with the bits above it set, and every bit that nobody reads
+version-judged : (checkUdp 1 (0x80 ∷ 3 ∷ 0 ∷ 0 ∷ A) ≡ 15) × (checkUdp 1 (0xC8 ∷ 2 ∷ 0 ∷ 0 ∷ A) ≡ 15) × (checkUdp 1 (0 ∷ 2 ∷ 0 ∷ 0 ∷ A) ≡ 15)
+    × (checkUdp 1 (0 ∷ 0 ∷ 0 ∷ 0 ∷ A) ≡ 15) × (checkUdp 1 (0 ∷ 4 ∷ 0 ∷ 0 ∷ A) ≡ 15) × (checkUdp 1 (0 ∷ 0xF3 ∷ 0 ∷ 0 ∷ A) ≡ 0)
+    × (checkUdp 1 (0x7F ∷ 0x53 ∷ 0xFF ∷ 0xFF ∷ A) ≡ 0) × (checkUdp 1 (0x7F ∷ 0x32 ∷ 3 ∷ 3 ∷ A) ≡ 15)
+unfolding check checkRefusals rest wanted bodyAt any sumTo
+version-judged = (refl, refl, refl, refl, refl, refl, refl, refl)
+
+-- 2 and 3 before 15, 15 before 4 and before 6. Over IP there are no such bytes: an ID that starts like a control message is an ID.
+version-in-order : (checkUdp 1 (0x80 ∷ 2 ∷ 0 ∷ 0 ∷ take 7 A) ≡ 2) × (checkUdp 1 (0x80 ∷ 3 ∷ 0 ∷ 0 ∷ A ++ replicate 4081 0) ≡ 3)
+    × (checkUdp 1 (0x80 ∷ 3 ∷ 0 ∷ 0 ∷ set (set A 2 0) 3 0) ≡ 15) × (checkUdp 1 (0 ∷ 2 ∷ 0 ∷ 0 ∷ set A 4 0xC1) ≡ 15)
+    × (checkIp 1 (set (set A 0 0xC8) 1 2) ≡ 0)
+unfolding check checkRefusals rest wanted bodyAt any sumTo
+version-in-order = (refl, refl, refl, refl, refl)
+
+-- 24: a transport that there is not, before all else, and a kind that there is not
+transports-judged : (check 1 (packetBy 0 A) ≡ 24) × (check 1 (packetBy 3 A) ≡ 24) × (check 1 (packetBy 3 []) ≡ 24)
+    × (check 1 (packetBy 257 A) ≡ 24) × (check 0 (packetBy 0 A) ≡ 24) × (checkUdp 3 [] ≡ 24)
+unfolding check checkRefusals rest wanted bodyAt any sumTo
+transports-judged = (refl, refl, refl, refl, refl, refl)
+
+-- A packet over IP given as one over UDP, and the other way round: the first has no version 3 where it should be, the second is too long by
+-- four bytes that stand where the session ID should be.
+mistaken : (checkUdp 1 A ≡ 15) × (checkIp 1 (udpFront ++ A) ≡ 8) × (sessionId (ip (udpFront ++ A)) ≡ 0x30000)
+unfolding check checkRefusals rest wanted bodyAt any sumTo
+mistaken = (refl, refl, refl)
+
+-- Segments: where one lies is counted from the packet's first byte. Only PSP packets by a transport that there is have any.
+udp-segments : (segmentExtent 1 (inUdp A) 1 ≡ record { start = 22; size = 2 }) × (segmentGiven 1 (inUdp A) 1 ≡ 0x21 ∷ 0x22 ∷ [])
+    × (segmentCause 1 (inUdp A) 1 ≡ 0) × (segmentCause 1 (inUdp A) 2 ≡ 14) × (segmentCause 1 (udp (0x80 ∷ 3 ∷ 0 ∷ 0 ∷ A)) 0 ≡ 15)
+    × (segmentExtent 1 (udp (0x80 ∷ 3 ∷ 0 ∷ 0 ∷ A)) 0 ≡ record { start = 0; size = 0 })
+unfolding segmentGiven segmentExtent segmentCause causeRefusals checkRefusals bodyAt part rest wanted any sumTo
+udp-segments = (refl, refl, refl, refl, refl, refl)
+
+no-segments : (segmentCause 2 (ip D) 0 ≡ 24) × (segmentCause 0 (ip A) 0 ≡ 24) × (segmentCause 3 (ip A) 0 ≡ 24)
+    × (segmentCause 1 (packetBy 0 A) 0 ≡ 24) × (segmentGiven 2 (ip A) 0 ≡ []) × (segmentGiven 1 (packetBy 3 A) 0 ≡ [])
+unfolding segmentGiven segmentExtent segmentCause causeRefusals checkRefusals bodyAt part rest wanted any sumTo
+no-segments = (refl, refl, refl, refl, refl, refl)

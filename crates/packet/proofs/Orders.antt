@@ -3,15 +3,16 @@
 use Prim.Native.Nat.{ℕ, _+_, _*_, _<_, _≤_}
 use mathlib.Core.Path.{_≡_, refl, sym, ap, _∙_}
 use mathlib.Core.Bool.{Bool, true, false, cond}
-use mathlib.Core.List.{List, [], _∷_}
+use mathlib.Core.List.{List, [], _∷_, _++_}
 use native.Mathlib.Omega.{arith}
 use lib.Dec.{eqb, leb}
 use lib.ListN.{length}
-use borrow.Author.Tests.{eq-eqb, ne-eqb, le-leb, lt-leb}
-use Rattle.refusal.specs.Refusal.{_when_, first}
+use borrow.Author.Tests.{eq-eqb, ne-eqb, lt-ltb, le-ltb, le-leb, lt-leb}
+use Rattle.refusal.specs.Refusal.{Refusal, _when_, first}
 use Rattle.refusal.proofs.Laws.{first-passed, first-stopped}
 use Rattle.octets.specs.Count.{any, sumTo}
-use Rattle.packet.specs.Header.{Packet, sub, headerLength, segmentCount, beforeSession}
+use Rattle.packet.specs.Header.{Packet, transportUnknown, lead, notVersion3, sessionId, sub, headerLength, segmentCount}
+use Rattle.packet.specs.Header.{shortestPacket, longestPacket, tooShort, tooLong, beforeSession}
 use Rattle.packet.specs.Segments.{entryWidth, lengthAt, bodyAt}
 use Rattle.packet.specs.Psp.{wanted, badAt, segmentRefusals, pspRefusals}
 use Rattle.packet.specs.Dmpt.{dmptRefusals}
@@ -54,7 +55,37 @@ module _ (width : ℕ) (sub : List ℕ) (count : ℕ) (counted : count ≡ segme
         pub segments-passed : spoilt ≡ false → 0 ≡ first (segmentRefusals width sub)
         segments-passed e = sym (ap (λ (b : Bool). cond b 11 0) e) ∙ by-faults
 
--- The packet check. `early` is what refusals 2 to 4 answered.
+-- Refusals 24, 2, 3, 15 and 4. `before` is what the code has counted before the session ID, and `id` what it has read there.
+module _ (p : Packet) where
+  pub early-unknown : transportUnknown p ≡ true → 24 ≡ first (beforeSession p)
+  early-unknown u = simp u
+
+  module _ (known : transportUnknown p ≡ false) (before : ℕ) (counted : before ≡ lead p) where
+    pub early-short : length (p .bytes) < before + shortestPacket → 2 ≡ first (beforeSession p)
+    early-short h = simp (known, lt-ltb (length (p .bytes)) (lead p + shortestPacket) (omega (arith, counted, h)))
+
+    module _ (enough : before + shortestPacket ≤ length (p .bytes)) where
+      long-enough : tooShort p ≡ false
+      long-enough = le-ltb (length (p .bytes)) (lead p + shortestPacket) (omega (arith, counted, enough))
+
+      pub early-long : before + longestPacket < length (p .bytes) → 3 ≡ first (beforeSession p)
+      early-long h = simp (known, long-enough, lt-ltb (lead p + longestPacket) (length (p .bytes)) (omega (arith, counted, h)))
+
+      module _ (few : length (p .bytes) ≤ before + longestPacket) where
+        short-enough : tooLong p ≡ false
+        short-enough = le-ltb (lead p + longestPacket) (length (p .bytes)) (omega (arith, counted, few))
+
+        pub early-version : notVersion3 p ≡ true → 15 ≡ first (beforeSession p)
+        early-version v = simp (known, long-enough, short-enough, v)
+
+        module _ (version : notVersion3 p ≡ false) (id : ℕ) (read : id ≡ sessionId p) where
+          pub early-control : id ≡ 0 → 4 ≡ first (beforeSession p)
+          early-control z = simp (known, long-enough, short-enough, version, eq-eqb (sessionId p) 0 (sym read ∙ z))
+
+          pub early-none : (id ≡ 0 → ⊥) → 0 ≡ first (beforeSession p)
+          early-none s = simp (known, long-enough, short-enough, version, ne-eqb (sessionId p) 0 (λ z. s (read ∙ z)))
+
+-- The packet check. `early` is what was answered of the refusals that need no session.
 module _ (kind : ℕ) (p : Packet) where
   pub check-unknown : kindUnknown kind ≡ true → 24 ≡ check kind p
   unfolding check checkRefusals
@@ -84,21 +115,34 @@ module _ (kind : ℕ) (p : Packet) where
     pub check-dmpt : early ≡ 0 → (kind ≡ kindPsp → ⊥) → (r : ℕ) → r ≡ first (dmptRefusals (sub p)) → r ≡ check kind p
     check-dmpt z e r h = h ∙ sym (late-part z ∙ simp (ne-eqb kind kindPsp e))
 
--- The cause of a segment's refusal. `refused` is what the PSP check answered.
-module _ (p : Packet) (k refused : ℕ) (judged : refused ≡ check kindPsp p) where
-  pub cause-stopped : (refused ≡ 0 → ⊥) → refused ≡ segmentCause p k
-  unfolding segmentCause causeRefusals check
-  cause-stopped s =
-      judged
-      ∙ sym (first-stopped (checkRefusals kindPsp p) (14 when leb (segmentCount (sub p)) k ∷ []) (λ z. s (judged ∙ z)))
+-- The cause of a segment's refusal. `refused` is what the check answered.
+module _ (kind : ℕ) (p : Packet) (k : ℕ) where
+  pub cause-segmentless : (kind ≡ kindPsp → ⊥) → 24 ≡ segmentCause kind p k
+  unfolding segmentCause causeRefusals
+  cause-segmentless other = simp (ne-eqb kind kindPsp other)
 
-  module _ (passed : refused ≡ 0) where
-    last-line : segmentCause p k ≡ cond (leb (segmentCount (sub p)) k) 14 0
-    unfolding segmentCause causeRefusals check checkRefusals
-    last-line = first-passed (checkRefusals kindPsp p) (14 when leb (segmentCount (sub p)) k ∷ []) refl (sym judged ∙ passed)
+  module _ (psp : kind ≡ kindPsp) (refused : ℕ) (judged : refused ≡ check kind p) where
+    abbrev last : List Refusal
+    last = 14 when leb (segmentCount (sub p)) k ∷ []
 
-    pub cause-outside : segmentCount (sub p) ≤ k → 14 ≡ segmentCause p k
-    cause-outside h = sym (last-line ∙ simp (le-leb (segmentCount (sub p)) k h))
+    as-psp : segmentCause kind p k ≡ first (checkRefusals kindPsp p ++ last)
+    unfolding segmentCause causeRefusals
+    as-psp = ap (λ (n : ℕ). segmentCause n p k) psp
 
-    pub cause-none : k < segmentCount (sub p) → 0 ≡ segmentCause p k
-    cause-none h = sym (last-line ∙ simp (lt-leb (segmentCount (sub p)) k h))
+    checked : refused ≡ first (checkRefusals kindPsp p)
+    unfolding check
+    checked = judged ∙ ap (λ (n : ℕ). check n p) psp
+
+    pub cause-stopped : (refused ≡ 0 → ⊥) → refused ≡ segmentCause kind p k
+    cause-stopped s = checked ∙ sym (as-psp ∙ first-stopped (checkRefusals kindPsp p) last (λ z. s (checked ∙ z)))
+
+    module _ (passed : refused ≡ 0) where
+      last-line : segmentCause kind p k ≡ cond (leb (segmentCount (sub p)) k) 14 0
+      unfolding checkRefusals
+      last-line = as-psp ∙ first-passed (checkRefusals kindPsp p) last refl (sym checked ∙ passed)
+
+      pub cause-outside : segmentCount (sub p) ≤ k → 14 ≡ segmentCause kind p k
+      cause-outside h = sym (last-line ∙ simp (le-leb (segmentCount (sub p)) k h))
+
+      pub cause-none : k < segmentCount (sub p) → 0 ≡ segmentCause kind p k
+      cause-none h = sym (last-line ∙ simp (lt-leb (segmentCount (sub p)) k h))

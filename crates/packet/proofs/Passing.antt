@@ -1,8 +1,8 @@
 -- What a packet that is not refused is known to have, one record for each stretch of the orders. The data call and the theorems above
 -- take their bounds from here: a packet that passes is as long as its parts, so every segment lies in it.
 use Prim.Native.Nat.{ℕ, _+_, _-_, _*_, _%_, _<_, _≤_}
-use mathlib.Core.Path.{_≡_, refl}
-use mathlib.Core.Bool.{true, false, not, _&&_, _||_}
+use mathlib.Core.Path.{_≡_, refl, sym, ap, _∙_}
+use mathlib.Core.Bool.{Bool, true, false, cond, not, _&&_, _||_}
 use mathlib.Core.List.{List, [], _∷_}
 use native.Mathlib.Omega.{arith}
 use native.Mathlib.Nat.{mul-le-mul}
@@ -16,30 +16,39 @@ use Rattle.octets.specs.Count.{any}
 use Rattle.octets.proofs.Counts.{none-at, or-false-left, or-false-right, sum-within}
 use Rattle.octets.proofs.Stretches.{length-rest}
 use Rattle.flow.specs.Flow.{topFlow}
-use Rattle.packet.specs.Header.{Packet, idLength, sessionId, sub, headerLength, sSet, flowId, segmentCount, notPlain, shortestPacket, longestPacket, beforeSession}
+use Rattle.packet.specs.Header.{Packet, transportUnknown, lead, notVersion3, idLength, sessionId, sub, headerLength, sSet, flowId}
+use Rattle.packet.specs.Header.{segmentCount, notPlain, shortestPacket, longestPacket, beforeSession}
 use Rattle.packet.specs.Segments.{entryWidth, entryAt, beginsIn, endsIn, lengthIn, lengthAt, bodyAt}
 use Rattle.packet.specs.Psp.{wanted, badAt, segmentRefusals, pspRefusals}
 use Rattle.packet.specs.Dmpt.{mpegLength, syncByte, carried, mpegCount, mpegAt, dmptRefusals}
 use Rattle.packet.specs.Check.{kindPsp, checkRefusals, check, causeRefusals, segmentCause}
 
--- Refusals 2, 3 and 4 passed.
+-- Refusals 24, 2, 3, 15 and 4 passed.
 pub record EarlyPassed (p : Packet) : Type 0 where
-  pub not-short : p .lead + shortestPacket ≤ length (p .bytes)
-  pub not-long : length (p .bytes) ≤ p .lead + longestPacket
+  pub known : transportUnknown p ≡ false
+  pub not-short : lead p + shortestPacket ≤ length (p .bytes)
+  pub not-long : length (p .bytes) ≤ lead p + longestPacket
+  pub right-version : notVersion3 p ≡ false
   pub no-control : sessionId p ≡ 0 → ⊥
 
 early-of : (p : Packet) → NoneApplies (beforeSession p) → EarlyPassed p
 early-of p n =
-    record { not-short = ltb-false _ _ (n .0); not-long = ltb-false _ _ (n .1 .0); no-control = eqb-false _ _ (n .1 .1 .0) }
+    record {
+      known = n .0;
+      not-short = ltb-false _ _ (n .1 .0);
+      not-long = ltb-false _ _ (n .1 .1 .0);
+      right-version = n .1 .1 .1 .0;
+      no-control = eqb-false _ _ (n .1 .1 .1 .1 .0);
+    }
 
 pub early-passed : (p : Packet) → first (beforeSession p) ≡ 0 → EarlyPassed p
 early-passed p z = early-of p (none-applies (beforeSession p) refl z)
 
 -- what follows the session ID then has a whole header
-pub sub-length : (p : Packet) → p .lead + shortestPacket ≤ length (p .bytes) → length (sub p) + (p .lead + idLength) ≡ length (p .bytes)
-sub-length p h = omega (arith, length-rest (p .bytes) (p .lead + idLength))
+pub sub-length : (p : Packet) → lead p + shortestPacket ≤ length (p .bytes) → length (sub p) + (lead p + idLength) ≡ length (p .bytes)
+sub-length p h = omega (arith, length-rest (p .bytes) (lead p + idLength))
 
-pub sub-whole : (p : Packet) → p .lead + shortestPacket ≤ length (p .bytes) → headerLength ≤ length (sub p)
+pub sub-whole : (p : Packet) → lead p + shortestPacket ≤ length (p .bytes) → headerLength ≤ length (sub p)
 sub-whole p h = omega (arith, sub-length p h)
 
 -- Refusals 9 to 11 passed, PSP: what there is to know of the segments, whatever the header says beside their count.
@@ -146,13 +155,24 @@ check-passed p z =
     let both = none-apart (beforeSession p) (pspRefusals entryWidth (sub p)) (n .1) in
     (early-of p (both .0), psp-of entryWidth (sub p) (both .1))
 
-pub cause-passed : (p : Packet) (k : ℕ) → segmentCause p k ≡ 0 →
-    (check kindPsp p ≡ 0) × (k < segmentCount (sub p))
+psp-cause-passed : (p : Packet) (k : ℕ) → segmentCause kindPsp p k ≡ 0 → (check kindPsp p ≡ 0) × (k < segmentCount (sub p))
 unfolding segmentCause causeRefusals check checkRefusals
-cause-passed p k z =
-    let n = none-applies (causeRefusals p k) refl z in
-    let both = none-apart (checkRefusals kindPsp p) (14 when leb (segmentCount (sub p)) k ∷ []) n in
+psp-cause-passed p k z =
+    let n = none-applies (causeRefusals kindPsp p k) refl z in
+    let both = none-apart (checkRefusals kindPsp p) (14 when leb (segmentCount (sub p)) k ∷ []) (n .1) in
     (none-first (checkRefusals kindPsp p) (both .0), leb-false _ _ (both .1 .0))
+
+-- (only PSP packets have segments)
+cause-psp : (kind : ℕ) (p : Packet) (k : ℕ) → segmentCause kind p k ≡ 0 → kind ≡ kindPsp
+unfolding segmentCause causeRefusals
+cause-psp kind p k z = eqb-true kind kindPsp (by (eqb kind kindPsp) _ z)
+  where
+    by : (b : Bool) (behind : ℕ) → cond (not b) 24 behind ≡ 0 → b ≡ true
+    by true behind e = refl
+    by false behind e = absurd (omega (arith, e))
+
+pub cause-passed : (kind : ℕ) (p : Packet) (k : ℕ) → segmentCause kind p k ≡ 0 → (check kindPsp p ≡ 0) × (k < segmentCount (sub p))
+cause-passed kind p k z = psp-cause-passed p k (ap (λ (n : ℕ). segmentCause n p k) (sym (cause-psp kind p k z)) ∙ z)
 
 -- A table of 127 entries at most, each of 4 bytes at most, is small.
 pub table-small : (width count : ℕ) → width ≤ 4 → count < 128 → width * count ≤ 512

@@ -6,38 +6,40 @@ use mathlib.Core.Path.{_≡_, refl, sym, _∙_}
 use mathlib.Core.List.{List}
 use denote.Ref.{RefT}
 use Rattle.packet.specs.declared.Extent.{Extent}
-use Rattle.packet.specs.Header.{ip}
+use Rattle.packet.specs.Header.{Packet, packetBy}
 use Rattle.packet.specs.Check.{check, segmentCause, segmentExtent, segmentGiven}
 use Rattle.packet.specs.Check.{PermitsCheck, PermitsSegmentCause, PermitsSegmentExtent, PermitsSegment}
 
-pub check-permitted : (kind : ℕ) (packet : List ℕ) → PermitsCheck kind packet (check kind (ip packet))
-check-permitted kind packet = refl
+pub check-permitted : (kind : ℕ) (p : Packet) → PermitsCheck kind p (check kind p)
+check-permitted kind p = refl
 
-pub check-unique : (kind : ℕ) (packet : List ℕ) (a b : ℕ) → PermitsCheck kind packet a → PermitsCheck kind packet b → a ≡ b
-check-unique kind packet a b p q = p ∙ sym q
+pub check-unique : (kind : ℕ) (p : Packet) (a b : ℕ) → PermitsCheck kind p a → PermitsCheck kind p b → a ≡ b
+check-unique kind p a b one other = one ∙ sym other
 
-pub cause-permitted : (packet : List ℕ) (k : ℕ) → PermitsSegmentCause packet k (segmentCause (ip packet) k)
-cause-permitted packet k = refl
+pub cause-permitted : (kind : ℕ) (p : Packet) (k : ℕ) → PermitsSegmentCause kind p k (segmentCause kind p k)
+cause-permitted kind p k = refl
 
-pub cause-unique : (packet : List ℕ) (k a b : ℕ) → PermitsSegmentCause packet k a → PermitsSegmentCause packet k b → a ≡ b
-cause-unique packet k a b p q = p ∙ sym q
+pub cause-unique : (kind : ℕ) (p : Packet) (k a b : ℕ) → PermitsSegmentCause kind p k a → PermitsSegmentCause kind p k b → a ≡ b
+cause-unique kind p k a b one other = one ∙ sym other
 
-pub extent-permitted : (packet : List ℕ) (k : ℕ) → PermitsSegmentExtent packet k (segmentExtent (ip packet) k)
-extent-permitted packet k = refl
+pub extent-permitted : (kind : ℕ) (p : Packet) (k : ℕ) → PermitsSegmentExtent kind p k (segmentExtent kind p k)
+extent-permitted kind p k = refl
 
-pub extent-unique : (packet : List ℕ) (k : ℕ) (a b : Extent) → PermitsSegmentExtent packet k a → PermitsSegmentExtent packet k b → a ≡ b
-extent-unique packet k a b p q = p ∙ sym q
+pub extent-unique : (kind : ℕ) (p : Packet) (k : ℕ) (a b : Extent) →
+    PermitsSegmentExtent kind p k a → PermitsSegmentExtent kind p k b → a ≡ b
+extent-unique kind p k a b one other = one ∙ sym other
 
-pub segment-permitted : (packet : RefT (List ℕ)) (k : ℕ) →
-    PermitsSegment packet k
+pub segment-permitted : (kind transport : ℕ) (packet : RefT (List ℕ)) (k : ℕ) →
+    PermitsSegment kind transport packet k
     (record {
-      ptr = (packet .ptr .0, packet .ptr .1 + (segmentExtent (ip (packet .now)) k) .start);
+      ptr = (packet .ptr .0, packet .ptr .1 + (segmentExtent kind (packetBy transport (packet .now)) k) .start);
       name = packet .name;
-      now = segmentGiven (ip (packet .now)) k;
+      now = segmentGiven kind (packetBy transport (packet .now)) k;
     })
-segment-permitted packet k = record { in-the-packet = refl; at-its-place = refl; its-bytes = refl }
+segment-permitted kind transport packet k = record { in-the-packet = refl; at-its-place = refl; its-bytes = refl }
 
-pub segment-unique : (packet : RefT (List ℕ)) (k : ℕ) (a b : RefT (List ℕ)) → PermitsSegment packet k a → PermitsSegment packet k b →
+pub segment-unique : (kind transport : ℕ) (packet : RefT (List ℕ)) (k : ℕ) (a b : RefT (List ℕ)) →
+    PermitsSegment kind transport packet k a → PermitsSegment kind transport packet k b →
     (a .ptr .0 ≡ b .ptr .0) × (a .ptr .1 ≡ b .ptr .1) × (a .now ≡ b .now)
-segment-unique packet k a b p q =
+segment-unique kind transport packet k a b p q =
     (p .in-the-packet ∙ sym (q .in-the-packet), p .at-its-place ∙ sym (q .at-its-place), p .its-bytes ∙ sym (q .its-bytes))

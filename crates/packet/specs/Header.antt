@@ -1,38 +1,84 @@
--- The fixed part of a data packet (document 01, "Packet layout"; DEPI I05, sections 8.1.3, 8.2 and 8.3). First comes the session ID, of four
--- bytes; 0 marks a control message. What follows it is called `sub`: the sub-layer header and all behind that. Places are counted
--- from the start of `sub`, so the paper's byte 4 is byte 0 here, its byte 5 is byte 1 and its bytes 6-7 are bytes 2-3.
+-- The fixed part of a data packet (document 01, "Packet layout"; DEPI I05, sections 8.1.3, 8.2 and 8.3; document 02, W1). First comes the
+-- session ID, of four bytes; 0 marks a control message. Over UDP four more bytes stand before it (RFC 3931, section 4.1.2.1). What follows
+-- the session ID is called `sub`: the sub-layer header and all behind that. Places are counted from the start of `sub`, so the paper's byte
+-- 4 is byte 0 here, its byte 5 is byte 1 and its bytes 6-7 are bytes 2-3, whatever the transport.
 --
--- Byte 0 of `sub`, from the top bit: V (1), S (1), H (2), X (1), flow ID (3). Byte 1: a reserved bit, segment count (7). Bytes
--- 2-3: sequence number. X and the reserved bit are read by nobody.
+--   |T . . . . . . .|. . . . version|. . . . . . . .|. . . . . . . .|   over UDP alone
+--   |                          session ID                           |
+--   |V S H H X  flow|.    count     |        sequence number        |   `sub` starts here; then segments, or MPEG packets
+--
+-- T, V, S and X are a bit each, and H is two; the version has four bits, the flow ID three, the count of segments seven. X and all that is
+-- drawn as a dot is read by nobody.
 use Prim.Native.Nat.{ℕ, _+_, _/_, _%_}
-use mathlib.Core.Bool.{Bool, not, _||_}
-use mathlib.Core.List.{List, [], _∷_}
+use mathlib.Core.Bool.{Bool, cond, not, _&&_, _||_}
+use mathlib.Core.List.{List, [], _∷_, _++_}
 use lib.Dec.{eqb, ltb}
 use lib.ListN.{length}
 use Rattle.refusal.specs.Refusal.{Refusal, _when_}
 use Rattle.octets.specs.Bytes.{byteAt, be16At, be32At}
 use Rattle.octets.specs.Stretch.{rest}
 
--- A packet as it comes in: its bytes, and how many of them stand before the session ID. Over IP none do.
+-- A packet as it comes in: its bytes, and the number of the transport that it came by, 1 for IP and 2 for UDP. A caller may give any
+-- number.
 pub record Packet : Type 0 where
-  pub lead : ℕ
+  pub transport : ℕ
   pub bytes : List ℕ
 
-abbrev pub ip : List ℕ → Packet
-ip bytes = record { lead = 0; bytes = bytes }
+abbrev pub overIp : ℕ
+overIp = 1
 
--- no transport of L2TPv3 has more before the session ID (RFC 3931, section 4.1.2.1)
-abbrev pub mostLead : ℕ
-mostLead = 4
+abbrev pub overUdp : ℕ
+overUdp = 2
+
+abbrev pub packetBy : ℕ → List ℕ → Packet
+packetBy transport bytes = record { transport = transport; bytes = bytes }
+
+abbrev pub ip : List ℕ → Packet
+ip bytes = packetBy overIp bytes
+
+abbrev pub udp : List ℕ → Packet
+udp bytes = packetBy overUdp bytes
+
+-- A packet as it goes over IP, sent over UDP: what a sender puts before it. (`same-packet` in proofs/Transports.antt: it is the same
+-- packet.)
+abbrev pub udpFront : List ℕ
+udpFront = 0 ∷ 3 ∷ 0 ∷ 0 ∷ []
+
+abbrev pub inUdp : List ℕ → Packet
+inUdp bytes = udp (udpFront ++ bytes)
+
+abbrev pub transportUnknown : Packet → Bool
+transportUnknown p = not (eqb (p .transport) overIp) && not (eqb (p .transport) overUdp)
+
+-- How many bytes stand before the session ID. (Of a transport that there is not nothing is read: it is refused first.)
+abbrev pub udpLead : ℕ
+udpLead = 4
+
+abbrev pub leadOf : ℕ → ℕ
+leadOf transport = cond (eqb transport overUdp) udpLead 0
+
+abbrev pub lead : Packet → ℕ
+lead p = leadOf (p .transport)
+
+-- what stands there: T, which marks a control message, and the version of L2TP
+abbrev pub tSet : List ℕ → Bool
+tSet bytes = eqb (byteAt bytes 0 / 128 % 2) 1
+
+abbrev pub version : List ℕ → ℕ
+version bytes = byteAt bytes 1 % 16
+
+-- refusal 15: T set, or another version than 3; over IP there is neither
+abbrev pub notVersion3 : Packet → Bool
+notVersion3 p = eqb (p .transport) overUdp && (tSet (p .bytes) || not (eqb (version (p .bytes)) 3))
 
 abbrev pub idLength : ℕ
 idLength = 4
 
 abbrev pub sessionId : Packet → ℕ
-sessionId p = be32At (p .bytes) (p .lead)
+sessionId p = be32At (p .bytes) (lead p)
 
 abbrev pub sub : Packet → List ℕ
-sub p = rest (p .bytes) (p .lead + idLength)
+sub p = rest (p .bytes) (lead p + idLength)
 
 -- the sub-layer header: its length, and its fields
 abbrev pub headerLength : ℕ
@@ -64,7 +110,7 @@ number sub = be16At sub 2
 abbrev pub notPlain : List ℕ → Bool
 notPlain sub = vSet sub || not (eqb (hBits sub) 0)
 
--- a packet over IP has 8 to 4,100 bytes
+-- a packet over IP has 8 to 4,100 bytes, and over UDP 12 to 4,104
 abbrev pub shortestPacket : ℕ
 shortestPacket = 8
 
@@ -72,15 +118,17 @@ abbrev pub longestPacket : ℕ
 longestPacket = 4100
 
 abbrev pub tooShort : Packet → Bool
-tooShort p = ltb (length (p .bytes)) (p .lead + shortestPacket)
+tooShort p = ltb (length (p .bytes)) (lead p + shortestPacket)
 
 abbrev pub tooLong : Packet → Bool
-tooLong p = ltb (p .lead + longestPacket) (length (p .bytes))
+tooLong p = ltb (lead p + longestPacket) (length (p .bytes))
 
--- what is judged before anything is known of the session, for PSP and D-MPT alike
+-- What is judged before anything is known of the session, for PSP and D-MPT alike: 24 for the transport, then 2, 3, 15 and 4.
 abbrev pub beforeSession : Packet → List Refusal
 beforeSession p =
-    2 when tooShort p
+    24 when transportUnknown p
+    ∷ 2 when tooShort p
     ∷ 3 when tooLong p
+    ∷ 15 when notVersion3 p
     ∷ 4 when eqb (sessionId p) 0
     ∷ []

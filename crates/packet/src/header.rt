@@ -1,12 +1,22 @@
-// The fixed part of a packet: the session ID, then the sub-layer header (DEPI I05, sections 8.1.3, 8.2 and 8.3).
+// The fixed part of a packet: over UDP four bytes of L2TP (RFC 3931, section 4.1.2.1), then the session ID, then the sub-layer header (DEPI
+// I05, sections 8.1.3, 8.2 and 8.3). Which transport a packet came by is a number that its caller gives.
 ghost use mathlib.Core.Path.{_≡_};
 ghost use Prim.Native.Nat.{_+_, _<_, _≤_};
 ghost use lib.ListN.{length};
 ghost use Rattle.refusal.specs.Refusal.{first};
-ghost use Rattle.packet.specs.Header.{Packet, mostLead, idLength, sessionId, sub, headerLength, vSet, sSet, hBits, flowId, segmentCount, number, notPlain, beforeSession};
+ghost use Rattle.packet.specs.Header.{packetBy, udpLead, leadOf, notVersion3, idLength, sessionId, sub, headerLength, vSet, sSet};
+ghost use Rattle.packet.specs.Header.{hBits, flowId, segmentCount, number, notPlain, beforeSession};
 
-// How many bytes stand before the session ID over IP.
-pub const OVER_IP: usize = 0;
+// The transports as the host program numbers them.
+pub const IP: u32 = 1;
+
+pub const UDP: u32 = 2;
+
+// How many bytes stand before the session ID over UDP; over IP none do.
+const UDP_LEAD: usize = 4;
+
+// The version of L2TP that these bytes must name.
+const VERSION: u8 = 3;
 
 pub const ID_LENGTH: usize = 4;
 
@@ -15,7 +25,7 @@ pub const HEADER_LENGTH: usize = 4;
 // What S is worth in its byte.
 pub const S_BIT: u8 = 64;
 
-// A packet over IP has 8 to 4,100 bytes.
+// A packet over IP has 8 to 4,100 bytes; over UDP the lead comes to both.
 const SHORTEST_PACKET: usize = 8;
 
 const LONGEST_PACKET: usize = 4100;
@@ -27,20 +37,30 @@ pub fn wide(byte: u8) -> usize
     byte as usize
 }
 
-// The session ID; 0 marks a control message.
-pub fn session_id(packet: &[u8], lead: usize) -> u32
-    requires { ⌜ lead + idLength ≤ length (now packet) ⌝ }
-    ensures { λ r. ⌜ r ≡ sessionId (record { lead = lead; bytes = now (packet .entry) }) ⌝ }
+// How many bytes stand before the session ID.
+pub fn lead_of(transport: u32) -> usize
+    ensures { λ r. ⌜ (r ≡ leadOf transport) × (r ≤ udpLead) ⌝ }
 {
-    octets::read_u32(packet, lead)
+    if transport == UDP {
+        return UDP_LEAD;
+    }
+    0
+}
+
+// The session ID; 0 marks a control message.
+pub fn session_id(packet: &[u8], transport: u32) -> u32
+    requires { ⌜ leadOf transport + idLength ≤ length (now packet) ⌝ }
+    ensures { λ r. ⌜ r ≡ sessionId (packetBy transport (now (packet .entry))) ⌝ }
+{
+    octets::read_u32(packet, lead_of(transport))
 }
 
 // What follows the session ID.
-pub fn sub_of(packet: &[u8], lead: usize) -> &[u8]
-    requires { ⌜ lead + idLength ≤ length (now packet) ⌝ }
-    ensures { λ r. ⌜ now r ≡ sub (record { lead = lead; bytes = now (packet .entry) }) ⌝ }
+pub fn sub_of(packet: &[u8], transport: u32) -> &[u8]
+    requires { ⌜ leadOf transport + idLength ≤ length (now packet) ⌝ }
+    ensures { λ r. ⌜ now r ≡ sub (packetBy transport (now (packet .entry))) ⌝ }
 {
-    let from = lead + ID_LENGTH;
+    let from = lead_of(transport) + ID_LENGTH;
     &packet[from..]
 }
 
@@ -96,18 +116,35 @@ pub fn not_plain(sub: &[u8]) -> bool
     v_set(sub) | (h_bits(sub) != 0)
 }
 
-// Refusals 2 to 4, which need no session; or 0, and then the packet has a whole header.
-pub fn refuse_before_session(packet: &[u8], lead: usize) -> u32
-    requires { ⌜ lead ≤ mostLead ⌝ }
-    ensures { λ r. ⌜ r ≡ first (beforeSession (record { lead = lead; bytes = now (packet .entry) })) ⌝ }
+// Refusal 15, over UDP alone: T set, which marks a control message, or another version than 3.
+fn not_version_3(packet: &[u8], transport: u32) -> bool
+    requires { ⌜ idLength ≤ length (now packet) ⌝ }
+    ensures { λ r. ⌜ r ≡ notVersion3 (packetBy transport (now (packet .entry))) ⌝ }
 {
+    if transport != UDP {
+        return false;
+    }
+    (packet[0] / 128 % 2 == 1) | (packet[1] % 16 != VERSION)
+}
+
+// Refusals 24, 2, 3, 15 and 4, which need no session; or 0, and then the packet has a whole header.
+pub fn refuse_before_session(packet: &[u8], transport: u32) -> u32
+    ensures { λ r. ⌜ r ≡ first (beforeSession (packetBy transport (now (packet .entry)))) ⌝ }
+{
+    if (transport != IP) & (transport != UDP) {
+        return refusal::TRANSPORT_UNKNOWN;
+    }
+    let lead = lead_of(transport);
     if packet.len() < lead + SHORTEST_PACKET {
         return refusal::PACKET_TOO_SHORT;
     }
     if lead + LONGEST_PACKET < packet.len() {
         return refusal::PACKET_TOO_LONG;
     }
-    if session_id(packet, lead) == 0 {
+    if not_version_3(packet, transport) {
+        return refusal::NOT_VERSION_3;
+    }
+    if session_id(packet, transport) == 0 {
         return refusal::CONTROL_MESSAGE;
     }
     refusal::NONE

@@ -11,6 +11,7 @@ use Rattle.promises.specs.Isolation.{Isolation, OpenByIds}
 use Rattle.promises.specs.Limits.{WithinLimits, NeverBroken}
 use Rattle.promises.specs.Refusals.{RefusalsChangeNothing}
 use Rattle.promises.specs.Unique.{UniqueOpen, UniqueClose, UniqueReceive, UniqueSend, UniqueCheck, UniqueSegment, UniqueCapture, UniqueFlow}
+use Rattle.promises.specs.Transports.{SamePacket}
 use Rattle.promises.specs.RoundTrip.{SenderKeepsRules, SendingsGoOn, KeepsLimit, RoundTrip}
 use Rattle.promises.specs.Modulator.{CoreToModulator, SentMayTravel, UniqueMpeg}
 use Rattle.promises.specs.Captures.{ReadsBack}
@@ -29,6 +30,7 @@ use Rattle.promises.proofs.Isolation as isolated
 use Rattle.promises.proofs.Limits as limits
 use Rattle.promises.proofs.Refusals as refusals
 use Rattle.promises.proofs.Uniqueness as unique
+use Rattle.promises.proofs.Transports as transports
 use Rattle.promises.proofs.RoundTrip as trip
 use Rattle.promises.proofs.Modulator as modulator
 use Rattle.capture.proofs.ReadsBack as capture
@@ -97,6 +99,10 @@ unique-capture = unique.unique-capture
 
 pub unique-flow : UniqueFlow
 unique-flow = unique.unique-flow
+
+-- Over IP and over UDP: specs/Transports.antt.
+pub same-packet : SamePacket
+same-packet = transports.same-packet
 
 -- Our own sender, and there and back: specs/RoundTrip.antt.
 pub sender-keeps-rules : SenderKeepsRules

@@ -22,8 +22,9 @@ use Rattle.sender.specs.Series.{Job, Turn, askedFor, packetLeft, seriesPackets,
 use Rattle.sender.specs.Rules.{Line, packetAt, KeepsRules, Pieces, FrameSized, Addressed, segmentsOf, wholeFrame, begunFrame, inTurn, allSegments}
 use Rattle.sender.proofs.Keeping.{sent-length, sent-number}
 use Rattle.sender.proofs.Series.{code-is, sends-all}
+use Rattle.sender.proofs.Ways.{keeps-ways}
 use Rattle.promises.specs.Demand.{Sending, Run}
-use Rattle.promises.specs.RoundTrip.{packetsGiven, SenderKeepsRules, SendingsGoOn, KeepsLimit, sendingOf, RoundTrip}
+use Rattle.promises.specs.RoundTrip.{packetsGiven, lineOf, SenderKeepsRules, SendingsGoOn, KeepsLimit, sendingOf, RoundTrip}
 use Rattle.promises.proofs.AllArrive.{inARow, all-packets, in-bound, all-whole, all-kept}
 use Rattle.promises.proofs.Demand.{demand-3}
 
@@ -34,7 +35,7 @@ sender-keeps-rules =
       pieces = λ g. (sends-all (g .job) (g .sound) (g .turns) (g .number) (g .two-bytes) (g .usable) (g .enough)) .0;
       are-sent = λ g.
           let all = sends-all (g .job) (g .sound) (g .turns) (g .number) (g .two-bytes) (g .usable) (g .enough) in
-          record { these-frames = all .1; by-the-rules = all .2 };
+          record { these-frames = all .1; by-the-rules = keeps-ways (lineOf g) (all .0) [] (g .ways) _ (all .2) };
     }
 
 -- No packet is longer than its limit.

@@ -16,7 +16,7 @@ use Rattle.refusal.specs.Refusal.{Refusal, first, _when_}
 use Rattle.refusal.proofs.Laws.{and-right, first-stopped}
 use Rattle.flow.specs.declared.Flow.{Flow}
 use Rattle.flow.specs.Flow.{flows}
-use Rattle.packet.specs.Header.{Packet, tooShort, sub, sessionId}
+use Rattle.packet.specs.Header.{Packet, sub, sessionId}
 use Rattle.table.specs.declared.Request.{Request}
 use Rattle.table.specs.declared.Terms.{Terms}
 use Rattle.table.specs.declared.Table.{Table}
@@ -29,7 +29,7 @@ use Rattle.card.proofs.Accepted.{Accepted, accepted, flow-there, received-code,
 use Rattle.card.proofs.Taking.{large-enough}
 use Rattle.card.proofs.ByKind.{flow-in-row}
 use Rattle.card.proofs.Limits.{accepted-bounded}
-use Rattle.promises.specs.Words.{ofSession, ofFlow, handsTo, closesIt}
+use Rattle.promises.specs.Words.{readable, ofSession, ofFlow, handsTo, closesIt}
 use Rattle.promises.specs.Isolation.{toldBy}
 use Rattle.promises.proofs.Good.{Good, refused-stays}
 use Rattle.promises.proofs.Standing.{Stands, stands-opened}
@@ -82,7 +82,7 @@ module _ (c : Card) (x : Arrival) (session : ℕ) (a : Session) (g : Good c) (v 
   behind = sub packet
 
   its-id : sessionId packet ≡ session
-  its-id = eqb-true (sessionId packet) session (and-right (not (tooShort packet)) (eqb (sessionId packet) session) of-it)
+  its-id = eqb-true (sessionId packet) session (and-right (readable packet) (eqb (sessionId packet) session) of-it)
 
   -- the flow that it names, as the session has it
   abbrev its : ℕ

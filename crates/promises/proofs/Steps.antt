@@ -13,7 +13,8 @@ use Rattle.refusal.specs.Refusal.{Refusal, first, _when_}
 use Rattle.refusal.proofs.Laws.{and-left, and-right, first-passed}
 use Rattle.flow.specs.declared.Flow.{Flow}
 use Rattle.flow.specs.Flow.{flows, longest}
-use Rattle.packet.specs.Header.{Packet, tooShort, sub, sessionId, beforeSession, shortestPacket}
+use Rattle.packet.specs.Header.{Packet, lead, sub, sessionId, beforeSession, shortestPacket}
+use Rattle.packet.proofs.Passing.{EarlyPassed}
 use Rattle.table.specs.declared.Kind.{Kind}
 use Rattle.table.specs.declared.Terms.{Terms}
 use Rattle.table.specs.declared.Row.{Row}
@@ -28,7 +29,7 @@ use Rattle.card.specs.History.{Card, Arrival, Call, opens as opensCall, closes 
 use Rattle.card.proofs.Accepted.{received-code, accepted}
 use Rattle.card.proofs.ByKind.{numbered-packet}
 use Rattle.card.proofs.Step.{StepOf, one-flow-step}
-use Rattle.promises.specs.Words.{ofSession, ofFlow, handsTo, closesIt}
+use Rattle.promises.specs.Words.{readable, ofSession, ofFlow, handsTo, closesIt}
 use Rattle.promises.proofs.Good.{Good, refused-stays}
 use Rattle.promises.proofs.Standing.{Stands, stands-by, found-id, open-stays, close-stays}
 
@@ -36,14 +37,19 @@ use Rattle.promises.proofs.Standing.{Stands, stands-by, found-id, open-
 pub of-session : (kind : Kind) (session flow : ℕ) (p : Packet) → ofFlow kind session flow p ≡ true → (sessionId p ≡ session) × (flowIn kind (sub p) ≡ flow)
 of-session kind session flow p e =
     let its = and-left (ofSession session p) (eqb (flowIn kind (sub p)) flow) e in (
-      eqb-true (sessionId p) session (and-right (not (tooShort p)) (eqb (sessionId p) session) its),
+      eqb-true (sessionId p) session (and-right (readable p) (eqb (sessionId p) session) its),
       eqb-true (flowIn kind (sub p)) flow (and-right (ofSession session p) (eqb (flowIn kind (sub p)) flow) e),
     )
 
-is-of : (kind : Kind) (session flow : ℕ) (p : Packet) → tooShort p ≡ false → sessionId p ≡ session → flowIn kind (sub p) ≡ flow →
+-- a packet that is not refused before its session is sought is readable
+early-readable : (p : Packet) → EarlyPassed p → readable p ≡ true
+early-readable p passed =
+    rw (passed .known, le-ltb (length (p .bytes)) (lead p + shortestPacket) (passed .not-short), passed .right-version) refl
+
+is-of : (kind : Kind) (session flow : ℕ) (p : Packet) → readable p ≡ true → sessionId p ≡ session → flowIn kind (sub p) ≡ flow →
     ofFlow kind session flow p ≡ true
-is-of kind session flow p long id k =
-    rw (long, eq-eqb (sessionId p) session id, eq-eqb (flowIn kind (sub p)) flow k) refl
+is-of kind session flow p read id k =
+    rw (read, eq-eqb (sessionId p) session id, eq-eqb (flowIn kind (sub p)) flow k) refl
 
 -- two sessions that are open in one row are one
 one-row : (t : Table) (a b : ℕ) → find t a < rows → find t b < rows → find t a ≡ find t b → a ≡ b
@@ -98,7 +104,8 @@ module _ (c : Card) (a : Arrival) (g : Good c) (z : answer c (hands a) .code ≡
     apart not-of e q =
         let ok = accepted (c .table) packet lent z in
         let same : sessionId packet ≡ session = sym (one-row (c .table) session (sessionId packet) (s .is-there) (ok .found) e) in
-        true≢false (sym (is-of (terms .kind) session flow packet (le-ltb (length (packet .bytes)) (packet .lead + shortestPacket) (ok .early .not-short)) same (its-kind e ∙ sym q)) ∙ not-of)
+        let its-own = is-of (terms .kind) session flow packet (early-readable packet (ok .early)) same (its-kind e ∙ sym q) in
+        true≢false (sym its-own ∙ not-of)
 
     same-record : ofFlow (terms .kind) session flow packet ≡ false → flowAt (rowAt (d .table) r) flow ≡ flowAt (rowAt (c .table) r) flow
     unfolding after

@@ -3,7 +3,7 @@
 use Prim.Native.Nat.{_+_}
 use Rattle.flow.specs.Flow.{fresh, judge}
 use Rattle.flow.proofs.Unique.{fresh-permitted, fresh-unique, judge-permitted, judge-unique}
-use Rattle.packet.specs.Header.{ip}
+use Rattle.packet.specs.Header.{packetBy}
 use Rattle.packet.specs.Check as packet
 use Rattle.packet.proofs.Unique as packet-laws
 use Rattle.table.specs.Rows.{empty}
@@ -45,34 +45,34 @@ pub unique-send : UniqueSend
 unique-send a = record { outcome = sent a; permitted = send-permitted a; only-one = send-unique a }
 
 pub unique-check : UniqueCheck
-unique-check kind bytes =
+unique-check kind p =
     record {
-      outcome = packet.check kind (ip bytes);
-      permitted = packet-laws.check-permitted kind bytes;
-      only-one = packet-laws.check-unique kind bytes;
+      outcome = packet.check kind p;
+      permitted = packet-laws.check-permitted kind p;
+      only-one = packet-laws.check-unique kind p;
     }
 
 -- a segment's body is the stretch of the packet that the definition says, with those bytes
 pub unique-segment : UniqueSegment
-unique-segment slice k = (
+unique-segment kind transport slice k = (
   record {
     outcome = record {
-      ptr = (slice .ptr .0, slice .ptr .1 + (packet.segmentExtent (ip (slice .now)) k) .start);
+      ptr = (slice .ptr .0, slice .ptr .1 + (packet.segmentExtent kind (packetBy transport (slice .now)) k) .start);
       name = slice .name;
-      now = packet.segmentGiven (ip (slice .now)) k;
+      now = packet.segmentGiven kind (packetBy transport (slice .now)) k;
     };
-    permitted = packet-laws.segment-permitted slice k;
-    only-one = packet-laws.segment-unique slice k;
+    permitted = packet-laws.segment-permitted kind transport slice k;
+    only-one = packet-laws.segment-unique kind transport slice k;
   },
   record {
-    outcome = packet.segmentCause (ip (slice .now)) k;
-    permitted = packet-laws.cause-permitted (slice .now) k;
-    only-one = packet-laws.cause-unique (slice .now) k;
+    outcome = packet.segmentCause kind (packetBy transport (slice .now)) k;
+    permitted = packet-laws.cause-permitted kind (packetBy transport (slice .now)) k;
+    only-one = packet-laws.cause-unique kind (packetBy transport (slice .now)) k;
   },
   record {
-    outcome = packet.segmentExtent (ip (slice .now)) k;
-    permitted = packet-laws.extent-permitted (slice .now) k;
-    only-one = packet-laws.extent-unique (slice .now) k;
+    outcome = packet.segmentExtent kind (packetBy transport (slice .now)) k;
+    permitted = packet-laws.extent-permitted kind (packetBy transport (slice .now)) k;
+    only-one = packet-laws.extent-unique kind (packetBy transport (slice .now)) k;
   },
 )
 

@@ -8,6 +8,7 @@ pub mod Isolation
 pub mod Limits
 pub mod Refusals
 pub mod Unique
+pub mod Transports
 pub mod RoundTrip
 pub mod Modulator
 pub mod Captures

@@ -1,29 +1,32 @@
--- There and back. Frames are given to our own sender again and again, each call from where the one before ended, with any limits and outputs that 32
--- and 36 let pass. Its packets, handed in on a fresh flow in that order, come out as the frames that went in, whatever is called for others between
+-- There and back. Frames are given to our own sender again and again, each call from where the one before ended, with any limits and
+-- outputs that 32 and 36 let pass. Its packets go over IP as they are, or over UDP with 00 03 00 00 before them, in any mixture. Handed in
+-- on a fresh flow in the order in which they were sent, they come out as the frames that went in, whatever is called for others between
 -- them. Over a network within the bound what comes out is, by demand 3, the frames that arrived whole.
 use Prim.Native.Nat.{ℕ, _+_, _≤_, _<_}
 use mathlib.Core.Path.{_≡_}
+use mathlib.Core.Bool.{Bool}
 use mathlib.Core.List.{List, [], _++_, map}
 use lib.ListN.{length}
 use Rattle.octets.specs.Stretch.{joined, cutBy}
 use Rattle.octets.specs.Each.{Each}
 use Rattle.flow.specs.Numbers.{modulus, numberAt}
-use Rattle.packet.specs.Header.{Packet, ip, idLength}
+use Rattle.packet.specs.Header.{Packet, idLength}
 use Rattle.card.specs.History.{Call, opens, answer, after, afterAll, emptyCard}
 use Rattle.sender.specs.declared.Position.{Position}
 use Rattle.sender.specs.Send.{Asked, sent}
-use Rattle.sender.specs.Series.{Job, Turn, Sound, Usable, startOfFrame, seriesPackets, seriesNumber}
+use Rattle.sender.specs.Series.{Job, Turn, Sound, Usable, startOfFrame, seriesPackets, seriesNumber, goOut}
 use Rattle.sender.specs.Rules.{Pieces, Line, KeepsRules}
 use Rattle.promises.specs.Words.{packetsTo, framesOut, LongEnough, StaysOpen}
 use Rattle.promises.specs.Arrivals.{Kept}
 use Rattle.promises.specs.Demand.{Sending, opening, kindOn, Run, WholeIn, comesOut}
 
 -- An address and frames that 31 and 33 do not refuse, a number of two bytes, and calls enough to send them: each sends at least one byte, and those
--- behind the last frame are refused by 35 and send nothing.
+-- behind the last frame are refused by 35 and send nothing. And the ways that the packets take, over IP or over UDP.
 pub record Given : Type 0 where
   pub job : Job
   pub number : ℕ
   pub turns : List Turn
+  pub ways : List Bool
   pub sound : Sound job
   pub two-bytes : number < modulus
   pub usable : Each Usable turns
@@ -32,9 +35,9 @@ pub record Given : Type 0 where
 abbrev pub framesGiven : Given → List (List ℕ)
 framesGiven g = cutBy (g .job .lens) (g .job .bytes)
 
--- the sender's packets, as they go over IP, and where they go
+-- the sender's packets, as they go out, and where they go
 abbrev pub packetsGiven : Given → List Packet
-packetsGiven g = map ip (seriesPackets (g .job) (g .number) (startOfFrame 0) (g .turns))
+packetsGiven g = goOut (g .ways) (seriesPackets (g .job) (g .number) (startOfFrame 0) (g .turns))
 
 abbrev pub lineOf : Given → Line
 lineOf g = record { session = g .job .session; flow = g .job .flow; start = g .number }

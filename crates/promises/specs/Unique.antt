@@ -8,7 +8,7 @@ use denote.Ref.{RefT}
 use Rattle.flow.specs.declared.Flow.{Flow}
 use Rattle.flow.specs.Flow.{PermitsFresh, PermitsJudge}
 use Rattle.packet.specs.Check as packet
-use Rattle.packet.specs.Header.{Packet}
+use Rattle.packet.specs.Header.{Packet, packetBy}
 use Rattle.table.specs.declared.Request.{Request}
 use Rattle.table.specs.declared.Table.{Table}
 use Rattle.table.specs.Rows.{PermitsEmpty}
@@ -47,13 +47,14 @@ UniqueSend = (a : Asked) → One (PermitsSend a)
 
 -- `unique-check`, and `unique-segment` with its cause and where it lies
 abbrev pub UniqueCheck : Type 0
-UniqueCheck = (kind : ℕ) (bytes : List ℕ) → One (packet.PermitsCheck kind bytes)
+UniqueCheck = (kind : ℕ) (p : Packet) → One (packet.PermitsCheck kind p)
 
 abbrev pub UniqueSegment : Type 0
 UniqueSegment =
-    (slice : RefT (List ℕ)) (k : ℕ) →
-    OneOutcome SameSlice (packet.PermitsSegment slice k)
-    × One (packet.PermitsSegmentCause (slice .now) k) × One (packet.PermitsSegmentExtent (slice .now) k)
+    (kind transport : ℕ) (slice : RefT (List ℕ)) (k : ℕ) →
+    let p = packetBy transport (slice .now) in
+    OneOutcome SameSlice (packet.PermitsSegment kind transport slice k)
+    × One (packet.PermitsSegmentCause kind p k) × One (packet.PermitsSegmentExtent kind p k)
 
 -- `unique-capture`: the check of a capture file, and an entry's body
 abbrev pub UniqueCapture : Type 0

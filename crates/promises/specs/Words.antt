@@ -1,22 +1,25 @@
 -- Words that the promises share: which calls of a history are for a session or for one of its flows, what comes out of these, and when
--- they have room. A packet with under 8 bytes from its session ID on is for no session: it is refused, by 2 or by what comes before 2,
--- and nobody reads a session ID in it.
+-- they have room. A packet is for no session where nobody reads a session ID in it: of a transport that there is not (24), too short (2),
+-- over UDP with T set or another version than 3 (15).
 use Prim.Native.Nat.{ℕ, _≤_}
 use mathlib.Core.Path.{_≡_}
-use mathlib.Core.Bool.{Bool, true, false, cond, not, _&&_}
+use mathlib.Core.Bool.{Bool, true, false, cond, not, _&&_, _||_}
 use mathlib.Core.List.{List, [], _∷_, _++_}
 use lib.Dec.{eqb}
 use lib.ListN.{length}
 use Rattle.octets.specs.Each.{Each}
-use Rattle.packet.specs.Header.{Packet, tooShort, sub, sessionId}
+use Rattle.packet.specs.Header.{Packet, transportUnknown, tooShort, notVersion3, sub, sessionId}
 use Rattle.table.specs.declared.Kind.{Kind}
 use Rattle.join.specs.Slices.{mostBytes, mostFrames}
 use Rattle.card.specs.Hear.{flowIn}
 use Rattle.card.specs.Receive.{holdingSize}
 use Rattle.card.specs.History.{Card, Arrival, Call, opens, closes, hands, framesOf, answer, after}
 
+abbrev pub readable : Packet → Bool
+readable p = not (transportUnknown p || tooShort p || notVersion3 p)
+
 abbrev pub ofSession : ℕ → Packet → Bool
-ofSession session p = not (tooShort p) && eqb (sessionId p) session
+ofSession session p = readable p && eqb (sessionId p) session
 
 -- of this flow of a session of this kind
 abbrev pub ofFlow : Kind → ℕ → ℕ → Packet → Bool

@@ -13,7 +13,7 @@ use Rattle.octets.specs.Count.{sumTo, upTo}
 use Rattle.octets.specs.Stretch.{part, joined, lengths, cutBy}
 use Rattle.octets.proofs.Counts.{sum-below}
 use Rattle.octets.proofs.Stretches.{part-short, length-rest, joined-append}
-use Rattle.packet.specs.Header.{Packet, ip, idLength, sub, segmentCount}
+use Rattle.packet.specs.Header.{Packet, lead, idLength, sub, segmentCount}
 use Rattle.packet.specs.Segments.{lengthAt, bodyAt}
 use Rattle.packet.specs.Psp.{wanted, pspRefusals}
 use Rattle.packet.specs.Dmpt.{carried, dmptRefusals}
@@ -29,7 +29,7 @@ use Rattle.card.proofs.Accepted as call
 use Rattle.card.proofs.Limits.{bodyBytes, accepted-bounded, held-length, held-none}
 use Rattle.capture.specs.File.{Entry, headLength, entryLength, longestFile, openPsp, openDmpt, closing, entryCount, bodyLength, bodyStart, fileRefusal, nthEntry}
 use Rattle.capture.proofs.Checking.{is-sound}
-use Rattle.listing.specs.Run.{Running, asks, callOf, answerTo, runOne, begin, standing, answerAt}
+use Rattle.listing.specs.Run.{Running, asks, packetOf, callOf, answerTo, runOne, begin, standing, answerAt}
 use Rattle.listing.proofs.Standing.{frames-short}
 use Rattle.listing.proofs.Histories.{startCard, callAt, run-card}
 use Rattle.promises.specs.Account.{packetBody, takenBy}
@@ -74,7 +74,7 @@ module _ (c : Card) (x : Arrival) where
         accepted-bounded (c .table) packet slices a .all,
         held-length (c .table) packet slices a,
         body-few (termsAt (c .table) row) behind (a .passed),
-        length-rest (packet .bytes) (packet .lead + idLength),
+        length-rest (packet .bytes) (lead packet + idLength),
       )
 
   hands-few : (n : ℕ) → received (c .table) packet slices .answer .code ≡ n → length (takenBy c (hands x)) ≤ length (packet .bytes)
@@ -88,7 +88,7 @@ module _ (c : Card) (x : Arrival) where
 
 -- .. and so does an entry
 abbrev lent : Running → Entry → Arrival
-lent r e = record { packet = ip (e .body); output = r .output; lengths = r .lengths }
+lent r e = record { packet = packetOf e; output = r .output; lengths = r .lengths }
 
 entry-few : (r : Running) (e : Entry) → length (takenBy (r .card) (callOf r e)) ≤ length (e .body)
 entry-few r e = by (eqb (e .kind) openPsp) (eqb (e .kind) openDmpt) (eqb (e .kind) closing)

@@ -3,30 +3,33 @@
 -- is filled up, and there is no null packet. A capture that is refused comes to one line, as in a listing, and so does a frame that W3 does not
 -- let travel, by 52.
 use Prim.Native.Nat.{ℕ, zero, suc}
-use mathlib.Core.Bool.{Bool, true, not, cond, _&&_}
+use mathlib.Core.Bool.{Bool, true, not, cond, _&&_, _||_}
 use mathlib.Core.List.{List, [], _∷_, _++_}
-use lib.Dec.{eqb, leb}
+use lib.Dec.{eqb}
 use lib.ListN.{length}
+use Rattle.refusal.specs.Refusal.{first}
 use Rattle.octets.specs.Stretch.{joined}
-use Rattle.packet.specs.Header.{ip, idLength, sessionId}
+use Rattle.packet.specs.Header.{sessionId, beforeSession}
 use Rattle.table.specs.declared.Table.{Table}
 use Rattle.table.specs.Rows.{isDmpt, termsAt, find}
 use Rattle.table.specs.Calls.{isOpen}
 use Rattle.card.specs.History.{framesOf}
-use Rattle.capture.specs.File.{Entry, dataEntry, headLength, entryCount, fileRefusal, nthEntry}
-use Rattle.listing.specs.Run.{standing, answerAt}
+use Rattle.capture.specs.File.{Entry, dataEntry, dataOverUdp, headLength, entryCount, fileRefusal, nthEntry}
+use Rattle.listing.specs.Run.{packetOf, standing, answerAt}
 use Rattle.listing.specs.Listing.{refusedLine}
 use Rattle.mpeg.specs.Frame.{good}
 use Rattle.mpeg.specs.Packet.{none}
 use Rattle.mpeg.specs.Run.{Backlog, waitingIn, packetNext, afterNext}
 
--- the session is open as PSP; an entry is a packet for it then
+-- The session is open as PSP; an entry is a packet for it then, by either transport. (What is refused without its session delivers
+-- nothing.)
 abbrev pub openAsPsp : Table → ℕ → Bool
 openAsPsp t id = isOpen t id && not (isDmpt (termsAt t (find t id) .kind))
 
 abbrev pub isFor : ℕ → Table → Entry → Bool
 isFor session t e =
-    eqb (e .kind) dataEntry && (leb idLength (length (e .body)) && (eqb (sessionId (ip (e .body))) session && openAsPsp t session))
+    (eqb (e .kind) dataEntry || eqb (e .kind) dataOverUdp)
+    && (eqb (first (beforeSession (packetOf e))) 0 && (eqb (sessionId (packetOf e)) session && openAsPsp t session))
 
 -- the frames that entry k delivers on the session; those of all entries before entry k; and those of the whole capture
 unfoldable pub framesAt : ℕ → List ℕ → ℕ → List (List ℕ)

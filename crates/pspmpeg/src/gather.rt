@@ -12,6 +12,7 @@ ghost use Rattle.pspmpeg.specs.Stream.{isFor, framesAt, delivered};
 ghost use Rattle.pspmpeg.specs.Steps.{mostGathered, Fits, FitsFound, Adds, Gathers};
 use capture::reader;
 use listing::Walk;
+use listing::run;
 use packet::header;
 use table::Table;
 
@@ -42,17 +43,15 @@ fn is_for(table: Table, kind: u8, body: &[u8], session: u32) -> bool
     requires { ⌜ broken table ≡ false ⌝ }
     ensures { λ r. ⌜ r ≡ isFor session table (record { kind = kind; body = now (body .entry) }) ⌝ }
 {
-    if kind != capture::DATA {
+    if (kind != capture::DATA) & (kind != capture::DATA_OVER_UDP) {
         return false;
     }
-    if body.len() < header::ID_LENGTH {
+    let transport = run::transport_of(kind);
+    if header::refuse_before_session(body, transport) != refusal::NONE {
         return false;
     }
-    if octets::read_u32(body, 0) != session {
+    if header::session_id(body, transport) != session {
         return false;
-    }
-    if session == 0 {
-        return false; // it is never open
     }
     let at = table::find_row(table, session);
     if table::ROWS <= at {

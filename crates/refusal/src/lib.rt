@@ -1,6 +1,6 @@
-// Every refusal number of document 01 that the code gives so far, by name, lowest first; no other file of Rattle code writes one as a
-// numeral. 0 says that nothing was refused. (In specs/ it is the other way round: there the refusal lists
-// have the paper's numerals, so that they can be held against its table.)
+// Every refusal number of documents 01 and 02 that the code gives so far, by name, lowest first; no other file of Rattle code writes one as
+// a numeral. 0 says that nothing was refused. (In specs/ it is the other way round: there the refusal lists have the paper's numerals, so
+// that they can be held against its table.)
 
 pub const NONE: u32 = 0;
 
@@ -38,6 +38,9 @@ pub const TABLE_BROKEN: u32 = 13;
 // A segment that was asked for by its number.
 pub const SEGMENT_OUTSIDE: u32 = 14;
 
+// The four bytes before the session ID over UDP.
+pub const NOT_VERSION_3: u32 = 15;
+
 // An open.
 pub const OPEN_WITHOUT_ID: u32 = 21;
 
@@ -45,8 +48,10 @@ pub const ALREADY_OPEN: u32 = 22;
 
 pub const ALL_ROWS_OPEN: u32 = 23;
 
-// The kind that a packet check or an open is asked for by its number.
+// The kind that a packet check, a segment request or an open names by its number; and the transport of a packet, which has the same number.
 pub const KIND_UNKNOWN: u32 = 24;
+
+pub const TRANSPORT_UNKNOWN: u32 = 24;
 
 // A close.
 pub const CLOSE_OF_NONE: u32 = 25;

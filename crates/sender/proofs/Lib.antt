@@ -7,6 +7,7 @@ pub mod Sending
 pub mod Keeping
 pub mod Frames
 pub mod Series
+pub mod Ways
 pub mod Unique
 pub mod Examples
 pub mod Alike

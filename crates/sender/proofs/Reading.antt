@@ -257,13 +257,10 @@ module _ (session flow number : ℕ) (segs : List Segment) where
 
     early-passes : NoneApplies (beforeSession (ip (packetOf session flow number segs)))
     early-passes =
-        let n = length-packet in (
-          le-ltb (length (packetOf session flow number segs)) shortestPacket (omega arith),
-          (
-            le-ltb longestPacket (length (packetOf session flow number segs)) (omega (arith, w .not-long)),
-            (rw reads-session (ne-eqb session 0 (w .to-session)), tt),
-          ),
-        )
+        let n = length-packet in
+        let long-enough = le-ltb (length (packetOf session flow number segs)) shortestPacket (omega arith) in
+        let short-enough = le-ltb longestPacket (length (packetOf session flow number segs)) (omega (arith, w .not-long)) in
+        (refl, (long-enough, (short-enough, (refl, (rw reads-session (ne-eqb session 0 (w .to-session)), tt)))))
 
     -- It passes the check, ..
     pub written-passes : check kindPsp (ip (packetOf session flow number segs)) ≡ 0

@@ -2,12 +2,12 @@
 -- all of them; the limit and the output may be others each time. The series stops at the first call that is refused.
 use Prim.Native.Nat.{ℕ, _+_, _<_, _≤_}
 use mathlib.Core.Path.{_≡_}
-use mathlib.Core.Bool.{false, cond}
+use mathlib.Core.Bool.{Bool, false, cond}
 use mathlib.Core.List.{List, [], _∷_}
 use lib.Dec.{eqb}
 use lib.ListN.{length}
 use Rattle.octets.specs.Stretch.{part}
-use Rattle.packet.specs.Header.{idLength}
+use Rattle.packet.specs.Header.{Packet, ip, inUdp, idLength}
 use Rattle.sender.specs.declared.Position.{Position}
 use Rattle.sender.specs.Send.{Asked, badAddress, badLimit, badFrames, SendOutcome, sent}
 
@@ -73,3 +73,10 @@ seriesNumber job number at [] = number
 seriesNumber job number at (turn ∷ more) =
     let o = sent (askedFor job number at turn) in
     cond (eqb (o .answer .code) 0) (seriesNumber job (o .answer .number) (o .answer .position) more) number
+
+-- The packets of a series as they go out: each over IP as it is, or over UDP with 00 03 00 00 before it (document 02, W1). `ways` says of
+-- each from the first on whether it goes over UDP; those behind its end go over IP.
+unfoldable pub goOut : List Bool → List (List ℕ) → List Packet
+goOut ways [] = []
+goOut [] (p ∷ more) = ip p ∷ goOut [] more
+goOut (way ∷ ways) (p ∷ more) = cond way (inUdp p) (ip p) ∷ goOut ways more

@@ -5,7 +5,7 @@
 // A call is given all that it may touch and keeps none of it: there is no state here, no heap, and no pointer outlives its call.
 pub mod modulator;
 
-ghost use Rattle.packet.specs.Header.{ip};
+ghost use Rattle.packet.specs.Header.{packetBy};
 ghost use Rattle.packet.specs.Check.{PermitsCheck, PermitsSegmentCause, PermitsSegmentExtent};
 ghost use Rattle.table.specs.Calls.{PermitsOpenByNumber, PermitsClose};
 ghost use Rattle.join.specs.Slices.{asSlices};
@@ -35,44 +35,46 @@ pub extern "C" fn sklyapina_close(table: Table, id: u32) -> Closing
     table::close(table, id)
 }
 
-// The packet check: the first refusal that a packet of this kind (1 PSP, 2 D-MPT) meets whatever the table, or 0.
+// The packet check: the first refusal that a packet of this kind (1 PSP, 2 D-MPT), by this transport (1 IP, 2 UDP), meets whatever the
+// table, or 0.
 #[no_mangle]
-pub extern "C" fn sklyapina_check(kind: u32, packet: &[u8]) -> u32
-    ensures { λ r. ⌜ PermitsCheck kind (now (packet .entry)) r ⌝ }
+pub extern "C" fn sklyapina_check(kind: u32, transport: u32, packet: &[u8]) -> u32
+    ensures { λ r. ⌜ PermitsCheck kind (packetBy transport (now (packet .entry))) r ⌝ }
 {
-    packet::check(kind, packet)
+    packet::check(kind, transport, packet)
 }
 
-// Why segment k of a PSP packet is refused, or 0.
+// Why segment k of a packet is refused, or 0. Only PSP packets have segments.
 #[no_mangle]
-pub extern "C" fn sklyapina_segment_cause(packet: &[u8], k: usize) -> u32
-    ensures { λ r. ⌜ PermitsSegmentCause (now (packet .entry)) k r ⌝ }
+pub extern "C" fn sklyapina_segment_cause(kind: u32, transport: u32, packet: &[u8], k: usize) -> u32
+    ensures { λ r. ⌜ PermitsSegmentCause kind (packetBy transport (now (packet .entry))) k r ⌝ }
 {
-    packet::segment_cause(packet, k)
+    packet::segment_cause(kind, transport, packet, k)
 }
 
-// Where segment k of a PSP packet stands in it. (The stretch itself, a reference, cannot cross to C.)
+// Where segment k of a packet stands in it. (The stretch itself, a reference, cannot cross to C.)
 #[no_mangle]
-pub extern "C" fn sklyapina_segment(packet: &[u8], k: usize) -> Extent
-    ensures { λ r. ⌜ PermitsSegmentExtent (now (packet .entry)) k r ⌝ }
+pub extern "C" fn sklyapina_segment(kind: u32, transport: u32, packet: &[u8], k: usize) -> Extent
+    ensures { λ r. ⌜ PermitsSegmentExtent kind (packetBy transport (now (packet .entry))) k r ⌝ }
 {
-    packet::segment_extent(packet, k)
+    packet::segment_extent(kind, transport, packet, k)
 }
 
 // Takes a packet: delivers the frames that it completes, and holds what it begins; or refuses it, and then nothing has changed.
 #[no_mangle]
 pub extern "C" fn sklyapina_receive(
     table: Table,
+    transport: u32,
     holding: &mut [u8],
     packet: &[u8],
     output: &mut [u8],
     lengths: &mut [u16],
 ) -> Received
-    ensures { λ r. ⌜ PermitsReceive table (ip (now (packet .entry)))
+    ensures { λ r. ⌜ PermitsReceive table (packetBy transport (now (packet .entry)))
         (asSlices (now (holding .entry)) (now (output .entry)) (now (lengths .entry)))
         (record { answer = r; slices = asSlices (now (holding .exit)) (now (output .exit)) (now (lengths .exit)) }) ⌝ }
 {
-    card::receive(table, holding, packet, output, lengths)
+    card::receive(table, transport, holding, packet, output, lengths)
 }
 
 // Writes the next packet of these frames for a flow of a session at the front of the output; or refuses, and then nothing has changed.

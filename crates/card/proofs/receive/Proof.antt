@@ -1,15 +1,18 @@
 -- `card::receive` is right since the order of refusals is that of `seek` and behind it that of the session's row; and a row that is put back
 -- as it was leaves the table as it was.
-use Rattle.packet.specs.Header.{ip}
+use Rattle.packet.specs.Header.{Packet, packetBy}
 use Rattle.join.specs.Slices.{asSlices, Slices}
 use Rattle.card.proofs.Receiving.{permits, ready, receive-is}
 use borrow.Author.Needs.{needs}
 use Rattle.card.proofs.receive.Statement.{statement}
 use Rattle.card.proofs.receive.Tie as tie
 
--- from where the code has sought the session back to its start, and the slices as they were lent
+-- from where the code has sought the session back to its start, and what it was given
 abbrev start : tie.After-seek → tie.Start
 start w = w .before .before .before .before .before
+
+abbrev packet : tie.Start → Packet
+packet s = packetBy (s .args .transport) (s .args .packet .now)
 
 abbrev lent : tie.Start → Slices
 lent s = asSlices (s .args .holding .now) (s .args .output .now) (s .args .lengths .now)
@@ -27,7 +30,7 @@ take-requires : tie.Need-take-requires
 take-requires c κs =
     let w = c .before .before .before .before in
     let s = start w in
-    (w .seek .ensures .in-table, λ z. ready (s .args .table) (ip (s .args .packet .now)) (lent s) (w .seek .result) (w .seek .ensures) z)
+    (w .seek .ensures .in-table, λ z. ready (s .args .table) (packet s) (lent s) (w .seek .result) (w .seek .ensures) z)
 
 mul-after : tie.Need-mul-after
 mul-after c = search needs
@@ -49,7 +52,7 @@ returns c =
     let t = c .before .before .before .before .before .before .before in
     let w = t .before .before .before .before .before in
     let s = start w in
-    permits (receive-is (s .args .table) (ip (s .args .packet .now)) (lent s) (w .seek .result) _ (w .seek .ensures) (t .take .ensures))
+    permits (receive-is (s .args .table) (packet s) (lent s) (w .seek .result) _ (w .seek .ensures) (t .take .ensures))
 
 pub receive-spec : {M : Type 1} → statement M
 receive-spec =

@@ -5,7 +5,7 @@ use mathlib.Core.Bool.{Bool, false}
 use native.Mathlib.Omega.{arith}
 use lib.ListN.{length}
 use Rattle.refusal.specs.Refusal.{first}
-use Rattle.packet.specs.Header.{Packet, idLength, sessionId, beforeSession}
+use Rattle.packet.specs.Header.{Packet, packetBy, lead, idLength, sessionId, beforeSession}
 use Rattle.packet.proofs.Passing.{early-passed}
 use Rattle.table.specs.declared.Table.{Table}
 use Rattle.table.specs.Broken.{broken}
@@ -23,7 +23,7 @@ abbrev table : tie.After-too-small → Table
 table w = start w .args .table
 
 abbrev packet : tie.After-too-small → Packet
-packet w = record { lead = start w .args .lead; bytes = start w .args .packet .now }
+packet w = packetBy (start w .args .transport) (start w .args .packet .now)
 
 abbrev small : tie.After-too-small → Bool
 small w = smallBy (start w .args .holding) (start w .args .output) (start w .args .lengths)
@@ -42,7 +42,7 @@ passed : (e : tie.Else3) → first (beforeSession (packet (sizes e))) ≡ 0
 passed e = sym (e .before .refuse-before-session .ensures) ∙ e .if3 .left
 
 -- so the session ID lies in the packet, and is not 0
-id-inside : (e : tie.Else3) → packet (sizes e) .lead + idLength ≤ length (packet (sizes e) .bytes)
+id-inside : (e : tie.Else3) → lead (packet (sizes e)) + idLength ≤ length (packet (sizes e) .bytes)
 id-inside e = omega (arith, early-passed (packet (sizes e)) (passed e) .not-short)
 
 named : (e : tie.Else3) (id : ℕ) → id ≡ sessionId (packet (sizes e)) → id ≡ 0 → ⊥

@@ -5,7 +5,7 @@ use mathlib.Core.Path.{_≡_, sym, ap, _∙_}
 use native.Mathlib.Omega.{arith}
 use lib.ListN.{length}
 use Rattle.flow.specs.Flow.{flows}
-use Rattle.packet.specs.Header.{Packet, sub, headerLength, flowId}
+use Rattle.packet.specs.Header.{Packet, packetBy, sub, headerLength, flowId}
 use Rattle.table.specs.declared.Row.{Row}
 use Rattle.join.specs.Slices.{asSlices, Slices}
 use Rattle.join.specs.Placed.{Roomy}
@@ -22,7 +22,7 @@ abbrev row : tie.Start → Row
 row s = s .args .t2
 
 abbrev packet : tie.Start → Packet
-packet s = record { lead = s .args .lead; bytes = s .args .packet .now }
+packet s = packetBy (s .args .transport) (s .args .packet .now)
 
 abbrev lent : tie.Start → Slices
 lent s = asSlices (s .args .holding .now) (s .args .output .now) (s .args .lengths .now)

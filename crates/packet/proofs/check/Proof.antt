@@ -1,11 +1,11 @@
--- `packet::check` asks about the kind, then 2 to 4, then the kind's own refusals: the order of `checkRefusals`.
+-- `packet::check` asks about the kind, then what needs no session, then the kind's own refusals: the order of `checkRefusals`.
 use mathlib.Core.Path.{_≡_, ap, sym, _∙_}
 use mathlib.Core.List.{List}
 use Prim.Native.Nat.{ℕ, _≤_}
 use native.Mathlib.Omega.{arith}
 use lib.ListN.{length}
 use Rattle.refusal.specs.Refusal.{first}
-use Rattle.packet.specs.Header.{Packet, ip, headerLength, beforeSession}
+use Rattle.packet.specs.Header.{Packet, packetBy, headerLength, beforeSession}
 use Rattle.packet.specs.Segments.{entryWidth}
 use Rattle.packet.specs.Psp.{pspRefusals}
 use Rattle.packet.specs.Dmpt.{dmptRefusals}
@@ -15,7 +15,11 @@ use borrow.Author.Needs.{needs}
 use Rattle.packet.proofs.check.Statement.{statement}
 use Rattle.packet.proofs.check.Tie as tie
 
--- where 2 to 4 have passed; where the packet is cut; and the way back from there
+-- what the code was given
+abbrev packet : tie.Start → Packet
+packet s = packetBy (s .args .transport) (s .args .packet .now)
+
+-- where what needs no session has passed, and the way back from there
 abbrev Passed : Type 0
 Passed = tie.Else2
 
@@ -23,27 +27,27 @@ abbrev start : Passed → tie.Start
 start c = c .before .before .before .before
 
 abbrev packetOf : Passed → Packet
-packetOf c = ip (start c .args .packet .now)
+packetOf c = packet (start c)
 
 none-early : (c : Passed) → first (beforeSession (packetOf c)) ≡ 0
 none-early c = sym (c .before .refuse-before-session .ensures) ∙ c .if2 .left
 
--- what is cut from a packet that passed 2 to 4 has a whole header
+-- what is cut from a packet that passed has a whole header
 cut-whole : (c : tie.After-sub-of) → headerLength ≤ length (c .sub-of .result .now)
 cut-whole c =
     let p = packetOf (c .before) in
     rw (c .sub-of .ensures) (sub-whole p (early-passed p (none-early (c .before)) .not-short))
 
 returns : tie.Need-returns
-returns c = check-unknown (c .before .before .args .kind) (ip (c .before .before .args .packet .now)) (c .if1 .taken)
+returns c = check-unknown (c .before .before .args .kind) (packet (c .before .before)) (c .if1 .taken)
 
 refuse-before-session-requires : tie.Need-refuse-before-session-requires
 refuse-before-session-requires c κs = search needs
 
 returns-2 : tie.Need-returns-2
 returns-2 c =
-    let a = c .before .before .before .before .args in
-    check-early (a .kind) (ip (a .packet .now)) (c .before .before .if1 .left) _ (c .before .refuse-before-session .ensures) (c .if2 .taken)
+    let s = c .before .before .before .before in
+    check-early (s .args .kind) (packet s) (c .before .before .if1 .left) _ (c .before .refuse-before-session .ensures) (c .if2 .taken)
 
 sub-of-requires : tie.Need-sub-of-requires
 sub-of-requires c κs = omega (arith, early-passed (packetOf c) (none-early c) .not-short)

@@ -6,16 +6,20 @@ use lib.ListN.{length}
 use Rattle.octets.specs.Stretch.{part}
 use Rattle.octets.proofs.Stretches.{sliced-part}
 use Rattle.packet.specs.declared.Extent.{Extent}
-use Rattle.packet.specs.Header.{ip}
+use Rattle.packet.specs.Header.{Packet, packetBy}
 use Rattle.packet.specs.Check.{segmentGiven}
 use Rattle.packet.proofs.Asked.{extent-inside}
 use borrow.Author.Needs.{needs}
 use Rattle.packet.proofs.segment.Statement.{statement}
 use Rattle.packet.proofs.segment.Tie as tie
 
+-- what the code was given
+abbrev packet : tie.Start → Packet
+packet s = packetBy (s .args .transport) (s .args .packet .now)
+
 inside : (c : tie.After-segment-extent) →
     c .segment-extent .result .start + c .segment-extent .result .size ≤ length (c .before .before .args .packet .now)
-inside c = rw (c .segment-extent .ensures) (extent-inside (ip (c .before .before .args .packet .now)) (c .before .before .args .k))
+inside c = let s = c .before .before in rw (c .segment-extent .ensures) (extent-inside (s .args .kind) (packet s) (s .args .k))
 
 segment-extent-requires : tie.Need-segment-extent-requires
 segment-extent-requires c κs = search needs

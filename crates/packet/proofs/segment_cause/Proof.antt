@@ -1,53 +1,77 @@
--- `packet::segment_cause` asks the PSP check, and then whether the packet has a segment k: the order of `causeRefusals`.
+-- `packet::segment_cause` asks about the kind, then the check, and then whether the packet has a segment k: the order of `causeRefusals`.
+use Prim.Native.Nat.{ℕ}
 use mathlib.Core.Path.{_≡_, ap, sym, _∙_}
 use native.Mathlib.Omega.{arith}
-use Rattle.packet.specs.Header.{Packet, ip, segmentCount, sub}
+use Rattle.packet.specs.Header.{Packet, packetBy, segmentCount, sub}
+use Rattle.packet.specs.Check.{check}
 use Rattle.packet.proofs.Passing.{EarlyPassed, check-passed, sub-whole}
-use Rattle.packet.proofs.Orders.{cause-stopped, cause-outside, cause-none}
+use Rattle.packet.proofs.Orders.{cause-segmentless, cause-stopped, cause-outside, cause-none}
 use borrow.Author.Needs.{needs}
 use Rattle.packet.proofs.segment_cause.Statement.{statement}
 use Rattle.packet.proofs.segment_cause.Tie as tie
 
--- where the check has passed, and where the segments are counted; and the way back from there
-abbrev packetOf : tie.Else1 → Packet
-packetOf c = ip (c .before .before .before .args .packet .now)
+-- what the code was given
+abbrev packet : tie.Start → Packet
+packet s = packetBy (s .args .transport) (s .args .packet .now)
 
-abbrev checked : tie.After-segment-count → tie.Else1
-checked c = c .before .before
+-- from where the check has answered, and where the segments are counted, back to the start
+abbrev start : tie.After-check → tie.Start
+start w = w .before .before .before
 
-passed : (c : tie.Else1) → EarlyPassed (packetOf c)
-passed c = check-passed (packetOf c) (sym (c .before .check .ensures) ∙ c .if1 .left) .0
+abbrev checked : tie.After-segment-count → tie.After-check
+checked n = n .before .before .before
 
-counted : (c : tie.After-segment-count) → c .segment-count .result ≡ segmentCount (sub (packetOf (checked c)))
-counted c = c .segment-count .ensures .0 ∙ ap segmentCount (c .before .sub-of .ensures)
+passed : (e : tie.Else2) → EarlyPassed (packet (start (e .before)))
+passed e =
+    let w = e .before in
+    let as-psp = ap (λ (n : ℕ). check n (packet (start w))) (w .before .if1 .left) in
+    check-passed (packet (start w)) (sym as-psp ∙ sym (w .check .ensures) ∙ e .if2 .left) .0
+
+counted : (n : tie.After-segment-count) → n .segment-count .result ≡ segmentCount (sub (packet (start (checked n))))
+counted n = n .segment-count .ensures .0 ∙ ap segmentCount (n .before .sub-of .ensures)
+
+returns : tie.Need-returns
+returns c = let s = c .before .before in cause-segmentless (s .args .kind) (packet s) (s .args .k) (c .if1 .taken)
 
 check-requires : tie.Need-check-requires
 check-requires c κs = search needs
 
-returns : tie.Need-returns
-returns c =
-    let a = c .before .before .before .args in
-    cause-stopped (ip (a .packet .now)) (a .k) _ (c .before .check .ensures) (c .if1 .taken)
+returns-2 : tie.Need-returns-2
+returns-2 c =
+    let w = c .before in
+    let s = start w in
+    cause-stopped (s .args .kind) (packet s) (s .args .k) (w .before .if1 .left) _ (w .check .ensures) (c .if2 .taken)
 
 sub-of-requires : tie.Need-sub-of-requires
 sub-of-requires c κs = omega (arith, passed c .not-short)
 
 segment-count-requires : tie.Need-segment-count-requires
-segment-count-requires c κs = rw (c .sub-of .ensures) (sub-whole (packetOf (c .before)) (passed (c .before) .not-short))
-
-returns-2 : tie.Need-returns-2
-returns-2 c =
-    let p = checked (c .before) in
-    cause-outside (packetOf p) (p .before .before .before .args .k) _ (p .before .check .ensures) (p .if1 .left)
-    (omega (arith, counted (c .before), c .if2 .taken))
+segment-count-requires c κs = rw (c .sub-of .ensures) (sub-whole (packet (start (c .before .before))) (passed (c .before) .not-short))
 
 returns-3 : tie.Need-returns-3
 returns-3 c =
-    let p = checked (c .before) in
-    cause-none (packetOf p) (p .before .before .before .args .k) _ (p .before .check .ensures) (p .if1 .left)
-    (omega (arith, counted (c .before), c .if2 .left))
+    let n = c .before in
+    let w = checked n in
+    let s = start w in
+    cause-outside (s .args .kind) (packet s) (s .args .k) (w .before .if1 .left) _ (w .check .ensures) (n .before .before .if2 .left)
+    (omega (arith, counted n, c .if3 .taken))
+
+returns-4 : tie.Need-returns-4
+returns-4 c =
+    let n = c .before in
+    let w = checked n in
+    let s = start w in
+    cause-none (s .args .kind) (packet s) (s .args .k) (w .before .if1 .left) _ (w .check .ensures) (n .before .before .if2 .left)
+    (omega (arith, counted n, c .if3 .left))
 
 pub segment-cause-spec : {M : Type 1} → statement M
 segment-cause-spec =
     tie.close
-    (tie.spec check-requires returns sub-of-requires segment-count-requires returns-2 returns-3)
+    (tie.spec
+    returns
+    check-requires
+    returns-2
+    sub-of-requires
+    segment-count-requires
+    returns-3
+    returns-4)
