@@ -24,23 +24,25 @@ static struct sklyapina_table given, back, expected;
 enum { CHECK, OPEN, CLOSE, RECEIVE, SEND, SEGMENT_CAUSE, SEGMENT, CALLS };
 
 static const struct call calls[CALLS] = {
-    {"check", false, 2, {"kind", "packet length"}, 1, {"code"}, 11, {0, 2, 3, 4, 6, 7, 8, 9, 10, 11, 24}},
+    {"check", false, 3, {"kind", "transport", "packet length"},
+     1, {"code"}, 12, {0, 2, 3, 4, 6, 7, 8, 9, 10, 11, 15, 24}},
     {"open", true, 2, {"id", "kind"}, 1, {"code"}, 6, {0, 13, 21, 22, 23, 24}},
     {"close", true, 1, {"id"}, 2, {"code", "dropped"}, 3, {0, 13, 25}},
-    {"receive", true, 4, {"holding length", "packet length", "output length", "lengths length"},
-     5, {"code", "frames", "bytes", "dropped", "gap"}, 14, {0, 1, 2, 3, 4, 5, 6, 7, 8, 9, 10, 11, 12, 13}},
+    {"receive", true, 5, {"transport", "holding length", "packet length", "output length", "lengths length"},
+     5, {"code", "frames", "bytes", "dropped", "gap"}, 16, {0, 1, 2, 3, 4, 5, 6, 7, 8, 9, 10, 11, 12, 13, 15, 24}},
     {"send", false, 9,
      {"session", "flow", "number", "limit", "frames length", "lengths length", "frame", "offset", "output length"},
      5, {"code", "number", "length", "frame", "offset"}, 7, {0, 31, 32, 33, 34, 35, 36}},
-    {"segment_cause", false, 2, {"packet length", "k"}, 1, {"code"}, 11, {0, 2, 3, 4, 6, 7, 8, 9, 10, 11, 14}},
-    {"segment", false, 2, {"packet length", "k"}, 2, {"place", "length"}, 0, {0}},
+    {"segment_cause", false, 4, {"kind", "transport", "packet length", "k"},
+     1, {"code"}, 13, {0, 2, 3, 4, 6, 7, 8, 9, 10, 11, 14, 15, 24}},
+    {"segment", false, 4, {"kind", "transport", "packet length", "k"}, 2, {"place", "length"}, 0, {0}},
 };
 
 static void make_call(unsigned call, const uint64_t *in, uint64_t *out)
 {
     switch (call) {
     case CHECK:
-        out[0] = sklyapina_check((uint32_t)in[0], lend(PACKET, in[1]), in[1]);
+        out[0] = sklyapina_check((uint32_t)in[0], (uint32_t)in[1], lend(PACKET, in[2]), in[2]);
         break;
     case OPEN: {
         struct sklyapina_opening opening = sklyapina_open(given, (uint32_t)in[0], (uint32_t)in[1]);
@@ -57,8 +59,8 @@ static void make_call(unsigned call, const uint64_t *in, uint64_t *out)
     }
     case RECEIVE: {
         struct sklyapina_received received = sklyapina_receive(
-            given, lend(HOLDING, in[0]), in[0], lend(PACKET, in[1]), in[1],
-            lend(OUTPUT, in[2]), in[2], lend_numbers(LENGTHS, in[3]), in[3]);
+            given, (uint32_t)in[0], lend(HOLDING, in[1]), in[1], lend(PACKET, in[2]), in[2],
+            lend(OUTPUT, in[3]), in[3], lend_numbers(LENGTHS, in[4]), in[4]);
         out[0] = received.code;
         out[1] = received.frames;
         out[2] = received.bytes;
@@ -80,10 +82,11 @@ static void make_call(unsigned call, const uint64_t *in, uint64_t *out)
         break;
     }
     case SEGMENT_CAUSE:
-        out[0] = sklyapina_segment_cause(lend(PACKET, in[0]), in[0], in[1]);
+        out[0] = sklyapina_segment_cause((uint32_t)in[0], (uint32_t)in[1], lend(PACKET, in[2]), in[2], in[3]);
         break;
     case SEGMENT: {
-        struct sklyapina_stretch stretch = sklyapina_segment(lend(PACKET, in[0]), in[0], in[1]);
+        struct sklyapina_stretch stretch =
+            sklyapina_segment((uint32_t)in[0], (uint32_t)in[1], lend(PACKET, in[2]), in[2], in[3]);
         out[0] = stretch.place;
         out[1] = stretch.length;
         break;

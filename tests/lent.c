@@ -178,8 +178,9 @@ uint16_t *lend_numbers(unsigned number, uint64_t count)
 /* ---- Comparing ---- */
 
 enum { MOST_CASES = 256, LONGEST_NAME = 256, MOST_CALLS = 8, CODES = 64 };
-/* Elements of an array that are printed at a difference: any packet that is not too long, and a byte more. */
-enum { MOST_SHOWN = 4101 };
+/* Elements of an array that are printed at a difference: any packet that is not too long, by either transport, and a
+ * byte more. */
+enum { MOST_SHOWN = 4105 };
 
 static char case_names[MOST_CASES][LONGEST_NAME];
 static unsigned case_count;

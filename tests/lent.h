@@ -37,7 +37,7 @@ enum { HOLDING, PACKET, OUTPUT, LENGTHS, FRAMES, FRAME_LENGTHS, ARRAYS };
 uint8_t *lend(unsigned array, uint64_t count);
 uint16_t *lend_numbers(unsigned array, uint64_t count);
 
-enum { MOST_INPUTS = 9, MOST_ANSWERS = 5, MOST_CODES = 14 };
+enum { MOST_INPUTS = 9, MOST_ANSWERS = 5, MOST_CODES = 16 };
 
 struct call {
     const char *name;

@@ -1,11 +1,13 @@
 //! Packets aimed at a table: for its sessions and flows, with numbers around those expected and lengths that bring what
-//! is held close to 2,048 bytes. Most are sound.
+//! is held close to 2,048 bytes. Most are sound, and come by either transport.
 
+use crate::calls::Arrival;
 use crate::card::{FLOWS, LONGEST_FRAME};
 use crate::craft::{header, BEGIN, END, MIDDLE, S, WHOLE};
 use crate::dice::Dice;
-use crate::generate::damage_packet;
-use crate::packet::{HEADER_BYTES, LONGEST_PACKET, MPEG_BYTES, MPEG_SYNC};
+use crate::generate::{carry, damage_packet};
+use crate::packet::{Packet, HEADER_BYTES, LONGEST_PACKET, MPEG_BYTES, MPEG_SYNC};
+use crate::packets::OTHER_TRANSPORTS;
 use crate::raw::{RawFlow, RawRow, RawTable, DMPT};
 use crate::tables::{new_id, some_number};
 
@@ -15,7 +17,7 @@ const MOST_MPEG_PACKETS: usize = 21;
 const AHEAD: [u16; 16] = [0, 0, 0, 0, 0, 0, 0, 0, 0, 1, 2, 300, 32_767, 32_768, 65_534, 65_535];
 
 /// A packet for some session of the table, now and then for none, and now and then damaged.
-pub fn packet(dice: &mut Dice, table: &RawTable) -> Vec<u8> {
+pub fn packet(dice: &mut Dice, table: &RawTable) -> Arrival {
     let open: Vec<RawRow> = table.rows.iter().copied().filter(RawRow::is_open).collect();
     let row = if open.is_empty() || dice.percent(3) {
         let new = new_id(dice, table);
@@ -26,14 +28,27 @@ pub fn packet(dice: &mut Dice, table: &RawTable) -> Vec<u8> {
     };
     let flow = dice.below(FLOWS);
     let ahead = dice.pick(&AHEAD);
-    let mut packet = for_flow(dice, &row, flow, ahead);
+    let bytes = for_flow(dice, &row, flow, ahead);
+    let mut packet = carry(dice, 50, &bytes);
     if dice.percent(10) {
         damage_packet(dice, &mut packet);
     }
-    packet
+    arrival(dice, packet)
 }
 
-/// A sound packet for a flow of a row (flow 0 of a D-MPT row), that far ahead of what is expected there.
+/// A packet with the number of its transport, now and then with that of the other or with one that there is not.
+pub fn arrival(dice: &mut Dice, packet: Packet) -> Arrival {
+    let arrival = Arrival::from(packet);
+    let transport = match dice.below(40) {
+        0 | 1 => dice.below(4) as u32,
+        2 => dice.pick(&OTHER_TRANSPORTS),
+        _ => arrival.transport,
+    };
+    Arrival { transport, ..arrival }
+}
+
+/// A sound packet for a flow of a row (flow 0 of a D-MPT row), that far ahead of what is expected there; from its session
+/// ID on, as all that follow.
 pub fn for_flow(dice: &mut Dice, row: &RawRow, flow: usize, ahead: u16) -> Vec<u8> {
     let flow = if row.kind == DMPT { 0 } else { flow };
     let state = row.flows[flow];
@@ -121,8 +136,9 @@ mod tests {
             let table = sound(&mut dice);
             for row in table.rows.iter().filter(|row| row.is_open()) {
                 let flow = dice.below(FLOWS);
-                let packet = for_flow(&mut dice, row, flow, 0);
-                assert_eq!(check(u64::from(row.kind), &packet, Faults::NONE), 0);
+                let bytes = for_flow(&mut dice, row, flow, 0);
+                let Packet { transport, bytes } = carry(&mut dice, 50, &bytes);
+                assert_eq!(check(u64::from(row.kind), u64::from(transport.number()), &bytes, Faults::NONE), 0);
             }
         }
     }

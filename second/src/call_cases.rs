@@ -2,30 +2,33 @@
 //! depend on a seed. Each function is one theme; the cases are named in `records`.
 
 use crate::aimed;
-use crate::calls::{Array, Lent, Sending, HOLDING_BYTES, MOST_BYTES};
+use crate::calls::{Array, Arrival, Lent, Sending, HOLDING_BYTES, MOST_BYTES};
 use crate::capture::{Capture, Entry};
 use crate::card::{FLOWS, LONGEST_FRAME, ROWS};
-use crate::craft::{dmpt, header, psp, BEGIN, END, MIDDLE, S, WHOLE};
+use crate::craft::{carried, dmpt, header, over_udp, psp, BEGIN, END, MIDDLE, S, SOUND_LEADS, WHOLE, WRONG_LEADS};
 use crate::dice::Dice;
 use crate::directed;
 use crate::faults::Faults;
-use crate::packet::{HEADER_BYTES, LONGEST_PACKET, MPEG_BYTES};
-use crate::packets;
+use crate::generate::carry;
+use crate::packet::{Transport, HEADER_BYTES, LONGEST_PACKET, MPEG_BYTES};
+use crate::packets::{self, Question, OTHER_TRANSPORTS};
 use crate::raw::{RawFlow, RawRow, RawTable, CLOSED, DMPT, PSP};
 use crate::records::{Recorded, Recorder};
 use crate::sender::MOST_FRAMES;
 use crate::tables::{self, new_id, FOREIGN_KINDS};
+use crate::transport_cases;
 
 const MOST_SEGMENTS: usize = 127;
-const PSP_ID: u32 = 0x0000_0101;
-const DMPT_ID: u32 = 0xFFFF_FFFE;
-const STRANGER: u32 = 0x0101_0000;
+pub const PSP_ID: u32 = 0x0000_0101;
+pub const DMPT_ID: u32 = 0xFFFF_FFFE;
+pub const STRANGER: u32 = 0x0101_0000;
 /// Places of segments that are beyond any count, some of them 0 or 1 to who reads only some of the bits.
 const FAR: [u64; 8] = [128, 255, 256, 65_536, 1 << 32, (1 << 32) + 1, 1 << 63, u64::MAX];
 
 /// All directed calls; short themes come first, so that a fault is soon found.
 pub fn all(recorder: &mut Recorder) -> Recorded<()> {
     first(recorder)?;
+    transport_cases::all(recorder)?;
     slices(recorder)?;
     opens(recorder)?;
     closes(recorder)?;
@@ -36,8 +39,10 @@ pub fn all(recorder: &mut Recorder) -> Recorded<()> {
     fullest_packets(recorder)?;
     checks(recorder)?;
     broken_tables(recorder)?;
-    refusals_psp(recorder)?;
-    refusals_dmpt(recorder)?;
+    for transport in Transport::ALL {
+        refusals(recorder, PSP, transport)?;
+        refusals(recorder, DMPT, transport)?;
+    }
     segments(recorder)?;
     packets_received(recorder)?;
     for capture in directed::captures() {
@@ -46,20 +51,23 @@ pub fn all(recorder: &mut Recorder) -> Recorded<()> {
     sends_to_the_end(recorder)
 }
 
-/// Each call once or twice: packets A and B of document 01 received and sent.
+/// Each call a few times: packets A and B of document 01 received, by both transports, and sent.
 fn first(recorder: &mut Recorder) -> Recorded<()> {
     let case = "first calls";
     let a = [header(PSP_ID, 0x41, 2, 0xFFFF), vec![0xC0, 6, 0x80, 2, 1, 2, 3, 4, 5, 6, 7, 8]].concat();
     let b = [header(PSP_ID, 0x41, 1, 0), vec![0x40, 7, 9, 10, 11, 12, 13, 14, 15]].concat();
     recorder.open(case, &RawTable::default(), 7, DMPT)?;
     recorder.open(case, &recorder.table(), PSP_ID, PSP)?;
-    for packet in [&a, &b, &b] {
-        recorder.receive(case, &recorder.table(), packet)?;
+    for (transport, packet) in [(Transport::Ip, &a), (Transport::Udp, &b), (Transport::Ip, &b)] {
+        recorder.receive(case, &recorder.table(), &carried(transport, 0, packet).into())?;
     }
     recorder.close(case, &recorder.table(), PSP_ID)?;
-    recorder.check(case, PSP, &a)?;
-    recorder.segment(case, &a, 1)?;
-    recorder.segment(case, &a, 2)?;
+    for transport in Transport::ALL {
+        let arrival = carried(transport, 0, &a).into();
+        recorder.check(case, PSP, &arrival)?;
+        recorder.segment(case, PSP, &arrival, 1)?;
+        recorder.segment(case, PSP, &arrival, 2)?;
+    }
     let sending = sending(&[6, 9]);
     recorder.send(case, &sending)?;
     recorder.send(case, &Sending { number: 0, frame: 1, offset: 2, ..sending })?;
@@ -69,45 +77,56 @@ fn first(recorder: &mut Recorder) -> Recorded<()> {
 /// The packet check, on the directed packets of `packets`.
 fn checks(recorder: &mut Recorder) -> Recorded<()> {
     for question in packets::directed() {
-        recorder.check(check_case(question.kind), question.kind, &question.packet)?;
+        recorder.check(check_case(&question), question.kind, &question.arrival)?;
     }
     Ok(())
 }
 
-pub fn check_case(kind: u32) -> &'static str {
-    if kind == PSP || kind == DMPT {
-        "packets checked"
-    } else {
-        "packets checked as kinds that there are not"
+pub fn check_case(question: &Question) -> &'static str {
+    let kind = [PSP, DMPT].contains(&question.kind);
+    let transport = Transport::ALL.iter().any(|transport| transport.number() == question.arrival.transport);
+    match (kind, transport) {
+        (true, true) => "packets checked",
+        (false, true) => "packets checked as kinds that there are not",
+        (true, false) => "packets checked by transports that there are not",
+        (false, false) => "packets checked as kinds and by transports that there are not",
     }
+}
+
+/// The segment count that a packet announces, 0 where it ends before that.
+pub fn count_of(arrival: &Arrival) -> u64 {
+    let lead = if arrival.transport == Transport::Udp.number() { Transport::Udp.lead() } else { 0 };
+    arrival.bytes.get(lead + 5).map_or(0, |byte| u64::from(byte & 0x7F))
 }
 
 /// Segments of the same packets: the first, the last, the one after it, and others in turn; and each of 127.
 fn segments(recorder: &mut Recorder) -> Recorded<()> {
-    let mut before = Vec::new();
-    for (turn, packet) in packets::directed().map(|question| question.packet).enumerate() {
-        if packet == before || packet.len() > LONGEST_PACKET + 1 {
+    for (turn, packet) in packets::all().into_iter().enumerate() {
+        if packet.after_lead().len() > LONGEST_PACKET + 1 {
             continue;
         }
-        let count = packet.get(5).map_or(0, |byte| u64::from(byte & 0x7F));
-        if crate::packet::check(u64::from(PSP), &packet, Faults::NONE) == 0 {
-            recorder.segment("segments of packets", &packet, count - 1)?;
-            recorder.segment("segments of packets", &packet, turn as u64 % count)?;
-            recorder.segment("segments beyond the count", &packet, count)?;
+        let arrival = Arrival::from(packet);
+        let count = count_of(&arrival);
+        if crate::calls::check(PSP, &arrival, Faults::NONE).code() == 0 {
+            recorder.segment("segments of packets", PSP, &arrival, count - 1)?;
+            recorder.segment("segments of packets", PSP, &arrival, turn as u64 % count)?;
+            recorder.segment("segments beyond the count", PSP, &arrival, count)?;
         } else {
             let k = [0, count, 5, u64::MAX][turn % 4];
-            recorder.segment("segments of packets that are refused", &packet, k)?;
+            recorder.segment("segments of packets that are refused", PSP, &arrival, k)?;
         }
-        before = packet;
     }
     let segments: Vec<(u16, usize)> = (1..=MOST_SEGMENTS).map(|place| (WHOLE, 1 + place % 5)).collect();
-    let packet = psp(PSP_ID, 3, 9, &segments);
-    for k in 0..MOST_SEGMENTS as u64 {
-        recorder.segment("each of 127 segments", &packet, k)?;
-    }
-    for k in [MOST_SEGMENTS as u64].iter().chain(&FAR) {
-        recorder.segment("segments beyond the count", &packet, *k)?;
-        recorder.segment("segments beyond the count", &psp(PSP_ID, 0, 9, &[(WHOLE, 2)]), *k)?;
+    for transport in Transport::ALL {
+        let most = carried(transport, 1, &psp(PSP_ID, 3, 9, &segments)).into();
+        for k in 0..MOST_SEGMENTS as u64 {
+            recorder.segment("each of 127 segments", PSP, &most, k)?;
+        }
+        let one = carried(transport, 1, &psp(PSP_ID, 0, 9, &[(WHOLE, 2)])).into();
+        for k in [MOST_SEGMENTS as u64].iter().chain(&FAR) {
+            recorder.segment("segments beyond the count", PSP, &most, *k)?;
+            recorder.segment("segments beyond the count", PSP, &one, *k)?;
+        }
     }
     Ok(())
 }
@@ -196,8 +215,8 @@ fn calls_of_each_sort(
     // A packet is of the kind that the row has where nothing is wrong with it.
     let in_question = RawRow { kind: breach.neighbour.rows[breach.row].kind, ..table.rows[breach.row] };
     for addressed in [in_question, table.rows[(breach.row + 1) % ROWS]] {
-        let packet = aimed::for_flow(dice, &addressed, breach.flow, 0);
-        recorder.receive(case, table, &packet)?;
+        let bytes = aimed::for_flow(dice, &addressed, breach.flow, 0);
+        recorder.receive(case, table, &carry(dice, 50, &bytes).into())?;
         recorder.close(case, table, addressed.id)?;
     }
     let id = new_id(dice, table);
@@ -206,7 +225,7 @@ fn calls_of_each_sort(
 }
 
 /// A table with PSP and D-MPT sessions open, each row with something in it.
-fn busy_table() -> RawTable {
+pub fn busy_table() -> RawTable {
     let mut table = tables::sound_open(&mut Dice::new(0xB5));
     let flow = |expected: u16, held: u16| RawFlow { heard: 1, expected, held };
     table.rows[2] = RawRow { id: PSP_ID, kind: PSP, flows: [flow(100, 3), flow(100, 2), flow(0, 0), flow(7, 9)] };
@@ -223,37 +242,56 @@ fn slices(recorder: &mut Recorder) -> Recorded<()> {
     for holding in [0, 1, HOLDING_BYTES - 1, HOLDING_BYTES, HOLDING_BYTES + 1, Array::Holding.capacity()] {
         for output in [0, 1, MOST_BYTES - 1, MOST_BYTES, MOST_BYTES + 1, Array::Output.capacity()] {
             for lengths in [0, 1, MOST_FRAMES - 1, MOST_FRAMES, MOST_FRAMES + 1, Array::Lengths.capacity()] {
-                let packet = aimed::psp(&mut dice, PSP_ID, S | 1, 100, &[(END, 4), (WHOLE, 5), (BEGIN, 6)]);
-                recorder.receive_with("slices of each length", &table, Lent { holding, output, lengths }, &packet)?;
+                let bytes = aimed::psp(&mut dice, PSP_ID, S | 1, 100, &[(END, 4), (WHOLE, 5), (BEGIN, 6)]);
+                let arrival = carry(&mut dice, 50, &bytes).into();
+                recorder.receive_with("slices of each length", &table, Lent { holding, output, lengths }, &arrival)?;
             }
         }
     }
+    for transport in Transport::ALL {
+        short_slices(recorder, transport)?;
+    }
+    Ok(())
+}
+
+/// Each set of slices one short, beside each other refusal.
+fn short_slices(recorder: &mut Recorder, transport: Transport) -> Recorded<()> {
+    let names = refusals_of(PSP, transport);
     for set in 0..8 {
         let lent = Lent {
             holding: HOLDING_BYTES - (set & 1),
             output: MOST_BYTES - (set >> 1 & 1),
             lengths: MOST_FRAMES - (set >> 2 & 1),
         };
-        for defect in 1..PSP_DEFECTS.len() {
-            let defects = Defects { set: 1 << defect, names: &PSP_DEFECTS };
+        for defect in 1..names.len() {
+            let defects = Defects { set: 1 << defect, names: &names, kind: PSP, transport };
             let case = "slices of each length, together with other refusals";
-            recorder.receive_with(case, &defects.table(), lent, &defects.psp_packet())?;
+            recorder.receive_with(case, &defects.table(), lent, &defects.arrival())?;
         }
     }
     Ok(())
 }
 
-/// The refusals of the data call in their order, for each kind.
-const PSP_DEFECTS: [u32; 13] = [1, 13, 2, 3, 4, 5, 6, 7, 8, 9, 10, 11, 12];
-const DMPT_DEFECTS: [u32; 12] = [1, 13, 2, 3, 4, 5, 6, 7, 9, 10, 11, 12];
-
-/// A set of refusals that are to apply at once, as bits in the order of `names`.
-struct Defects {
-    set: usize,
-    names: &'static [u32],
+/// The refusals of the data call in their order: for a packet of that kind, by that transport.
+fn refusals_of(kind: u32, transport: Transport) -> Vec<u32> {
+    let mut all = vec![1, 13, 24, 2, 3, 15, 4, 5, 6, 7, 8, 9, 10, 11, 12];
+    all.retain(|refusal| match refusal {
+        8 => kind == PSP,
+        15 => transport == Transport::Udp,
+        _ => true,
+    });
+    all
 }
 
-impl Defects {
+/// A set of refusals that are to apply at once, as bits in the order of `names`.
+struct Defects<'a> {
+    set: usize,
+    names: &'a [u32],
+    kind: u32,
+    transport: Transport,
+}
+
+impl Defects<'_> {
     fn has(&self, refusal: u32) -> bool {
         let place = self.names.iter().position(|name| *name == refusal);
         place.is_some_and(|place| self.set & (1 << place) != 0)
@@ -264,8 +302,18 @@ impl Defects {
         let has: Vec<u32> = self.names.iter().copied().filter(|name| self.has(*name)).collect();
         match has.as_slice() {
             [1, 13] => "refusals 1 and 13",
+            [1, 24] => "refusals 1 and 24",
+            [13, 24] => "refusals 13 and 24",
             [13, 2] => "refusals 13 and 2",
             [13, 3] => "refusals 13 and 3",
+            [24, 2] => "refusals 24 and 2",
+            [24, 3] => "refusals 24 and 3",
+            [24, 15] => "refusals 24 and 15",
+            [2, 15] => "refusals 2 and 15",
+            [3, 15] => "refusals 3 and 15",
+            [15, 4] => "refusals 15 and 4",
+            [15, 5] => "refusals 15 and 5",
+            [15, 12] => "refusals 15 and 12",
             [2, 4] => "refusals 2 and 4",
             [3, 4] => "refusals 3 and 4",
             [4, 5] => "refusals 4 and 5",
@@ -320,14 +368,31 @@ impl Defects {
         }
     }
 
-    fn cut_to_size(&self, mut packet: Vec<u8>) -> Vec<u8> {
+    /// Whether the refusals can apply at once. D-MPT: where there are no MPEG packets, they are whole and none starts
+    /// wrongly.
+    fn can_be(&self) -> bool {
+        let short_and_long = self.has(2) && self.has(3);
+        let empty_and_spoilt = self.kind == DMPT && self.has(9) && (self.has(10) || self.has(11));
+        !short_and_long && !empty_and_spoilt
+    }
+
+    /// The packet, by another transport for refusal 24. Leads and transports differ from set to set.
+    fn arrival(&self) -> Arrival {
+        let mut bytes = if self.kind == PSP { self.psp_packet() } else { self.dmpt_packet() };
         if self.has(2) {
-            packet.truncate(HEADER_BYTES - 1);
+            bytes.truncate(HEADER_BYTES - 1);
         }
         if self.has(3) {
-            packet.resize(LONGEST_PACKET + 1, 0);
+            bytes.resize(LONGEST_PACKET + 1, 0);
         }
-        packet
+        let packet = if self.has(15) {
+            over_udp(WRONG_LEADS[self.set % WRONG_LEADS.len()], &bytes)
+        } else {
+            carried(self.transport, self.set % SOUND_LEADS.len(), &bytes)
+        };
+        let other = OTHER_TRANSPORTS[self.set % OTHER_TRANSPORTS.len()];
+        let arrival = Arrival::from(packet);
+        Arrival { transport: if self.has(24) { other } else { arrival.transport }, ..arrival }
     }
 
     /// Where nothing is wrong: the end of what is held, a whole frame and a beginning. The bytes differ from set to set,
@@ -350,7 +415,7 @@ impl Defects {
         if self.has(10) {
             packet.push(0);
         }
-        self.cut_to_size(packet)
+        packet
     }
 
     fn dmpt_packet(&self) -> Vec<u8> {
@@ -363,28 +428,17 @@ impl Defects {
         if self.has(10) {
             packet.push(0x47);
         }
-        self.cut_to_size(packet)
+        packet
     }
 }
 
-/// Every set of refusals that can apply to one PSP packet at once.
-fn refusals_psp(recorder: &mut Recorder) -> Recorded<()> {
-    for set in 0..1 << PSP_DEFECTS.len() {
-        let defects = Defects { set, names: &PSP_DEFECTS };
-        if !(defects.has(2) && defects.has(3)) {
-            recorder.receive_with(defects.case(), &defects.table(), defects.lent(), &defects.psp_packet())?;
-        }
-    }
-    Ok(())
-}
-
-/// The same for D-MPT. Where there are no MPEG packets, they are whole and none starts wrongly.
-fn refusals_dmpt(recorder: &mut Recorder) -> Recorded<()> {
-    for set in 0..1 << DMPT_DEFECTS.len() {
-        let defects = Defects { set, names: &DMPT_DEFECTS };
-        let empty_and_spoilt = defects.has(9) && (defects.has(10) || defects.has(11));
-        if !(defects.has(2) && defects.has(3)) && !empty_and_spoilt {
-            recorder.receive_with(defects.case(), &defects.table(), defects.lent(), &defects.dmpt_packet())?;
+/// Every set of refusals that can apply at once to one packet of that kind, by that transport.
+fn refusals(recorder: &mut Recorder, kind: u32, transport: Transport) -> Recorded<()> {
+    let names = refusals_of(kind, transport);
+    for set in 0..1 << names.len() {
+        let defects = Defects { set, names: &names, kind, transport };
+        if defects.can_be() {
+            recorder.receive_with(defects.case(), &defects.table(), defects.lent(), &defects.arrival())?;
         }
     }
     Ok(())
@@ -393,18 +447,17 @@ fn refusals_dmpt(recorder: &mut Recorder) -> Recorded<()> {
 /// The directed packets of `packets`, sent to a PSP session and to a D-MPT session, in each row in turn.
 fn packets_received(recorder: &mut Recorder) -> Recorded<()> {
     let case = "packets received";
-    let mut before = Vec::new();
-    for (turn, mut packet) in packets::directed().map(|question| question.packet).enumerate() {
-        if packet == before || packet.len() > LONGEST_PACKET + 2 {
+    for (turn, mut packet) in packets::all().into_iter().enumerate() {
+        if packet.after_lead().len() > LONGEST_PACKET + 2 {
             continue;
         }
-        before.clone_from(&packet);
         let mut table = busy_table();
         table.rows.rotate_left(turn % ROWS);
-        recorder.receive(case, &table, &packet)?;
-        if packet.len() >= 4 && packet[..4] != [0; 4] {
-            packet[..4].copy_from_slice(&DMPT_ID.to_be_bytes());
-            recorder.receive(case, &table, &packet)?;
+        recorder.receive(case, &table, &packet.clone().into())?;
+        let session = packet.transport.lead()..packet.transport.lead() + 4;
+        if let Some(id) = packet.bytes.get_mut(session).filter(|id| **id != [0; 4]) {
+            id.copy_from_slice(&DMPT_ID.to_be_bytes());
+            recorder.receive(case, &table, &packet.into())?;
         }
     }
     Ok(())
@@ -429,9 +482,12 @@ fn joined_lengths(recorder: &mut Recorder) -> Recorded<()> {
                 let state = RawFlow { heard: 1, expected: 65_535, held: held as u16 };
                 let table = table_with_flow(&mut dice, row, flow, state);
                 let id = table.rows[row].id;
-                let mut receive = |marks: u16, length: usize| {
-                    let packet = aimed::psp(&mut dice, id, S | flow as u8, 65_535, &[(marks, length)]);
-                    recorder.receive(case, &table, &packet).map(drop)
+                let mut receive = |marks: u16, length: usize| -> Recorded<()> {
+                    for transport in Transport::ALL {
+                        let bytes = aimed::psp(&mut dice, id, S | flow as u8, 65_535, &[(marks, length)]);
+                        recorder.receive(case, &table, &carried(transport, held, &bytes).into())?;
+                    }
+                    Ok(())
                 };
                 if held < joined {
                     receive(END, joined - held)?;
@@ -454,14 +510,16 @@ fn numbers(recorder: &mut Recorder) -> Recorded<()> {
         for expected in [0, 1, 32_767, 32_768, 65_535] {
             for ahead in [0, 1, 2, 32_766, 32_767, 32_768, 32_769, 65_534, 65_535] {
                 let number = 0u16.wrapping_add(expected).wrapping_add(ahead);
-                let table = table_with_flow(&mut dice, row, flow, RawFlow { heard: 1, expected, held: 3 });
-                let id = table.rows[row].id;
-                let packet = aimed::psp(&mut dice, id, S | flow as u8, number, &[(END, 2), (BEGIN, 1)]);
-                recorder.receive(case, &table, &packet)?;
+                for transport in Transport::ALL {
+                    let table = table_with_flow(&mut dice, row, flow, RawFlow { heard: 1, expected, held: 3 });
+                    let id = table.rows[row].id;
+                    let bytes = aimed::psp(&mut dice, id, S | flow as u8, number, &[(END, 2), (BEGIN, 1)]);
+                    recorder.receive(case, &table, &carried(transport, place, &bytes).into())?;
+                }
             }
             let table = table_with_flow(&mut dice, row, flow, RawFlow::default());
-            let packet = aimed::psp(&mut dice, table.rows[row].id, S | flow as u8, expected, &[(END, 2), (BEGIN, 1)]);
-            recorder.receive(case, &table, &packet)?;
+            let bytes = aimed::psp(&mut dice, table.rows[row].id, S | flow as u8, expected, &[(END, 2), (BEGIN, 1)]);
+            recorder.receive(case, &table, &carry(&mut dice, 50, &bytes).into())?;
         }
     }
     dmpt_numbers(recorder, &mut dice)
@@ -477,8 +535,9 @@ fn dmpt_numbers(recorder: &mut Recorder, dice: &mut Dice) -> Recorded<()> {
                     table.rows[row].kind = DMPT;
                     table.rows[row].flows = [RawFlow::default(); FLOWS];
                     table.rows[row].flows[0] = RawFlow { heard, expected: heard * expected, held: 0 };
-                    let packet = dmpt(table.rows[row].id, byte4, expected.wrapping_add(ahead), &[(1, 1)]);
-                    recorder.receive("numbers around the expected one", &table, &packet)?;
+                    let bytes = dmpt(table.rows[row].id, byte4, expected.wrapping_add(ahead), &[(1, 1)]);
+                    let arrival = carry(dice, 50, &bytes).into();
+                    recorder.receive("numbers around the expected one", &table, &arrival)?;
                 }
             }
         }
@@ -497,15 +556,20 @@ fn fullest_packets(recorder: &mut Recorder) -> Recorded<()> {
                 let mut segments = vec![(WHOLE, length); MOST_SEGMENTS];
                 segments[0].0 = first;
                 segments[MOST_SEGMENTS - 1].0 = last;
-                let packet = aimed::psp(&mut dice, table.rows[row].id, S | flow as u8, 4, &segments);
-                recorder.receive("127 segments received", &table, &packet)?;
+                for transport in Transport::ALL {
+                    let bytes = aimed::psp(&mut dice, table.rows[row].id, S | flow as u8, 4, &segments);
+                    recorder.receive("127 segments received", &table, &carried(transport, place, &bytes).into())?;
+                }
             }
         }
         let table = table_with_flow(&mut dice, row, flow, RawFlow { heard: 1, expected: 4, held: 2_047 });
         for last in [WHOLE, BEGIN] {
             let segments = [(END, 1), (WHOLE, 2_048), (last, 2_037)];
-            let packet = aimed::psp(&mut dice, table.rows[row].id, S | flow as u8, 4, &segments);
-            recorder.receive("most bytes that a call delivers", &table, &packet)?;
+            for transport in Transport::ALL {
+                let bytes = aimed::psp(&mut dice, table.rows[row].id, S | flow as u8, 4, &segments);
+                let arrival = carried(transport, place, &bytes).into();
+                recorder.receive("most bytes that a call delivers", &table, &arrival)?;
+            }
         }
     }
     Ok(())
@@ -519,7 +583,8 @@ fn null_packets(recorder: &mut Recorder) -> Recorded<()> {
         let mut table = busy_table();
         table.rows.rotate_left(turn % ROWS);
         let byte4 = if turn % 3 == 0 { 0 } else { S };
-        recorder.receive("null packets received", &table, &dmpt(DMPT_ID, byte4, 100, pids)).map(drop)
+        let packet = carried(Transport::ALL[turn % 2], turn, &dmpt(DMPT_ID, byte4, 100, pids));
+        recorder.receive("null packets received", &table, &packet.into()).map(drop)
     };
     for count in 1..=5 {
         for pattern in 0..1 << count {
@@ -541,7 +606,7 @@ pub fn replay(recorder: &mut Recorder, file: &[u8]) -> Recorded<()> {
         match entry {
             Entry::Open(kind, id) => recorder.open("captures", &table, *id, u32::from(kind.number()))?,
             Entry::Close(id) => recorder.close("captures", &table, *id)?,
-            Entry::Data(packet) => recorder.receive("captures", &table, packet)?,
+            Entry::Data(packet) => recorder.receive("captures", &table, &packet.clone().into())?,
         };
         table = recorder.table();
     }
@@ -723,7 +788,8 @@ mod tests {
             if case == "most bytes that a call delivers" {
                 assert_eq!(code, 0);
             }
-            if case == "packets checked as kinds that there are not" || case == "open as a kind that there is not" {
+            let unknown = case.starts_with("packets checked ") || case == "data by a transport that there is not";
+            if unknown || case == "open as a kind that there is not" {
                 assert_eq!(code, 24);
             }
         }

@@ -2,11 +2,11 @@
 //! left, from any sound table; single calls on tables sound and changed; captures, checks, segments and sends.
 
 use crate::aimed;
-use crate::call_cases::{check_case, replay, send_to_the_end};
+use crate::call_cases::{check_case, count_of, replay, send_to_the_end};
 use crate::calls::{Array, Lent, Sending, HOLDING_BYTES, MOST_BYTES};
 use crate::dice::Dice;
 use crate::generate;
-use crate::packets;
+use crate::packets::{self, OTHER_KINDS};
 use crate::raw::{RawTable, DMPT, PSP};
 use crate::records::{Recorded, Recorder};
 use crate::sender::MOST_FRAMES;
@@ -117,14 +117,18 @@ fn packets_by_dice(recorder: &mut Recorder, seed: u64, round: u64) -> Recorded<(
     for index in 40 * round..40 * (round + 1) {
         let mut dice = Dice::for_index(!seed, index);
         for question in packets::random(seed, index) {
-            let other_kind = check_case(question.kind) != check_case(PSP);
-            let case = if other_kind { check_case(question.kind) } else { "random packets checked" };
-            recorder.check(case, question.kind, &question.packet)?;
+            let case = match check_case(&question) {
+                "packets checked" => "random packets checked",
+                other => other,
+            };
+            recorder.check(case, question.kind, &question.arrival)?;
             if question.kind == PSP {
-                let count = question.packet.get(5).map_or(0, |byte| u64::from(byte & 0x7F));
+                let count = count_of(&question.arrival);
                 let below = dice.next() % count.max(1);
                 let k = dice.pick(&[0, below, below, below, count, count + 1]);
-                recorder.segment("segments of random packets", &question.packet, k)?;
+                let other = dice.pick(&OTHER_KINDS);
+                let kind = if dice.percent(4) { dice.pick(&[DMPT, other]) } else { PSP };
+                recorder.segment("segments of random packets", kind, &question.arrival, k)?;
             }
         }
     }

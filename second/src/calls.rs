@@ -1,14 +1,14 @@
 //! The calls of the card's library as its host program makes them, answered by this program.
 //!
-//! Document 01, 'Opening, closing, listening', 'Refusal numbers' and 'The sender'. A caller brings tables in plain
-//! numbers, slices of any length and positions; so refusals 1, 13, 14, 24, 34 and 36 exist here. What a call writes is
-//! told as changes: everything else has to stay as it was. The answers themselves come from `card`, `packet`, `sender`,
-//! `mpeg` and `raw`.
+//! Document 01, 'Opening, closing, listening', 'Refusal numbers' and 'The sender'; document 02, W1. A caller brings tables
+//! in plain numbers, slices of any length, positions, and numbers for kinds and transports; so refusals 1, 13, 14, 24, 34
+//! and 36 exist here. What a call writes is told as changes: everything else has to stay as it was. The answers
+//! themselves come from `card`, `packet`, `sender`, `mpeg` and `raw`.
 
 use crate::card::{Card, FLOWS, LONGEST_FRAME, ROWS};
 use crate::faults::{Fault, Faults};
 use crate::mpeg::{self, Going};
-use crate::packet::{self, big_endian, Kind, Refusal};
+use crate::packet::{self, big_endian, Kind, Packet, Refusal, Transport};
 use crate::raw::{place, RawTable};
 use crate::sender::{self, Order, Position, MOST_FRAMES};
 
@@ -70,18 +70,41 @@ impl Answer {
     }
 }
 
-pub fn check(kind: u32, packet: &[u8], faults: Faults) -> Answer {
-    Answer::of(&[u64::from(packet::check(u64::from(kind), packet, faults))])
+/// A packet as a caller hands it over: any number stands for its transport.
+#[derive(Clone, Debug, PartialEq, Eq, PartialOrd, Ord)]
+pub struct Arrival {
+    pub transport: u32,
+    pub bytes: Vec<u8>,
 }
 
-pub fn segment_cause(packet: &[u8], k: u64, faults: Faults) -> Answer {
-    Answer::of(&[packet::segment(packet, k, faults).map_or_else(code, |_| 0)])
+impl From<Packet> for Arrival {
+    fn from(packet: Packet) -> Arrival {
+        Arrival { transport: packet.transport.number(), bytes: packet.bytes }
+    }
+}
+
+impl Arrival {
+    fn transport(&self, faults: Faults) -> Result<Transport, Refusal> {
+        packet::read_transport(u64::from(self.transport), &self.bytes, faults)
+    }
+}
+
+pub fn check(kind: u32, arrival: &Arrival, faults: Faults) -> Answer {
+    Answer::of(&[u64::from(packet::check(u64::from(kind), u64::from(arrival.transport), &arrival.bytes, faults))])
+}
+
+pub fn segment_cause(kind: u32, arrival: &Arrival, k: u64, faults: Faults) -> Answer {
+    Answer::of(&[find_segment(kind, arrival, k, faults).map_or_else(code, |_| 0)])
 }
 
 /// The place and the length of segment k, both 0 where it is refused.
-pub fn segment(packet: &[u8], k: u64, faults: Faults) -> Answer {
-    let (place, length) = packet::segment(packet, k, faults).unwrap_or((0, 0));
+pub fn segment(kind: u32, arrival: &Arrival, k: u64, faults: Faults) -> Answer {
+    let (place, length) = find_segment(kind, arrival, k, faults).unwrap_or((0, 0));
     Answer::of(&[place as u64, length as u64])
+}
+
+fn find_segment(kind: u32, arrival: &Arrival, k: u64, faults: Faults) -> Result<(usize, usize), Refusal> {
+    packet::segment(u64::from(kind), u64::from(arrival.transport), &arrival.bytes, k, faults)
 }
 
 fn code(Refusal(number): Refusal) -> u64 {
@@ -133,12 +156,13 @@ pub fn close(table: &RawTable, id: u32, faults: Faults) -> Answer {
 }
 
 /// The data call, on a holding slice of which `lent` says how much the caller lends.
-pub fn receive(table: &RawTable, holding: &[u8], lent: Lent, bytes: &[u8], faults: Faults) -> Answer {
-    if let Err(refusal) = judge_loan(table, lent, faults) {
-        return Answer::with_table(&[code(refusal), 0, 0, 0, 0], *table);
-    }
+pub fn receive(table: &RawTable, holding: &[u8], lent: Lent, arrival: &Arrival, faults: Faults) -> Answer {
+    let transport = match judge_call(table, lent, arrival, faults) {
+        Ok(transport) => transport,
+        Err(refusal) => return Answer::with_table(&[code(refusal), 0, 0, 0, 0], *table),
+    };
     let mut card = table.card(holding, faults);
-    let heard = card.data(bytes);
+    let heard = card.data(transport, &arrival.bytes);
     let mut answer = Answer::with_table(&[0; 5], RawTable::of(&card));
     answer.changes = held_changes(&card, holding, faults);
     match heard {
@@ -149,12 +173,16 @@ pub fn receive(table: &RawTable, holding: &[u8], lent: Lent, bytes: &[u8], fault
         }
         Err(refusal) => answer.numbers[0] = code(refusal),
     }
-    spoil(&mut answer, table, bytes, faults);
+    spoil(&mut answer, table, &arrival.bytes[transport.lead().min(arrival.bytes.len())..], faults);
     answer
 }
 
-/// Refusals 1 and 13, in this order.
-fn judge_loan(table: &RawTable, lent: Lent, faults: Faults) -> Result<(), Refusal> {
+/// Refusals 1, 13 and 24, in this order.
+fn judge_call(table: &RawTable, lent: Lent, arrival: &Arrival, faults: Faults) -> Result<Transport, Refusal> {
+    let transport = arrival.transport(faults);
+    if faults.has(Fault::TransportBeforeSlices) {
+        transport?;
+    }
     if faults.has(Fault::BrokenBeforeSlices) {
         judge_table(table, faults)?;
     }
@@ -162,7 +190,11 @@ fn judge_loan(table: &RawTable, lent: Lent, faults: Faults) -> Result<(), Refusa
     if lent.holding < least || lent.output < MOST_BYTES || lent.lengths < MOST_FRAMES {
         return Err(Refusal(1));
     }
-    judge_table(table, faults)
+    if faults.has(Fault::TransportBeforeBroken) {
+        transport?;
+    }
+    judge_table(table, faults)?;
+    transport
 }
 
 /// What has to be written so that the first bytes of each place are those that its flow holds.
@@ -195,7 +227,7 @@ fn delivered_changes(frames: &[Vec<u8>], faults: Faults) -> Vec<Change> {
     [output, lengths].into_iter().filter(|change| !change.bytes.is_empty()).collect()
 }
 
-/// The faults of a data call that no part of it would come to by itself.
+/// The faults of a data call that no part of it would come to by itself; `bytes` are the packet's from its session ID on.
 fn spoil(answer: &mut Answer, given: &RawTable, bytes: &[u8], faults: Faults) {
     let Some(table) = &mut answer.table else {
         return;
@@ -355,13 +387,14 @@ mod tests {
         (0..HOLDING_BYTES).map(|place| (place % 249) as u8).collect()
     }
 
-    /// M1 and M2, in row 1: what is held is written to the place of row 1, flow 1, and nowhere else.
+    /// M1 over IP and M2 over UDP, in row 1: what is held is written to the place of row 1, flow 1, and nowhere else.
     #[test]
     fn packets_a_and_b_change_their_place_output_and_lengths() {
         let mut table = open(&RawTable::default(), 7, DMPT, Faults::NONE).table.unwrap();
         table = open(&table, 0x101, PSP, Faults::NONE).table.unwrap();
         let mut holding = holding();
-        let first = receive(&table, &holding, Lent::ENOUGH, &A, Faults::NONE);
+        let over_ip = Arrival { transport: 1, bytes: A.to_vec() };
+        let first = receive(&table, &holding, Lent::ENOUGH, &over_ip, Faults::NONE);
         assert_eq!(first.numbers, [0, 1, 6, 0, 0]);
         let change = |array, place, bytes: &[u8]| Change { array, place, bytes: bytes.to_vec() };
         let expected = [
@@ -371,17 +404,21 @@ mod tests {
         ];
         assert_eq!(first.changes, expected);
         holding[5 * 2_048..][..2].copy_from_slice(&A[18..]);
-        let second = receive(&first.table.unwrap(), &holding, Lent::ENOUGH, &B, Faults::NONE);
+        let over_udp = Arrival { transport: 2, bytes: [&[0, 3, 0, 0], B.as_slice()].concat() };
+        let second = receive(&first.table.unwrap(), &holding, Lent::ENOUGH, &over_udp, Faults::NONE);
         assert_eq!(second.numbers, [0, 1, 9, 0, 0]);
         assert_eq!(second.changes.len(), 2);
         assert_eq!(close(&first.table.unwrap(), 0x101, Faults::NONE).numbers, [0, 2]);
     }
 
     #[test]
-    fn short_slices_come_before_a_broken_table_and_that_before_the_packet() {
+    fn short_slices_come_before_a_broken_table_and_that_before_the_transport_and_the_packet() {
         let mut broken = RawTable::default();
         broken.rows[5].id = 1;
-        let asked = |table: &RawTable, lent: Lent| receive(table, &holding(), lent, &[], Faults::NONE);
+        let asked_by = |transport, table: &RawTable, lent| {
+            receive(table, &holding(), lent, &Arrival { transport, bytes: Vec::new() }, Faults::NONE)
+        };
+        let asked = |table: &RawTable, lent: Lent| asked_by(3, table, lent);
         for lent in [
             Lent { holding: HOLDING_BYTES - 1, ..Lent::ENOUGH },
             Lent { output: MOST_BYTES - 1, ..Lent::ENOUGH },
@@ -390,7 +427,9 @@ mod tests {
             assert_eq!(asked(&broken, lent), Answer::with_table(&[1, 0, 0, 0, 0], broken));
         }
         assert_eq!(asked(&broken, Lent::ENOUGH), Answer::with_table(&[13, 0, 0, 0, 0], broken));
-        assert_eq!(asked(&RawTable::default(), Lent::ENOUGH).numbers, [2, 0, 0, 0, 0]);
+        assert_eq!(asked(&RawTable::default(), Lent::ENOUGH).numbers, [24, 0, 0, 0, 0]);
+        assert_eq!(asked_by(1, &RawTable::default(), Lent::ENOUGH).numbers, [2, 0, 0, 0, 0]);
+        assert_eq!(asked_by(2, &RawTable::default(), Lent::ENOUGH).numbers, [2, 0, 0, 0, 0]);
         assert_eq!(open(&broken, 0, 3, Faults::NONE).numbers, [24]);
         assert_eq!(open(&broken, 0, PSP, Faults::NONE).numbers, [13]);
         assert_eq!(close(&broken, 0, Faults::NONE).numbers, [13, 0]);

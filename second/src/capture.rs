@@ -1,10 +1,10 @@
 //! Capture files: reading and writing.
 //!
-//! Document 01, 'Capture file and listing': the number of entries, then the contents, then the bodies back to back. A
-//! file is read whole and cut into entries, or refused with one of 41 to 45.
+//! Document 01, 'Capture file and listing': the number of entries, then the contents, then the bodies back to back;
+//! document 02, W1, adds data over UDP. A file is read whole and cut into entries, or refused with one of 41 to 45.
 
 use crate::faults::{Fault, Faults};
-use crate::packet::{big_endian, Kind, Refusal};
+use crate::packet::{big_endian, Kind, Packet, Refusal, Transport};
 
 pub const LONGEST_FILE: usize = 60_000;
 pub const MOST_ENTRIES: usize = 1_000;
@@ -17,7 +17,7 @@ pub const CONTENTS_BYTES: usize = 4;
 pub enum Entry {
     Open(Kind, u32),
     Close(u32),
-    Data(Vec<u8>),
+    Data(Packet),
 }
 
 /// A capture, cut into entries.
@@ -38,14 +38,15 @@ impl Entry {
         match self {
             Entry::Open(kind, _) => kind.number(),
             Entry::Close(_) => 3,
-            Entry::Data(_) => 4,
+            Entry::Data(Packet { transport: Transport::Ip, .. }) => 4,
+            Entry::Data(Packet { transport: Transport::Udp, .. }) => 5,
         }
     }
 
     pub fn body(&self) -> Vec<u8> {
         match self {
             Entry::Open(_, session) | Entry::Close(session) => session.to_be_bytes().to_vec(),
-            Entry::Data(packet) => packet.clone(),
+            Entry::Data(packet) => packet.bytes.clone(),
         }
     }
 
@@ -53,7 +54,7 @@ impl Entry {
     pub fn size(&self) -> usize {
         match self {
             Entry::Open(..) | Entry::Close(_) => CONTENTS_BYTES + 4,
-            Entry::Data(packet) => CONTENTS_BYTES + packet.len(),
+            Entry::Data(packet) => CONTENTS_BYTES + packet.bytes.len(),
         }
     }
 }
@@ -72,7 +73,7 @@ impl Capture {
         }
         check_lines(&lines, faults)?;
         fill?;
-        Ok(Capture { entries: take_bodies(&lines, bodies) })
+        Ok(Capture { entries: take_bodies(&lines, bodies, faults) })
     }
 
     /// The file of a capture.
@@ -127,6 +128,7 @@ fn check_lines(lines: &[Line], faults: Faults) -> Result<(), Refusal> {
         let length = match line.kind {
             1..=3 => line.length == 4,
             4 => true,
+            5 => !faults.has(Fault::UdpKindRefused),
             _ => false,
         };
         second && length
@@ -150,7 +152,8 @@ fn check_fill(lines: &[Line], bodies: &[u8], faults: Faults) -> Result<(), Refus
 }
 
 /// Hands each entry its body. Only for contents that have been judged sound.
-fn take_bodies(lines: &[Line], bodies: &[u8]) -> Vec<Entry> {
+fn take_bodies(lines: &[Line], bodies: &[u8], faults: Faults) -> Vec<Entry> {
+    let udp = if faults.has(Fault::UdpKindRunAsIp) { Transport::Ip } else { Transport::Udp };
     let mut rest = bodies;
     let mut entries = Vec::with_capacity(lines.len());
     for line in lines {
@@ -160,7 +163,8 @@ fn take_bodies(lines: &[Line], bodies: &[u8]) -> Vec<Entry> {
             1 => Entry::Open(Kind::Psp, big_endian(body)),
             2 => Entry::Open(Kind::Dmpt, big_endian(body)),
             3 => Entry::Close(big_endian(body)),
-            _ => Entry::Data(body.to_vec()),
+            4 => Entry::Data(Packet { transport: Transport::Ip, bytes: body.to_vec() }),
+            _ => Entry::Data(Packet { transport: udp, bytes: body.to_vec() }),
         });
     }
     entries
@@ -174,13 +178,8 @@ pub mod samples {
     use crate::packet::samples::{A, B};
 
     pub fn capture() -> Capture {
-        let entries = vec![
-            Entry::Open(Kind::Psp, 0x101),
-            Entry::Data(A.to_vec()),
-            Entry::Data(B.to_vec()),
-            Entry::Data(B.to_vec()),
-            Entry::Close(0x101),
-        ];
+        let data = |bytes: &[u8]| Entry::Data(Packet { transport: Transport::Ip, bytes: bytes.to_vec() });
+        let entries = vec![Entry::Open(Kind::Psp, 0x101), data(&A), data(&B), data(&B), Entry::Close(0x101)];
         Capture { entries }
     }
 }
@@ -199,6 +198,14 @@ mod tests {
     }
 
     #[test]
+    fn kind_5_is_data_over_udp_of_any_length() {
+        let over_udp = |bytes: &[u8]| Entry::Data(Packet { transport: Transport::Udp, bytes: bytes.to_vec() });
+        let capture = Capture { entries: vec![over_udp(&[]), over_udp(&[7, 8])] };
+        assert_eq!(capture.write(), [0, 2, 5, 0, 0, 0, 5, 0, 0, 2, 7, 8]);
+        assert_eq!(Capture::read(&capture.write(), Faults::NONE), Ok(capture));
+    }
+
+    #[test]
     fn files_are_refused_in_order() {
         let refused = |file: &[u8]| Capture::read(file, Faults::NONE).unwrap_err().0;
         assert_eq!(refused(&vec![0xFF; 60_001]), 41);
@@ -206,10 +213,12 @@ mod tests {
         assert_eq!(refused(&[0]), 42);
         assert_eq!(refused(&[0, 1, 9, 9, 9]), 42);
         assert_eq!(refused(&[3, 0xE9]), 43);
-        assert_eq!(refused(&[0, 1, 5, 0, 0, 9]), 44);
+        assert_eq!(refused(&[0, 1, 8, 0, 0, 9]), 44);
         assert_eq!(refused(&[0, 1, 4, 1, 0, 0]), 44);
+        assert_eq!(refused(&[0, 1, 5, 1, 0, 0]), 44);
         assert_eq!(refused(&[0, 1, 3, 0, 0, 5, 0, 0, 0, 0, 0]), 44);
         assert_eq!(refused(&[0, 0, 0]), 45);
         assert_eq!(refused(&[0, 1, 4, 0, 0, 1]), 45);
+        assert_eq!(refused(&[0, 1, 5, 0, 0, 1]), 45);
     }
 }

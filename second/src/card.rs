@@ -2,13 +2,15 @@
 //!
 //! Document 01, 'The card in numbers' and 'Opening, closing, listening'. The paper keeps the table as six rows of four
 //! flows and the held bytes in a slice of places. Here a session is found by its ID in a map, knows its row, and each
-//! flow owns the bytes that it holds, so places cannot overlap; the row is only there to be printed. Refusals 1 and 13
-//! do not exist here: the slices are always long enough and the table cannot be broken. `raw` and `calls` have them.
+//! flow owns the bytes that it holds, so places cannot overlap; the row is only there to be printed. Each packet says by
+//! which transport it came, and nothing of that is kept: a session and its flows take packets by either (document 02,
+//! W1). Refusals 1, 13 and 24 do not exist here: the slices are always long enough, the table cannot be broken, and there
+//! is no third transport. `raw` and `calls` have them.
 
 use std::collections::BTreeMap;
 
 use crate::faults::{Fault, Faults};
-use crate::packet::{self, Body, Kind, Refusal, Segment, NULL_PID};
+use crate::packet::{self, Body, Kind, Refusal, Segment, Transport, NULL_PID};
 
 pub const ROWS: usize = 6;
 pub const FLOWS: usize = 4;
@@ -51,13 +53,15 @@ pub struct Card {
     sessions: BTreeMap<u32, Session>,
     /// Flows of closed sessions, kept for the fault `ReopenKeepsFlows` only.
     closed: BTreeMap<u32, [Flow; FLOWS]>,
+    /// What sessions keep apart for packets over UDP, for the faults `HeldApart` and `NumbersApart` only.
+    over_udp: BTreeMap<u32, [Flow; FLOWS]>,
     faults: Faults,
 }
 
 impl Card {
     /// A card with an empty table.
     pub fn new(faults: Faults) -> Card {
-        Card { sessions: BTreeMap::new(), closed: BTreeMap::new(), faults }
+        Card { sessions: BTreeMap::new(), closed: BTreeMap::new(), over_udp: BTreeMap::new(), faults }
     }
 
     /// A card with these sessions open, by ID, each in a row of its own.
@@ -112,20 +116,28 @@ impl Card {
         if self.faults.has(Fault::ReopenKeepsFlows) {
             self.closed.insert(id, session.flows);
         }
+        self.over_udp.remove(&id);
         Ok(Answer { dropped, ..Answer::default() })
     }
 
     /// The data call: a packet is refused with the first number that applies and changes nothing, or is taken in.
-    pub fn data(&mut self, bytes: &[u8]) -> Result<Answer, Refusal> {
+    pub fn data(&mut self, transport: Transport, bytes: &[u8]) -> Result<Answer, Refusal> {
+        self.keep_apart(transport);
+        let answer = self.take_packet(transport, bytes);
+        self.keep_apart(transport);
+        answer
+    }
+
+    fn take_packet(&mut self, transport: Transport, bytes: &[u8]) -> Result<Answer, Refusal> {
         let faults = self.faults;
-        let header = packet::read_header(bytes, faults)?;
+        let header = packet::read_header(transport, bytes, faults)?;
         let session = self.sessions.get_mut(&header.session).ok_or(Refusal(5))?;
         if faults.has(Fault::LateBeforeLayout) && header.sequenced {
             if let Some(flow) = session.flows.get(usize::from(header.flow)) {
                 flow.judge(header.number, faults)?;
             }
         }
-        let body = packet::read_body(session.kind, &header, bytes, faults);
+        let body = packet::read_body(session.kind, transport, &header, bytes, faults);
         if body.is_err() && faults.has(Fault::RefusedMovesNumber) {
             if let Some(flow) = session.flows.get_mut(usize::from(header.flow)) {
                 flow.expected = Some(header.number.wrapping_add(1));
@@ -136,6 +148,9 @@ impl Card {
         let answer = match body {
             Body::Segments(segments) => {
                 let gap = flow.accept(header.number, faults)?;
+                if faults.has(Fault::UdpForgetsHeld) && transport == Transport::Udp {
+                    flow.held.clear();
+                }
                 flow.take_segments(&segments, gap, faults)
             }
             Body::Mpeg(packets) => {
@@ -148,6 +163,25 @@ impl Card {
             self.spill(header.session, usize::from(header.flow));
         }
         Ok(answer)
+    }
+
+    /// Faults `HeldApart` and `NumbersApart`: around a packet over UDP, each flow's bytes or number change places with
+    /// those that it has for that transport alone.
+    fn keep_apart(&mut self, transport: Transport) {
+        let (held, numbers) = (self.faults.has(Fault::HeldApart), self.faults.has(Fault::NumbersApart));
+        if transport == Transport::Ip || !(held || numbers) {
+            return;
+        }
+        for (id, session) in &mut self.sessions {
+            let others = self.over_udp.entry(*id).or_default();
+            for (flow, other) in session.flows.iter_mut().zip(others) {
+                if held {
+                    std::mem::swap(&mut flow.held, &mut other.held);
+                } else {
+                    std::mem::swap(&mut flow.expected, &mut other.expected);
+                }
+            }
+        }
     }
 
     /// Fault `PlaceByFlowAlone`: what one session holds overwrites what the same flow of the others holds.
@@ -277,23 +311,39 @@ mod tests {
     #[test]
     fn a_frame_is_joined_across_packets_and_numbers_wrap() {
         let mut card = card_with_psp();
-        let first = card.data(&A).unwrap();
+        let first = card.data(Transport::Ip, &A).unwrap();
         assert_eq!((first.frames, first.dropped, first.gap), (vec![A[12..18].to_vec()], 0, 0));
-        let second = card.data(&B).unwrap();
+        let second = card.data(Transport::Ip, &B).unwrap();
         assert_eq!(second.frames, vec![vec![0x21, 0x22, 0x23, 0x24, 0x25, 0x26, 0x27, 0x28, 0x29]]);
-        assert_eq!(card.data(&B), Err(Refusal(12)));
+        assert_eq!(card.data(Transport::Ip, &B), Err(Refusal(12)));
+    }
+
+    /// Document 02, W1: each call says the transport by itself, and what joins does not depend on it.
+    #[test]
+    fn a_frame_is_joined_across_transports() {
+        let over_udp = |packet: &[u8]| [&[0x7F, 0xF3, 9, 9], packet].concat();
+        for transports in [[Transport::Ip, Transport::Udp], [Transport::Udp, Transport::Ip]] {
+            let mut card = card_with_psp();
+            let mut data = |transport, packet: &[u8]| match transport {
+                Transport::Ip => card.data(transport, packet),
+                Transport::Udp => card.data(transport, &over_udp(packet)),
+            };
+            assert_eq!(data(transports[0], &A).unwrap().frames, vec![A[12..18].to_vec()]);
+            assert_eq!(data(transports[1], &B).unwrap().frames, vec![(0x21..=0x29).collect::<Vec<u8>>()]);
+            assert_eq!((data(transports[0], &B), data(transports[1], &B)), (Err(Refusal(12)), Err(Refusal(12))));
+        }
     }
 
     #[test]
     fn a_segment_without_beginning_is_dropped() {
-        let answer = card_with_psp().data(&B).unwrap();
+        let answer = card_with_psp().data(Transport::Ip, &B).unwrap();
         assert_eq!((answer.frames.len(), answer.dropped), (0, 7));
     }
 
     #[test]
     fn closing_drops_what_is_held_and_frees_the_row() {
         let mut card = card_with_psp();
-        card.data(&A).unwrap();
+        card.data(Transport::Ip, &A).unwrap();
         assert_eq!(card.close(0x101).unwrap().dropped, 2);
         assert_eq!(card.close(0x101), Err(Refusal(25)));
         for id in 1..=6 {

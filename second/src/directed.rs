@@ -1,15 +1,17 @@
 //! Directed captures: every boundary of document 01, each approached from both sides.
 //!
 //! They do not depend on a seed. Cases that do not disturb one another share a capture, so that few programs have to be
-//! started; each function below is one theme, and each capture's name tells what it is about.
-
-use std::collections::BTreeSet;
+//! started; each function below is one theme, and each capture's name tells what it is about. Here packets come over IP;
+//! `transports` has the captures of document 02, W1, and those of this file once more, over UDP and by both transports.
 
 use crate::capture::{Capture, Entry, LONGEST_FILE, MOST_ENTRIES};
 use crate::card::LONGEST_FRAME;
-use crate::craft::{dmpt, header, pattern, psp, psp_with, BEGIN, END, MIDDLE, S, WHOLE};
+use crate::craft::{
+    dmpt, header, over_ip, over_udp, pattern, psp, psp_with, Lead, BEGIN, END, MIDDLE, PLAIN_LEAD, S, WHOLE,
+};
 use crate::faults::Faults;
-use crate::packet::{Kind, HEADER_BYTES, LONGEST_PACKET, MPEG_BYTES};
+use crate::packet::{Kind, Packet, HEADER_BYTES, LONGEST_PACKET, MPEG_BYTES};
+use crate::transports;
 
 /// A capture file with a name that tells its kind.
 #[derive(Clone, Debug)]
@@ -19,54 +21,77 @@ pub struct NamedCapture {
 }
 
 /// The sessions that directed cases use.
-const PSP: u32 = 0x0000_0101;
-const MPT: u32 = 0xFFFF_FFFE;
-const STRANGER: u32 = 0x0101_0000;
+pub const PSP: u32 = 0x0000_0101;
+pub const MPT: u32 = 0xFFFF_FFFE;
+pub const STRANGER: u32 = 0x0101_0000;
 
 /// A capture under construction.
-struct Case {
+pub struct Case {
     name: String,
     entries: Vec<Entry>,
 }
 
 impl Case {
-    fn new(name: &str) -> Case {
+    pub fn new(name: &str) -> Case {
         Case { name: name.to_string(), entries: Vec::new() }
     }
 
-    fn open(mut self, kind: Kind, session: u32) -> Case {
+    pub fn open(mut self, kind: Kind, session: u32) -> Case {
         self.entries.push(Entry::Open(kind, session));
         self
     }
 
-    fn close(mut self, session: u32) -> Case {
+    pub fn close(mut self, session: u32) -> Case {
         self.entries.push(Entry::Close(session));
         self
     }
 
-    fn data(mut self, packet: Vec<u8>) -> Case {
+    pub fn packet(mut self, packet: Packet) -> Case {
         self.entries.push(Entry::Data(packet));
         self
     }
 
+    /// A packet over IP.
+    pub fn data(self, packet: Vec<u8>) -> Case {
+        self.packet(over_ip(packet))
+    }
+
+    /// The same packet over UDP, as a host sends it.
+    pub fn udp(self, packet: Vec<u8>) -> Case {
+        self.led(PLAIN_LEAD, packet)
+    }
+
+    /// The same packet over UDP, with any four bytes before it.
+    pub fn led(self, lead: Lead, packet: Vec<u8>) -> Case {
+        self.packet(over_udp(lead, &packet))
+    }
+
     /// Closes the session and opens it again, for a fresh start.
-    fn afresh(self, kind: Kind, session: u32) -> Case {
+    pub fn afresh(self, kind: Kind, session: u32) -> Case {
         self.close(session).open(kind, session)
     }
 
-    fn done(self) -> NamedCapture {
+    pub fn done(self) -> NamedCapture {
         NamedCapture { name: format!("directed-{}", self.name), file: Capture { entries: self.entries }.write() }
     }
 }
 
 /// All directed captures.
 pub fn captures() -> Vec<NamedCapture> {
+    let mut all = traffic();
+    all.extend(transports::captures());
+    all.extend(files());
+    all.extend(transports::once_more(traffic()));
+    all
+}
+
+/// All that are about packets and sessions, and not about files.
+fn traffic() -> Vec<NamedCapture> {
     let mut all = vec![paper()];
     all.extend(joined_lengths());
     all.extend([gaps_psp(), gaps_dmpt(), refused_numbers()]);
     all.extend(layouts());
     all.extend([rows(), same_flow_of_sessions(), flows_apart(), closes(), reopened(), strangers()]);
-    all.extend(files());
     all
 }
 
@@ -80,20 +105,21 @@ fn layouts() -> Vec<NamedCapture> {
     all
 }
 
-/// The packets of those captures, each once, for the packet check without a table.
-pub fn packets() -> Vec<Vec<u8>> {
-    let mut seen = BTreeSet::new();
-    let mut packets = Vec::new();
-    for NamedCapture { name, file } in [paper()].into_iter().chain(layouts()) {
-        let capture = Capture::read(&file, Faults::NONE).unwrap_or_else(|_| panic!("{name} is a sound file"));
-        for entry in capture.entries {
-            match entry {
-                Entry::Data(packet) if seen.insert(packet.clone()) => packets.push(packet),
-                _ => {}
-            }
-        }
-    }
-    packets
+/// The packets of those captures, for the packet check without a table; all came over IP.
+pub fn packets() -> Vec<Packet> {
+    packets_of([vec![paper()], layouts()].concat())
+}
+
+/// The packets of captures that are sound files.
+pub fn packets_of(captures: Vec<NamedCapture>) -> Vec<Packet> {
+    let entries = captures.iter().flat_map(|NamedCapture { name, file }| {
+        Capture::read(file, Faults::NONE).unwrap_or_else(|_| panic!("{name} is a sound file")).entries
+    });
+    let packet = |entry| match entry {
+        Entry::Data(packet) => Some(packet),
+        Entry::Open(..) | Entry::Close(_) => None,
+    };
+    entries.filter_map(packet).collect()
 }
 
 /// The capture of document 01, 'Capture file and listing', by its first packets A and B.
@@ -613,7 +639,8 @@ fn file_numbers() -> Vec<NamedCapture> {
         file("n-1001", MOST_ENTRIES + 1, &[data; MOST_ENTRIES + 1], &[]),
         cut("n-1001-cut", MOST_ENTRIES + 1, 2 + 4 * MOST_ENTRIES),
         cut("n-1001-and-nothing", MOST_ENTRIES + 1, 2),
-        file("n-1001-of-kind-5", MOST_ENTRIES + 1, &[line(5, 0, 0); MOST_ENTRIES + 1], &[]),
+        file("n-1000-of-kind-5", MOST_ENTRIES, &[line(5, 0, 0); MOST_ENTRIES], &[]),
+        file("n-1001-of-kind-8", MOST_ENTRIES + 1, &[line(8, 0, 0); MOST_ENTRIES + 1], &[]),
         file("n-65535", 65_535, &[], &[]),
         file("n-3-of-kind-9-cut", 3, &[line(9, 9, 9); 2], &[]),
     ]
@@ -670,11 +697,11 @@ fn file_sizes() -> Vec<NamedCapture> {
 /// Entries of the contents: 44.
 fn file_lines() -> Vec<NamedCapture> {
     let id = PSP.to_be_bytes();
-    let mut all = Vec::new();
-    for kind in [0, 5, 6, 127, 128, 132, 255] {
+    let mut all = kinds_that_later_requests_name();
+    for kind in [0, 5, 8, 9, 127, 128, 132, 133, 255] {
         all.push(file(&format!("kind-{kind}"), 2, &[line(1, 0, 4), line(kind, 0, 4)], &[id, id].concat()));
     }
-    for kind in 1..=4 {
+    for kind in 1..=5 {
         for second in [1, 255] {
             all.push(file(&format!("second-byte-{second}-of-kind-{kind}"), 1, &[line(kind, second, 4)], &id));
         }
@@ -684,12 +711,21 @@ fn file_lines() -> Vec<NamedCapture> {
             all.push(file(&format!("length-{length}-of-kind-{kind}"), 1, &[line(kind, 0, length)], &vec![1; length]));
         }
     }
-    all.push(file("kind-5-before-a-cut", 1, &[line(5, 0, 9)], &[]));
+    all.push(file("kind-8-before-a-cut", 1, &[line(8, 0, 9)], &[]));
     all.push(file("second-byte-before-leftover", 1, &[line(4, 7, 0)], &[0; 9]));
+    all.push(file("second-byte-of-kind-5-before-a-cut", 1, &[line(5, 7, 9)], &[]));
     let mut long = vec![line(4, 0, 0); 500];
     long[499] = line(0, 0, 0);
     all.push(file("kind-0-at-the-end", 500, &long, &[]));
     all
+}
+
+/// Kinds 6 and 7 are other kinds, and refused, until later requests of document 02 give them a meaning. So only this
+/// theme has them; where another kind is wanted for any other reason it is 8 or above.
+fn kinds_that_later_requests_name() -> Vec<NamedCapture> {
+    let id = PSP.to_be_bytes();
+    let of_kind = |kind: u8| file(&format!("kind-{kind}"), 2, &[line(1, 0, 4), line(kind, 0, 4)], &[id, id].concat());
+    vec![of_kind(6), of_kind(7)]
 }
 
 /// Lengths that do not fill the file: 45.
@@ -712,5 +748,10 @@ fn file_fills() -> Vec<NamedCapture> {
         file("sum-wraps-to-0", 2, &[line(4, 0, 65_535), line(4, 0, 1)], &[]),
         file("long-lengths", 1_000, &[line(4, 0, 65_535); 1_000], &[]),
         file("empty-bodies", 3, &[line(4, 0, 0); 3], &[]),
+        file("empty-bodies-over-udp", 3, &[line(5, 0, 0); 3], &[]),
+        file("empty-bodies-by-both", 4, &[line(5, 0, 0), line(4, 0, 0), line(5, 0, 0), line(5, 0, 0)], &[]),
+        file("one-byte-short-over-udp", 2, &[line(5, 0, 0), line(5, 0, 9)], &[1; 8]),
+        file("one-byte-over-over-udp", 2, &[line(5, 0, 9), line(5, 0, 0)], &[1; 10]),
+        file("long-lengths-over-udp", 1_000, &[line(5, 0, 65_535); 1_000], &[]),
     ]
 }

@@ -3,8 +3,8 @@
 //! A comparison is worth as much as the faults it finds. Each fault here is asked for by name (`--fault NAME`) and
 //! consulted at the one place in the code that it spoils. `tests/faults` demands that the comparison on captures and
 //! frames files finds every one that these can show, `tests/calls` that the comparison from C finds those that calls can
-//! show, and `tests/mpeg` those of MPEG packets. Several of them are document 01's 'Wrong turns', others are limits off by one, refusals in a wrong order, and
-//! rules left out.
+//! show, and `tests/mpeg` those of MPEG packets. Several of them are document 01's 'Wrong turns', others are limits off by
+//! one, refusals in a wrong order, and rules left out.
 
 /// One deliberate fault.
 #[derive(Clone, Copy, Debug, PartialEq, Eq)]
@@ -21,6 +21,28 @@ pub enum Fault {
     EmptySegmentAllowed,
     OnlyFirstSyncJudged,
     PidOfSixteenBits,
+    // Packets over UDP.
+    UdpSessionAtStart,
+    TBitUnjudged,
+    VersionUnjudged,
+    VersionOfEightBits,
+    HigherVersionTaken,
+    IgnoredBitsJudged,
+    ReservedBytesJudged,
+    FlagsJudgedOverIp,
+    FlagsBeforeShort,
+    FlagsBeforeLong,
+    ControlBeforeFlags,
+    UdpShortestAsIp,
+    UdpLongestAsIp,
+    IpShortestAsUdp,
+    IpLongestAsUdp,
+    HeldApart,
+    NumbersApart,
+    UdpForgetsHeld,
+    UdpKindRefused,
+    UdpKindRunAsIp,
+    UdpEntryNamedUdp,
     // Table, opening and closing.
     HighestRowTaken,
     FullBeforeOpen,
@@ -68,14 +90,23 @@ pub enum Fault {
     KindAfterBroken,
     BrokenBeforeSlices,
     ShortHoldingTaken,
+    TransportBeforeSlices,
+    TransportBeforeBroken,
+    ShortBeforeTransport,
+    UnknownTransportIsIp,
+    UnknownTransportIsUdp,
+    TransportOfEightBits,
+    TransportOfSixteenBits,
     LateClearsHeld,
     LateCounted,
     ExpectedUnmoved,
     HeldOnePlaceTooFar,
     OutputAfterLastCleared,
     LengthAfterLastCleared,
+    SegmentKindUnjudged,
     SegmentAtCountGiven,
     SegmentPlacedInBodies,
+    SegmentPlacedWithoutLead,
     LeftoverFrameBytesSent,
     OffsetAtEndIsEnd,
     ShortOutputSent,
@@ -134,7 +165,7 @@ pub enum Fault {
 }
 
 /// The faults that captures and frames files can show, each with its name and a sentence on what it does.
-pub const FILES: [(Fault, &str, &str); 41] = [
+pub const FILES: [(Fault, &str, &str); 62] = [
     (Fault::LongestPacketRefused, "longest-packet-refused", "A packet of 4,100 bytes is refused as too long."),
     (
         Fault::SessionZeroLookedUp,
@@ -158,6 +189,27 @@ pub const FILES: [(Fault, &str, &str); 41] = [
         "pid-of-16-bits",
         "The upper three bits of an MPEG packet's byte 1 are taken into the PID.",
     ),
+    (Fault::UdpSessionAtStart, "udp-session-at-start", "Over UDP the session ID is read at the packet's first byte."),
+    (Fault::TBitUnjudged, "t-bit-unjudged", "Over UDP T may be set."),
+    (Fault::VersionUnjudged, "version-unjudged", "Over UDP the version may be any."),
+    (Fault::VersionOfEightBits, "version-of-8-bits", "Over UDP the whole second byte is judged as the version."),
+    (Fault::HigherVersionTaken, "higher-version-taken", "Over UDP a version above 3 is taken."),
+    (Fault::IgnoredBitsJudged, "ignored-bits-judged", "Over UDP no bit of the first byte may be set."),
+    (Fault::ReservedBytesJudged, "reserved-bytes-judged", "Over UDP the third and fourth byte have to be 0."),
+    (Fault::FlagsJudgedOverIp, "flags-judged-over-ip", "T and the version are judged over IP too."),
+    (Fault::FlagsBeforeShort, "flags-before-short", "Refusal 15 is given before refusal 2."),
+    (Fault::FlagsBeforeLong, "flags-before-long", "Refusal 15 is given before refusal 3."),
+    (Fault::ControlBeforeFlags, "control-before-flags", "Refusal 4 is given before refusal 15."),
+    (Fault::UdpShortestAsIp, "udp-shortest-as-ip", "Over UDP a packet of 8 bytes is long enough."),
+    (Fault::UdpLongestAsIp, "udp-longest-as-ip", "Over UDP a packet of 4,101 bytes is refused as too long."),
+    (Fault::IpShortestAsUdp, "ip-shortest-as-udp", "Over IP a packet of 11 bytes is refused as too short."),
+    (Fault::IpLongestAsUdp, "ip-longest-as-udp", "Over IP a packet of 4,104 bytes is not too long."),
+    (Fault::HeldApart, "held-apart", "A flow keeps what it holds from packets over UDP apart."),
+    (Fault::NumbersApart, "numbers-apart", "A flow expects a number of its own over UDP."),
+    (Fault::UdpForgetsHeld, "udp-forgets-held", "A packet over UDP makes its flow forget, uncounted, what it holds."),
+    (Fault::UdpKindRefused, "udp-kind-refused", "An entry of kind 5 is refused as one of another kind."),
+    (Fault::UdpKindRunAsIp, "udp-kind-run-as-ip", "An entry of kind 5 is taken for a packet over IP."),
+    (Fault::UdpEntryNamedUdp, "udp-entry-named-udp", "The word for an entry of kind 5 is another one than for kind 4."),
     (Fault::HighestRowTaken, "highest-row-taken", "A session opens in the highest free row."),
     (Fault::FullBeforeOpen, "full-before-open", "Refusal 23 is given before refusal 22."),
     (Fault::CloseDropsNothing, "close-drops-nothing", "Closing reports no dropped bytes."),
@@ -199,7 +251,7 @@ pub const FILES: [(Fault, &str, &str); 41] = [
 ];
 
 /// The faults that only calls can show, with tables, slices and positions of the caller's.
-pub const CALLS: [(Fault, &str, &str); 23] = [
+pub const CALLS: [(Fault, &str, &str); 32] = [
     (Fault::ForeignKindTrusted, "foreign-kind-trusted", "A row of a kind above 2 is taken for an open PSP row."),
     (Fault::KindOfSixteenBits, "kind-of-16-bits", "A row's kind is judged by its lower 16 bits."),
     (Fault::ForeignMarkTrusted, "foreign-mark-trusted", "A flow's mark above 1 is taken for 1."),
@@ -211,17 +263,38 @@ pub const CALLS: [(Fault, &str, &str); 23] = [
     (Fault::KindAfterBroken, "kind-after-broken", "An open gives refusal 13 before refusal 24."),
     (Fault::BrokenBeforeSlices, "broken-before-slices", "The data call gives refusal 13 before refusal 1."),
     (Fault::ShortHoldingTaken, "short-holding-taken", "A holding slice of 49,151 bytes is taken."),
+    (
+        Fault::TransportBeforeSlices,
+        "transport-before-slices",
+        "The data call gives refusal 24 for its transport before refusal 1.",
+    ),
+    (
+        Fault::TransportBeforeBroken,
+        "transport-before-broken",
+        "The data call gives refusal 24 for its transport before refusal 13.",
+    ),
+    (Fault::ShortBeforeTransport, "short-before-transport", "Refusal 2 is given before refusal 24 for the transport."),
+    (Fault::UnknownTransportIsIp, "unknown-transport-is-ip", "A transport that there is not is taken for IP."),
+    (Fault::UnknownTransportIsUdp, "unknown-transport-is-udp", "A transport that there is not is taken for UDP."),
+    (Fault::TransportOfEightBits, "transport-of-8-bits", "A transport is judged by its lower 8 bits."),
+    (Fault::TransportOfSixteenBits, "transport-of-16-bits", "A transport is judged by its lower 16 bits."),
     (Fault::LateClearsHeld, "late-clears-held", "A late packet makes its session hold nothing."),
     (Fault::LateCounted, "late-counted", "The bytes of a late packet are reported as dropped."),
     (Fault::ExpectedUnmoved, "expected-unmoved", "The table that comes back expects the numbers that it came with."),
     (Fault::HeldOnePlaceTooFar, "held-one-place-too-far", "Held bytes are written into the place after their own."),
     (Fault::OutputAfterLastCleared, "output-after-last-cleared", "The byte after the last frame is set to 0."),
     (Fault::LengthAfterLastCleared, "length-after-last-cleared", "The length after the last frame's is set to 0."),
+    (Fault::SegmentKindUnjudged, "segment-kind-unjudged", "Segments are asked for as D-MPT too, and given as for PSP."),
     (Fault::SegmentAtCountGiven, "segment-at-count-given", "Segment k is given, empty, where k is the count."),
     (
         Fault::SegmentPlacedInBodies,
         "segment-placed-in-bodies",
         "A segment's place is counted from the first body byte.",
+    ),
+    (
+        Fault::SegmentPlacedWithoutLead,
+        "segment-placed-without-lead",
+        "Over UDP a segment's place is counted from the session ID.",
     ),
     (Fault::LeftoverFrameBytesSent, "leftover-frame-bytes-sent", "Frames are sent though bytes are left over."),
     (Fault::OffsetAtEndIsEnd, "offset-at-end-is-end", "A position after all frames may have any offset."),
@@ -332,13 +405,16 @@ pub const MPEG: [(Fault, &str, &str); 50] = [
 ];
 
 /// The faults that no call of `tests/calls` shows: those of capture files, and one that needs a memory beside the table.
-const NO_CALL_SHOWS: [Fault; 6] = [
+const NO_CALL_SHOWS: [Fault; 9] = [
     Fault::ShortBeforeTooMany,
     Fault::FillBeforeKind,
     Fault::SecondByteUnjudged,
     Fault::LeftoverAccepted,
     Fault::LongestFileRefused,
     Fault::ReopenKeepsFlows,
+    Fault::UdpKindRefused,
+    Fault::UdpKindRunAsIp,
+    Fault::UdpEntryNamedUdp,
 ];
 
 /// The faults that the calls of `tests/calls` can show.

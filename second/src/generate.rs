@@ -4,16 +4,17 @@
 //! long frames and packets are and how much goes wrong on the way. Traffic keeps a sender for each flow of each session
 //! and cuts its frames with document 01's sender, so that what arrives is mostly sound and frames are really joined
 //! across packets; then packets get lost, repeated, delayed and renumbered, and sessions close and open in the middle.
+//! A session has its packets mostly by one transport, or by both mixed.
 
 use std::collections::BTreeMap;
 
 use crate::capture::{Capture, Entry, LONGEST_FILE, MOST_ENTRIES, NUMBER_BYTES};
 use crate::card::{FLOWS, LONGEST_FRAME, ROWS};
-use crate::craft::{header, BEGIN, END, MIDDLE, S, WHOLE};
+use crate::craft::{header, over_ip, over_udp, BEGIN, END, MIDDLE, PLAIN_LEAD, S, WHOLE};
 use crate::dice::Dice;
 use crate::directed::NamedCapture;
 use crate::faults::Faults;
-use crate::packet::{big_endian, Kind, HEADER_BYTES, LONGEST_PACKET, MPEG_BYTES, MPEG_SYNC};
+use crate::packet::{big_endian, Kind, Packet, Transport, HEADER_BYTES, LONGEST_PACKET, MPEG_BYTES, MPEG_SYNC};
 use crate::sender::{send, Order, Position};
 
 /// How the traffic of a family looks. Shares are out of 100.
@@ -97,16 +98,19 @@ struct Traffic<'a> {
     most_entries: usize,
     /// The IDs in use, more than there are rows.
     ids: Vec<u32>,
+    /// How many of 100 packets of an ID come over UDP.
+    udp_shares: BTreeMap<u32, usize>,
     open: BTreeMap<u32, Kind>,
     outlets: BTreeMap<(u32, u8), Outlet>,
     /// Packets on their way, each with the number of entries after which it arrives.
-    delayed: Vec<(usize, Vec<u8>)>,
+    delayed: Vec<(usize, Packet)>,
 }
 
 impl<'a> Traffic<'a> {
     fn new(dice: &'a mut Dice, style: Style) -> Traffic<'a> {
         let most_entries = dice.between(style.most_entries.0, style.most_entries.1);
         let ids = some_ids(dice);
+        let udp_shares = ids.iter().map(|id| (*id, dice.pick(&[0, 0, 100, 100, 50, 50, 10]))).collect();
         Traffic {
             dice,
             style,
@@ -114,6 +118,7 @@ impl<'a> Traffic<'a> {
             size: NUMBER_BYTES,
             most_entries,
             ids,
+            udp_shares,
             open: BTreeMap::new(),
             outlets: BTreeMap::new(),
             delayed: Vec::new(),
@@ -202,33 +207,56 @@ impl<'a> Traffic<'a> {
     /// Makes a packet and lets it meet its fate.
     fn data_step(&mut self) -> bool {
         let (id, kind) = self.some_session();
-        let mut packet = if self.dice.percent(self.style.random) {
+        let mut bytes = self.some_packet(id, kind);
+        match self.dice.below(100) {
+            0..=4 => true,
+            5..=8 => {
+                // The copy may come by the other transport.
+                let copy = self.carry(id, &bytes);
+                self.delay(copy);
+                self.arrive(id, &bytes)
+            }
+            9..=12 => {
+                let packet = self.carry(id, &bytes);
+                self.delay(packet);
+                true
+            }
+            13..=14 => {
+                renumber(self.dice, &mut bytes);
+                self.go_on_after(&bytes);
+                self.arrive(id, &bytes)
+            }
+            _ => self.arrive(id, &bytes),
+        }
+    }
+
+    fn arrive(&mut self, id: u32, bytes: &[u8]) -> bool {
+        let packet = self.carry(id, bytes);
+        self.push(Entry::Data(packet))
+    }
+
+    /// A packet from its session ID on, as the style asks for it.
+    fn some_packet(&mut self, id: u32, kind: Kind) -> Vec<u8> {
+        if self.dice.percent(self.style.random) {
             self.random_packet(id, kind)
         } else if kind == Kind::Psp && self.dice.percent(self.style.near_longest) {
             self.near_longest_packet(id)
         } else {
             self.sound_packet(id, kind)
-        };
+        }
+    }
+
+    /// Puts a packet on one of the transports, and damages it as the style asks for it.
+    fn carry(&mut self, id: u32, bytes: &[u8]) -> Packet {
+        let udp_share = self.udp_shares.get(&id).copied().unwrap_or(50);
+        let mut packet = carry(self.dice, udp_share, bytes);
+        if self.dice.percent(2) {
+            damage_transport(self.dice, &mut packet);
+        }
         if self.dice.percent(self.style.damaged) {
             damage_packet(self.dice, &mut packet);
         }
-        match self.dice.below(100) {
-            0..=4 => true,
-            5..=8 => {
-                self.delay(packet.clone());
-                self.push(Entry::Data(packet))
-            }
-            9..=12 => {
-                self.delay(packet);
-                true
-            }
-            13..=14 => {
-                renumber(self.dice, &mut packet);
-                self.go_on_after(&packet);
-                self.push(Entry::Data(packet))
-            }
-            _ => self.push(Entry::Data(packet)),
-        }
+        packet
     }
 
     /// A flow whose packet got another number mostly goes on from there; otherwise it may be late for long.
@@ -239,7 +267,7 @@ impl<'a> Traffic<'a> {
         }
     }
 
-    fn delay(&mut self, packet: Vec<u8>) {
+    fn delay(&mut self, packet: Packet) {
         let due = self.entries.len() + self.dice.between(1, 12);
         self.delayed.push((due, packet));
     }
@@ -442,26 +470,48 @@ fn renumber(dice: &mut Dice, packet: &mut [u8]) {
     packet[6..8].copy_from_slice(&number.to_be_bytes());
 }
 
-/// Damages a packet, which has at least a header, in one of several ways.
-pub fn damage_packet(dice: &mut Dice, packet: &mut Vec<u8>) {
-    let length = packet.len();
-    match dice.below(9) {
-        0 => packet.truncate(dice.below(length)),
-        1 => packet.truncate(length.saturating_sub(dice.between(1, 3))),
+/// Puts a packet, from its session ID on, on UDP in so many of 100 throws, and else on IP. Over UDP the bits that are
+/// ignored are mostly set by dice.
+pub fn carry(dice: &mut Dice, udp_share: usize, bytes: &[u8]) -> Packet {
+    if !dice.percent(udp_share) {
+        return over_ip(bytes.to_vec());
+    }
+    let thrown = [dice.byte() & 0x7F, dice.byte() & 0xF0 | 0x03, dice.byte(), dice.byte()];
+    over_udp(dice.pick(&[PLAIN_LEAD, thrown, thrown]), bytes)
+}
+
+/// Sets T, throws another version, or gives a packet as one that came by the other transport.
+fn damage_transport(dice: &mut Dice, packet: &mut Packet) {
+    match (packet.transport, dice.below(3)) {
+        (Transport::Ip, _) => packet.transport = Transport::Udp,
+        (Transport::Udp, 0) => packet.bytes[0] |= 0x80,
+        (Transport::Udp, 1) => packet.bytes[1] ^= dice.between(1, 15) as u8,
+        (Transport::Udp, _) => packet.transport = Transport::Ip,
+    }
+}
+
+/// Damages a packet, which has at least the bytes of session ID and header, in one of several ways.
+pub fn damage_packet(dice: &mut Dice, packet: &mut Packet) {
+    let Packet { transport, bytes } = packet;
+    let (lead, length) = (transport.lead(), bytes.len());
+    match dice.below(10) {
+        0 => bytes.truncate(dice.below(length)),
+        1 => bytes.truncate(length.saturating_sub(dice.between(1, 3))),
         2 => {
             let more = dice.between(1, 4);
-            packet.extend(dice.bytes(more));
+            bytes.extend(dice.bytes(more));
         }
-        3 => flip_bits(dice, packet, 0, length),
-        4 => flip_bits(dice, packet, 4, 6),
-        5 => flip_bits(dice, packet, 6, 8),
-        6 => flip_bits(dice, packet, HEADER_BYTES, 14),
+        3 => flip_bits(dice, bytes, 0, length),
+        4 => flip_bits(dice, bytes, lead + 4, lead + 6),
+        5 => flip_bits(dice, bytes, lead + 6, lead + 8),
+        6 => flip_bits(dice, bytes, lead + HEADER_BYTES, lead + 14),
         7 => {
-            let place = dice.below(length.min(12));
-            packet[place] = dice.byte();
+            let place = dice.below(length.min(lead + 12));
+            bytes[place] = dice.byte();
         }
-        _ if dice.percent(5) => packet.resize(LONGEST_PACKET + dice.below(3), 0),
-        _ => shift_length(dice, packet),
+        8 => damage_transport(dice, packet),
+        _ if dice.percent(5) => bytes.resize(lead + LONGEST_PACKET + dice.below(3), 0),
+        _ => shift_length(dice, &mut bytes[lead..]),
     }
 }
 
@@ -504,7 +554,7 @@ fn damage_file(dice: &mut Dice, file: &mut Vec<u8>) {
         }
         6 | 7 => file.resize(LONGEST_FILE + dice.between(1, 9_000), 0),
         8 => file[0] |= dice.between(4, 255) as u8,
-        9 => file[entry] = dice.below(6) as u8,
+        9 => file[entry] = dice.pick(&[0, 1, 2, 3, 4, 5, 8, 9, 255]),
         10 => file[entry + 3] = file[entry + 3].wrapping_add(dice.pick(&[1, 255])),
         11 => shift_boundary(file, entries),
         12 => {
@@ -522,7 +572,8 @@ fn damage_file(dice: &mut Dice, file: &mut Vec<u8>) {
 /// Moves the boundary between two data entries that follow one another: the file stays sound.
 fn shift_boundary(file: &mut [u8], entries: usize) {
     let line = |entry: usize| 2 + 4 * entry;
-    let both_data = |entry: &usize| file[line(*entry)] == 4 && file[line(*entry + 1)] == 4;
+    let is_data = |entry: usize| [4, 5].contains(&file[line(entry)]);
+    let both_data = |entry: &usize| is_data(*entry) && is_data(*entry + 1);
     let Some(first) = (0..entries.saturating_sub(1)).rfind(both_data) else {
         return;
     };
@@ -540,9 +591,10 @@ mod tests {
     use crate::packet::Body;
 
     /// The body bytes of a packet: what its segments or MPEG packets hold.
-    fn body_bytes(kind: Kind, packet: &[u8]) -> usize {
-        let header = crate::packet::read_header(packet, Faults::NONE).unwrap();
-        match crate::packet::read_body(kind, &header, packet, Faults::NONE).unwrap() {
+    fn body_bytes(kind: Kind, packet: &Packet) -> usize {
+        let Packet { transport, bytes } = packet;
+        let header = crate::packet::read_header(*transport, bytes, Faults::NONE).unwrap();
+        match crate::packet::read_body(kind, *transport, &header, bytes, Faults::NONE).unwrap() {
             Body::Segments(segments) => segments.iter().map(|segment| segment.bytes.len()).sum(),
             Body::Mpeg(packets) => packets.iter().map(|packet| packet.len()).sum(),
         }
@@ -561,14 +613,14 @@ mod tests {
                 let answer = match entry {
                     Entry::Open(kind, id) => card.open(*id, *kind),
                     Entry::Close(id) => card.close(*id),
-                    Entry::Data(packet) => card.data(packet),
+                    Entry::Data(packet) => card.data(packet.transport, &packet.bytes),
                 };
                 let Ok(answer) = answer else {
                     continue;
                 };
                 settled += answer.bytes() + answer.dropped;
                 if let Entry::Data(packet) = entry {
-                    let id = big_endian(&packet[..4]);
+                    let id = big_endian(&packet.after_lead()[..4]);
                     let kind = card.rows().into_iter().find(|(open, _)| *open == id).unwrap().1.kind;
                     taken += body_bytes(kind, packet);
                 }

@@ -8,8 +8,8 @@ use std::fmt::Write;
 
 use crate::capture::{Capture, Entry};
 use crate::card::{Answer, Card, Flow};
-use crate::faults::Faults;
-use crate::packet::Refusal;
+use crate::faults::{Fault, Faults};
+use crate::packet::{Refusal, Transport};
 
 pub const HEADER: &str = "n what code frames bytes dropped gap";
 
@@ -54,7 +54,7 @@ pub fn run(file: &[u8], detail: Detail, faults: Faults) -> Listing {
             Ok(answer) => (0, answer),
             Err(Refusal(number)) => (number, Answer::default()),
         };
-        print_entry(&mut text, index, entry, code, &answer);
+        print_entry(&mut text, index, entry, code, &answer, faults);
         if detail == Detail::Trace {
             print_frames(&mut text, &answer);
             print_rows(&mut text, &card);
@@ -69,14 +69,16 @@ fn call(card: &mut Card, entry: &Entry) -> Result<Answer, Refusal> {
     match entry {
         Entry::Open(kind, session) => card.open(*session, *kind),
         Entry::Close(session) => card.close(*session),
-        Entry::Data(packet) => card.data(packet),
+        Entry::Data(packet) => card.data(packet.transport, &packet.bytes),
     }
 }
 
-fn print_entry(text: &mut String, index: usize, entry: &Entry, code: u8, answer: &Answer) {
+/// The word for data is the same whatever its transport.
+fn print_entry(text: &mut String, index: usize, entry: &Entry, code: u8, answer: &Answer, faults: Faults) {
     let what = match entry {
         Entry::Open(..) => "open",
         Entry::Close(_) => "close",
+        Entry::Data(packet) if packet.transport == Transport::Udp && faults.has(Fault::UdpEntryNamedUdp) => "udp",
         Entry::Data(_) => "data",
     };
     let (frames, bytes, dropped, gap) = (answer.frames.len(), answer.bytes(), answer.dropped, answer.gap);
@@ -156,6 +158,24 @@ n what code frames bytes dropped gap
     #[test]
     fn the_trace_adds_frames_and_rows() {
         assert_eq!(run(&capture().write(), Detail::Trace, Faults::NONE).text, TRACE);
+    }
+
+    /// The same capture with its packets over UDP, and then with every second one: the same listing and trace.
+    #[test]
+    fn the_transport_is_not_seen_in_what_is_printed() {
+        for over_ip in [&[][..], &[1, 3], &[2]] {
+            let mut capture = capture();
+            for (index, entry) in capture.entries.iter_mut().enumerate() {
+                if let Entry::Data(packet) = entry {
+                    if !over_ip.contains(&index) {
+                        packet.transport = Transport::Udp;
+                        packet.bytes.splice(..0, [0, 3, 0, 0]);
+                    }
+                }
+            }
+            assert_eq!(run(&capture.write(), Detail::List, Faults::NONE).text, LIST);
+            assert_eq!(run(&capture.write(), Detail::Trace, Faults::NONE).text, TRACE);
+        }
     }
 
     #[test]

@@ -1,10 +1,11 @@
 //! The second program: document 01 once more, written apart from the proved programs, to be compared with them.
 //!
 //! This file has the commands. What they do stands in the modules: `packet` and `card` receive, `sender` sends,
-//! `capture` reads and writes files, `listing` prints; `directed`, `generate`, `sends` and `plan` make what is compared,
-//! `compare` compares it. `calls` answers as the C library does, on tables of `raw`; `call_cases` and `call_dice`, with
-//! `packets`, `tables` and `aimed`, make calls, and `records` writes them. `mpeg` puts
-//! frames into MPEG packets and gets them out, and `mpeg_cases` makes calls of that. `faults` makes this program wrong on purpose.
+//! `capture` reads and writes files, `listing` prints; `directed`, `transports`, `generate`, `sends` and `plan` make what
+//! is compared, `compare` compares it. `calls` answers as the C library does, on tables of `raw`; `call_cases`,
+//! `transport_cases` and `call_dice`, with `packets`, `tables` and `aimed`, make calls, and `records` writes them. `mpeg`
+//! puts frames into MPEG packets and gets them out, and `mpeg_cases` makes calls of that. `faults` makes this program
+//! wrong on purpose.
 
 mod aimed;
 mod call_cases;
@@ -29,6 +30,8 @@ mod records;
 mod sender;
 mod sends;
 mod tables;
+mod transport_cases;
+mod transports;
 
 use std::fs;
 use std::io::{self, Read, Write};
@@ -46,7 +49,7 @@ use sender::Order;
 const USAGE: &str = "\
 second list < CAPTURE
 second trace < CAPTURE
-second check KIND < PACKET
+second check KIND TRANSPORT < PACKET
 second send SESSION FLOW NUMBER L < FRAMES > CAPTURE
 second calls [--fault NAME] SEED COUNT > RECORDS
 second generate SEED COUNT FOLDER
@@ -78,7 +81,7 @@ fn run(words: &[String]) -> io::Result<u8> {
     match words.as_slice() {
         ["list"] => list(Detail::List),
         ["trace"] => list(Detail::Trace),
-        ["check", kind] => check(number(kind)?),
+        ["check", kind, transport] => check(number(kind)?, number(transport)?),
         ["send", session, flow, first, limit] => send(Order {
             session: number(session)?,
             flow: number(flow)?,
@@ -118,8 +121,8 @@ fn list(detail: Detail) -> io::Result<u8> {
     Ok(0)
 }
 
-fn check(kind: u64) -> io::Result<u8> {
-    println!("{}", packet::check(kind, &standard_input()?, Faults::NONE));
+fn check(kind: u64, transport: u64) -> io::Result<u8> {
+    println!("{}", packet::check(kind, transport, &standard_input()?, Faults::NONE));
     Ok(0)
 }
 

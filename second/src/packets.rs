@@ -1,61 +1,94 @@
-//! Packets for the packet check without a table, each together with the kind that it is asked as.
+//! Packets for the packet check without a table, each together with the kind and the transport that it is asked as.
 //!
-//! Document 01, 'Refusal numbers': the card's host program gives a kind and bytes, and is answered by a number.
-//! `tests/calls` puts these questions to the proved check and to this program's. Directed packets do not depend on a
-//! seed; they are those of the directed captures and, here, each place of the longest tables and packets. Then dice make
-//! sound packets of both kinds, and damage most of them.
+//! Document 01, 'Refusal numbers', and document 02, W1: the card's host program gives a kind, a transport and bytes, and
+//! is answered by a number. `tests/calls` puts these questions to the proved check and to this program's. Directed packets
+//! do not depend on a seed; they are those of the directed captures and, here, each place of the longest tables and
+//! packets, by either transport. Then dice make sound packets of both kinds, and damage most of them.
 
-use crate::craft::{dmpt, header, psp, psp_with, BEGIN, END, S, WHOLE};
+use std::collections::BTreeSet;
+
+use crate::calls::Arrival;
+use crate::craft::{
+    carried, dmpt, header, over_ip, over_udp, psp, psp_with, BEGIN, END, PLAIN_LEAD, S, WHOLE, WRONG_LEADS,
+};
 use crate::dice::Dice;
 use crate::directed;
-use crate::generate::{damage_packet, flip_bits};
-use crate::packet::{Kind, HEADER_BYTES, LONGEST_PACKET, MPEG_BYTES, MPEG_SYNC};
+use crate::generate::{carry, damage_packet, flip_bits};
+use crate::packet::{Kind, Packet, Transport, HEADER_BYTES, LONGEST_PACKET, MPEG_BYTES, MPEG_SYNC, UDP_BYTES};
 use crate::raw::{DMPT, PSP};
+use crate::transports;
 
 const MOST_SEGMENTS: usize = 127;
 const MOST_MPEG_PACKETS: usize = 21;
 const SESSION: u32 = 0x0000_0101;
 
 /// Kinds that there are not; 257, 65,537, 65,538 and 2^31 + 1 would be 1 or 2 to who reads only some of the bits.
-const OTHER_KINDS: [u32; 9] = [0, 3, 255, 257, 65_537, 65_538, 1 << 31, (1 << 31) + 1, u32::MAX];
+pub const OTHER_KINDS: [u32; 9] = [0, 3, 255, 257, 65_537, 65_538, 1 << 31, (1 << 31) + 1, u32::MAX];
+/// Transports that there are not: the same, and the kinds that packets have in a capture.
+pub const OTHER_TRANSPORTS: [u32; 12] =
+    [0, 3, 4, 5, 255, 257, 258, 65_537, 65_538, (1 << 31) + 1, (1 << 31) + 2, u32::MAX];
 /// One packet in so many is asked as one of them.
-const PACKETS_PER_OTHER_KIND: usize = 6;
+const PACKETS_PER_OTHER: usize = 6;
 
 /// A question to the packet check.
 #[derive(Clone, Debug, PartialEq, Eq)]
 pub struct Question {
     pub kind: u32,
-    pub packet: Vec<u8>,
+    pub arrival: Arrival,
 }
 
 /// All directed questions; the first ones show every answer.
 pub fn directed() -> impl Iterator<Item = Question> {
-    let every_kind = [&[PSP, DMPT], OTHER_KINDS.as_slice()].concat();
-    let first = one_of_each().into_iter().flat_map(move |packet| asked_as(&every_kind, packet));
-    let packets = directed_packets().into_iter().enumerate();
-    first.chain(packets.flat_map(|(place, packet)| asked_as(&kinds_in_place(place), packet)))
+    let first = one_of_each().into_iter().flat_map(asked_in_every_way);
+    first.chain(all().into_iter().enumerate().flat_map(|(place, packet)| asked_in_turn(place, packet)))
 }
 
 /// The questions of that index.
 pub fn random(seed: u64, index: u64) -> Vec<Question> {
-    asked_as(&kinds_in_place(index as usize), random_packet(seed, index))
+    asked_in_turn(index as usize, random_packet(seed, index))
 }
 
-fn asked_as(kinds: &[u32], packet: Vec<u8>) -> Vec<Question> {
-    kinds.iter().map(|kind| Question { kind: *kind, packet: packet.clone() }).collect()
-}
-
-/// PSP and D-MPT for every packet, another kind for some.
-fn kinds_in_place(place: usize) -> Vec<u32> {
-    let mut kinds = vec![PSP, DMPT];
-    if place.is_multiple_of(PACKETS_PER_OTHER_KIND) {
-        kinds.push(OTHER_KINDS[place / PACKETS_PER_OTHER_KIND % OTHER_KINDS.len()]);
+/// As every kind and by every transport, those that there are not included, in every combination.
+fn asked_in_every_way(packet: Packet) -> Vec<Question> {
+    let mut all = Vec::new();
+    for kind in [PSP, DMPT].iter().chain(&OTHER_KINDS) {
+        for transport in Transport::ALL.map(Transport::number).iter().chain(&OTHER_TRANSPORTS) {
+            let arrival = Arrival { transport: *transport, bytes: packet.bytes.clone() };
+            all.push(Question { kind: *kind, arrival });
+        }
     }
-    kinds
+    all
 }
 
-/// A packet for each answer, the kind apart: 24 comes before all of them.
-fn one_of_each() -> Vec<Vec<u8>> {
+/// As PSP and as D-MPT for every packet; for some also as another kind, by another transport, or both.
+fn asked_in_turn(place: usize, packet: Packet) -> Vec<Question> {
+    let arrival = Arrival::from(packet);
+    let mut all: Vec<Question> = [PSP, DMPT].map(|kind| Question { kind, arrival: arrival.clone() }).into();
+    if place.is_multiple_of(PACKETS_PER_OTHER) {
+        let turn = place / PACKETS_PER_OTHER;
+        let other_kind = OTHER_KINDS[turn % OTHER_KINDS.len()];
+        let other_transport = OTHER_TRANSPORTS[turn % OTHER_TRANSPORTS.len()];
+        let (kind, transport) = match turn % 3 {
+            0 => (other_kind, arrival.transport),
+            1 => ([PSP, DMPT][turn % 2], other_transport),
+            _ => (other_kind, other_transport),
+        };
+        all.push(Question { kind, arrival: Arrival { transport, ..arrival } });
+    }
+    all
+}
+
+/// A packet for each answer but 24, which comes before all of them; by either transport.
+pub fn one_of_each() -> Vec<Packet> {
+    let from_session = one_of_each_from_session();
+    let sound = &from_session[0];
+    let mut all: Vec<Packet> = from_session.iter().cloned().map(over_ip).collect();
+    all.extend(from_session.iter().map(|bytes| over_udp(PLAIN_LEAD, bytes)));
+    all.extend(WRONG_LEADS[..4].iter().map(|lead| over_udp(*lead, sound)));
+    all
+}
+
+fn one_of_each_from_session() -> Vec<Vec<u8>> {
     let sound = psp(SESSION, 1, 7, &[(END, 3), (BEGIN, 2)]);
     vec![
         sound.clone(),
@@ -73,9 +106,22 @@ fn one_of_each() -> Vec<Vec<u8>> {
     ]
 }
 
-/// All directed packets but the first few.
-fn directed_packets() -> Vec<Vec<u8>> {
-    let mut all = directed::packets();
+/// All directed packets, each once.
+pub fn all() -> Vec<Packet> {
+    let mut all = one_of_each();
+    all.extend(transports::packets());
+    all.extend(lengths_over_udp());
+    for (turn, bytes) in from_session().iter().enumerate() {
+        all.extend(Transport::ALL.map(|transport| carried(transport, turn, bytes)));
+    }
+    let mut seen = BTreeSet::new();
+    all.retain(|packet| seen.insert(packet.clone()));
+    all
+}
+
+/// Directed packets from their session ID on.
+fn from_session() -> Vec<Vec<u8>> {
+    let mut all: Vec<Vec<u8>> = directed::packets().into_iter().map(|packet| packet.bytes).collect();
     all.extend(sessions());
     all.extend(lengths());
     all.extend(counts());
@@ -109,6 +155,21 @@ fn lengths() -> Vec<Vec<u8>> {
     for length in around_longest {
         for count in [1, 2, MOST_SEGMENTS] {
             all.push(psp(SESSION, 0, 3, &filling_segments(count, length)));
+        }
+    }
+    all
+}
+
+/// Lengths on either side of 12 and 4,104, which are those over UDP, and such as are small in 16 bits.
+fn lengths_over_udp() -> Vec<Packet> {
+    let longest = LONGEST_PACKET + UDP_BYTES;
+    let around = (0..=HEADER_BYTES + UDP_BYTES + 3).chain(LONGEST_PACKET - 2..=longest + 2);
+    let mut all = Vec::new();
+    for length in around.chain([65_535, 65_536, 65_548, 65_560, 69_640]) {
+        for start in [[0x00; UDP_BYTES], [0x03; UDP_BYTES], PLAIN_LEAD, [0xFF; UDP_BYTES]] {
+            let mut bytes = start.to_vec();
+            bytes.resize(length, start[3]);
+            all.push(Packet { transport: Transport::Udp, bytes });
         }
     }
     all
@@ -208,20 +269,21 @@ fn every_sync_byte() -> Vec<Vec<u8>> {
     only.chain((0..MOST_MPEG_PACKETS).map(|place| flipped(MOST_MPEG_PACKETS, place, place % 8))).collect()
 }
 
-/// The packet of that index: sound, damaged anywhere, or damaged where its kind has most to lose.
-fn random_packet(seed: u64, index: u64) -> Vec<u8> {
+/// The packet of that index, by either transport: sound, damaged anywhere, or damaged where its kind has most to lose.
+fn random_packet(seed: u64, index: u64) -> Packet {
     let mut dice = Dice::for_index(seed, index);
     let kind = if dice.percent(60) { Kind::Psp } else { Kind::Dmpt };
-    let mut packet = sound_packet(&mut dice, kind);
+    let bytes = sound_packet(&mut dice, kind);
+    let mut packet = carry(&mut dice, 50, &bytes);
     match dice.below(8) {
         0..=2 => {}
         3..=5 => damage_packet(&mut dice, &mut packet),
-        _ => damage_layout(&mut dice, kind, &mut packet),
+        _ => damage_layout(&mut dice, kind, &mut packet.bytes[packet.transport.lead()..]),
     }
     packet
 }
 
-/// A packet that passes the check as that kind. X and the reserved bit are set now and then.
+/// A packet, from its session ID on, that passes the check as that kind. X and the reserved bit are set now and then.
 fn sound_packet(dice: &mut Dice, kind: Kind) -> Vec<u8> {
     let mut packet = match kind {
         Kind::Psp => sound_psp(dice),
@@ -287,31 +349,33 @@ mod tests {
     use super::*;
     use crate::faults::Faults;
     use crate::packet;
-    use std::collections::BTreeSet;
 
-    fn answer(kind: u32, packet: &[u8]) -> u8 {
-        packet::check(u64::from(kind), packet, Faults::NONE)
+    fn answer(kind: u32, arrival: &Arrival) -> u8 {
+        packet::check(u64::from(kind), u64::from(arrival.transport), &arrival.bytes, Faults::NONE)
     }
 
     #[test]
     fn the_first_questions_show_every_answer() {
-        let first = one_of_each().len() * (2 + OTHER_KINDS.len());
-        let answers = directed().take(first).map(|question| answer(question.kind, &question.packet));
-        assert_eq!(answers.collect::<BTreeSet<_>>(), [0, 2, 3, 4, 6, 7, 8, 9, 10, 11, 24].into());
+        let first = one_of_each().len() * (2 + OTHER_KINDS.len()) * (2 + OTHER_TRANSPORTS.len());
+        let answers = directed().take(first).map(|question| answer(question.kind, &question.arrival));
+        assert_eq!(answers.collect::<BTreeSet<_>>(), [0, 2, 3, 4, 6, 7, 8, 9, 10, 11, 15, 24].into());
     }
 
     #[test]
     fn packets_made_sound_pass_the_check() {
         let mut dice = Dice::new(5);
         for kind in [Kind::Psp, Kind::Dmpt].into_iter().cycle().take(2_000) {
-            let packet = sound_packet(&mut dice, kind);
-            assert_eq!(answer(u32::from(kind.number()), &packet), 0);
+            let bytes = sound_packet(&mut dice, kind);
+            let packet = carry(&mut dice, 50, &bytes);
+            assert_eq!(answer(u32::from(kind.number()), &packet.into()), 0);
         }
     }
 
     #[test]
     fn the_longest_tables_have_the_answers_that_they_are_there_for() {
-        let answers = |packets: Vec<Vec<u8>>| -> Vec<u8> { packets.iter().map(|packet| answer(PSP, packet)).collect() };
+        let answers = |packets: Vec<Vec<u8>>| -> Vec<u8> {
+            packets.into_iter().map(|bytes| answer(PSP, &over_ip(bytes).into())).collect()
+        };
         assert!(answers(every_table_cut()).iter().all(|answer| *answer == 10));
         assert!(answers(every_length_off_by_one()).chunks(2).all(|pair| pair == [10, 0]));
         assert!(answers(every_segment_emptied()).iter().all(|answer| *answer == 11));

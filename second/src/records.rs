@@ -20,17 +20,25 @@
 
 use std::io::{self, Write};
 
-use crate::calls::{self, Answer, Array, Change, Lent, MpegWriting, Sending, HOLDING_BYTES};
+use crate::calls::{self, Answer, Array, Arrival, Change, Lent, MpegWriting, Sending, HOLDING_BYTES};
 use crate::dice::Dice;
 use crate::faults::Faults;
 use crate::packet::MPEG_BYTES;
 use crate::raw::RawTable;
 
 /// What the calls of `tests/calls` are there for. Each case has to come up.
-pub const CASES: [&str; 64] = [
+pub const CASES: [&str; 82] = [
     "first calls",
     "packets checked",
     "packets checked as kinds that there are not",
+    "packets checked by transports that there are not",
+    "packets checked as kinds and by transports that there are not",
+    "data by a transport that there is not",
+    "data by a transport that there is not, together with 1 and 13",
+    "every first and second byte over UDP",
+    "every first and second byte over IP",
+    "one flow by both transports",
+    "segments as other kinds and by other transports",
     "segments of packets",
     "segments of packets that are refused",
     "each of 127 segments",
@@ -56,8 +64,18 @@ pub const CASES: [&str; 64] = [
     "slices of each length",
     "slices of each length, together with other refusals",
     "refusals 1 and 13",
+    "refusals 1 and 24",
+    "refusals 13 and 24",
     "refusals 13 and 2",
     "refusals 13 and 3",
+    "refusals 24 and 2",
+    "refusals 24 and 3",
+    "refusals 24 and 15",
+    "refusals 2 and 15",
+    "refusals 3 and 15",
+    "refusals 15 and 4",
+    "refusals 15 and 5",
+    "refusals 15 and 12",
     "refusals 2 and 4",
     "refusals 3 and 4",
     "refusals 4 and 5",
@@ -317,10 +335,11 @@ impl<'a> Recorder<'a> {
         Ok(())
     }
 
-    pub fn check(&mut self, case: &'static str, kind: u32, packet: &[u8]) -> Recorded<Answer> {
-        self.put(Array::Packet, packet)?;
-        let answer = calls::check(kind, packet, self.faults);
-        self.ask(case, Call::Check, None, &[u64::from(kind), packet.len() as u64], answer)
+    pub fn check(&mut self, case: &'static str, kind: u32, arrival: &Arrival) -> Recorded<Answer> {
+        self.put(Array::Packet, &arrival.bytes)?;
+        let answer = calls::check(kind, arrival, self.faults);
+        let inputs = [u64::from(kind), u64::from(arrival.transport), arrival.bytes.len() as u64];
+        self.ask(case, Call::Check, None, &inputs, answer)
     }
 
     pub fn open(&mut self, case: &'static str, table: &RawTable, id: u32, kind: u32) -> Recorded<Answer> {
@@ -334,8 +353,8 @@ impl<'a> Recorder<'a> {
     }
 
     /// A data call with slices that are just long enough.
-    pub fn receive(&mut self, case: &'static str, table: &RawTable, packet: &[u8]) -> Recorded<Answer> {
-        self.receive_with(case, table, Lent::ENOUGH, packet)
+    pub fn receive(&mut self, case: &'static str, table: &RawTable, arrival: &Arrival) -> Recorded<Answer> {
+        self.receive_with(case, table, Lent::ENOUGH, arrival)
     }
 
     pub fn receive_with(
@@ -343,13 +362,19 @@ impl<'a> Recorder<'a> {
         case: &'static str,
         table: &RawTable,
         lent: Lent,
-        packet: &[u8],
+        arrival: &Arrival,
     ) -> Recorded<Answer> {
-        self.put(Array::Packet, packet)?;
-        let answer = calls::receive(table, &self.arrays[Array::Holding as usize], lent, packet, self.faults);
+        self.put(Array::Packet, &arrival.bytes)?;
+        let answer = calls::receive(table, &self.arrays[Array::Holding as usize], lent, arrival, self.faults);
         self.refresh(Array::Output, &answer)?;
         self.refresh(Array::Lengths, &answer)?;
-        let inputs = [lent.holding, packet.len(), lent.output, lent.lengths].map(|number| number as u64);
+        let inputs = [
+            u64::from(arrival.transport),
+            lent.holding as u64,
+            arrival.bytes.len() as u64,
+            lent.output as u64,
+            lent.lengths as u64,
+        ];
         self.ask(case, Call::Receive, Some(table), &inputs, answer)
     }
 
@@ -374,12 +399,12 @@ impl<'a> Recorder<'a> {
     }
 
     /// Both calls about segment k.
-    pub fn segment(&mut self, case: &'static str, packet: &[u8], k: u64) -> Recorded<()> {
-        self.put(Array::Packet, packet)?;
-        let inputs = [packet.len() as u64, k];
-        let answer = calls::segment_cause(packet, k, self.faults);
+    pub fn segment(&mut self, case: &'static str, kind: u32, arrival: &Arrival, k: u64) -> Recorded<()> {
+        self.put(Array::Packet, &arrival.bytes)?;
+        let inputs = [u64::from(kind), u64::from(arrival.transport), arrival.bytes.len() as u64, k];
+        let answer = calls::segment_cause(kind, arrival, k, self.faults);
         self.ask(case, Call::SegmentCause, None, &inputs, answer)?;
-        let answer = calls::segment(packet, k, self.faults);
+        let answer = calls::segment(kind, arrival, k, self.faults);
         self.ask(case, Call::Segment, None, &inputs, answer)?;
         Ok(())
     }

@@ -1,13 +1,14 @@
 //! The sender: cuts frames into PSP packets, one packet to a call.
 //!
-//! Document 01, 'The sender'. The generator of captures uses it to make traffic, and `second send` to make a whole
-//! capture out of a file of frames, as `pspsend` does. Refusal 36, an output too short, does not exist here: a packet is
-//! a vector of the length that it needs. `calls` has it.
+//! Document 01, 'The sender'; it knows nothing of transports: over UDP a host puts four bytes before what it writes. The
+//! generator of captures uses it to make traffic, and `second send` to make a whole capture out of a file of frames, as
+//! `pspsend` does. Refusal 36, an output too short, does not exist here: a packet is a vector of the length that it
+//! needs. `calls` has it.
 
 use crate::capture::{Capture, Entry};
 use crate::card::LONGEST_FRAME;
 use crate::faults::{Fault, Faults};
-use crate::packet::{Kind, Refusal, HIGHEST_FLOW};
+use crate::packet::{Kind, Packet, Refusal, Transport, HIGHEST_FLOW};
 
 pub const MOST_FRAMES: usize = 127;
 pub const MOST_SEGMENTS: usize = 127;
@@ -165,7 +166,7 @@ pub fn send_file(order: Order, file: &[u8], faults: Faults) -> Result<Vec<u8>, R
     let frames = read_frames(file).ok_or(Refusal(33))?;
     let packets = send_all(order, &frames, faults)?;
     let mut entries = vec![Entry::Open(Kind::Psp, order.session)];
-    entries.extend(packets.into_iter().map(Entry::Data));
+    entries.extend(packets.into_iter().map(|bytes| Entry::Data(Packet { transport: Transport::Ip, bytes })));
     let capture = Capture { entries };
     capture.check_size()?;
     Ok(capture.write())
