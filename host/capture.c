@@ -44,6 +44,7 @@ static bool is_line_sound(const uint8_t *line)
     case CAPTURE_CLOSE:
         return body_length(line) == SESSION_SIZE;
     case CAPTURE_DATA:
+    case CAPTURE_DATA_OVER_UDP:
         return true;
     default:
         return false;

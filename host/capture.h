@@ -24,12 +24,14 @@ enum capture_refusal {
     CAPTURE_BODIES_DO_NOT_FILL = 45
 };
 
-/* What an entry is. For the first three the body is a session ID, for the last a packet. */
+/* What an entry is. For the first three the body is a session ID, for the others a packet: one that came over IP, from
+ * its session ID on, or one that came over UDP, with the four bytes before that (document 02, W1). */
 enum capture_what {
     CAPTURE_OPEN_PSP = 1,
     CAPTURE_OPEN_DMPT = 2,
     CAPTURE_CLOSE = 3,
-    CAPTURE_DATA = 4
+    CAPTURE_DATA = 4,
+    CAPTURE_DATA_OVER_UDP = 5
 };
 
 /* An entry. The body is a part of the file, not a copy, and never a null pointer, even where it has no bytes. */
@@ -55,7 +57,7 @@ struct capture capture_start(const uint8_t *file);
 /* Gives the next entry, and whether there was one. */
 bool capture_next(struct capture *capture, struct capture_entry *entry);
 
-/* The number in four bytes, the highest byte first: a session ID, in an entry's body or at a packet's start. */
+/* The number in four bytes, the highest byte first: a session ID, in an entry's body or in a packet. */
 uint32_t capture_session(const uint8_t *bytes);
 
 #endif

@@ -1,23 +1,59 @@
-/* Asks the library, from C, for its verdict on packet A of document 01: as PSP, as D-MPT, as a
- * kind that there is not, and as PSP with the last byte cut off. Prints the four answers, and ends
- * with status 0 only where they are the right ones. host/run builds and runs it. */
+/* Asks the library, from C, for its verdict on packet A of document 01: as PSP, as D-MPT, as a kind that there is not,
+ * and as PSP with the last byte cut off; then on the same packet over UDP, by a transport that there is not, and by
+ * the wrong one of the two. Prints the answers, and where the packet's second segment stands by either transport, and
+ * ends with status 0 only where they are the right ones. host/run builds and runs it. */
 #include "sklyapina.h"
 #include "standard.h"
 
-/* Byte 4 is 0x41: S set, flow 1. Two segments, of 6 and 2 bytes: 8 + 2 x 2 + 6 + 2 is 20 bytes. */
-static const uint8_t packet_a[20] = {
+enum { BEFORE_SESSION = 4, OVER_IP = 20, OVER_UDP = BEFORE_SESSION + OVER_IP };
+
+/* As it comes over UDP: T 0 and version 3, then what it is over IP. Byte 4 of that is 0x41: S set, flow 1. Two
+ * segments, of 6 and 2 bytes: 8 + 2 x 2 + 6 + 2 is 20 bytes. */
+static const uint8_t udp_packet[OVER_UDP] = {
+    0x00, 0x03, 0x00, 0x00,
     0x00, 0x00, 0x01, 0x01, 0x41, 0x02, 0xFF, 0xFF, 0xC0, 0x06,
     0x80, 0x02, 0x11, 0x12, 0x13, 0x14, 0x15, 0x16, 0x21, 0x22
 };
+static const uint8_t *const ip_packet = udp_packet + BEFORE_SESSION;
 
-int main(void)
+static bool kinds_are_told(void)
 {
-    unsigned int psp = sklyapina_check(SKLYAPINA_KIND_PSP, packet_a, sizeof packet_a);
-    unsigned int dmpt = sklyapina_check(SKLYAPINA_KIND_DMPT, packet_a, sizeof packet_a);
-    unsigned int other = sklyapina_check(3, packet_a, sizeof packet_a);
-    unsigned int cut = sklyapina_check(SKLYAPINA_KIND_PSP, packet_a, sizeof packet_a - 1);
+    unsigned int psp = sklyapina_check(SKLYAPINA_KIND_PSP, SKLYAPINA_IP, ip_packet, OVER_IP);
+    unsigned int dmpt = sklyapina_check(SKLYAPINA_KIND_DMPT, SKLYAPINA_IP, ip_packet, OVER_IP);
+    unsigned int other = sklyapina_check(3, SKLYAPINA_IP, ip_packet, OVER_IP);
+    unsigned int cut = sklyapina_check(SKLYAPINA_KIND_PSP, SKLYAPINA_IP, ip_packet, OVER_IP - 1);
 
     printf("psp %u, dmpt %u, other %u, cut %u\n", psp, dmpt, other, cut);
     return psp == SKLYAPINA_NONE && dmpt == SKLYAPINA_FLOW_OUTSIDE
-        && other == SKLYAPINA_KIND_UNKNOWN && cut == SKLYAPINA_LENGTHS_DISAGREE ? 0 : 1;
+        && other == SKLYAPINA_KIND_UNKNOWN && cut == SKLYAPINA_LENGTHS_DISAGREE;
+}
+
+/* Given as UDP, the session ID 00 00 01 01 has version 0. Given as IP, 00 03 00 00 is the session ID and what was the
+ * session ID is the header, in which S is clear. */
+static bool transports_are_told(void)
+{
+    unsigned int udp = sklyapina_check(SKLYAPINA_KIND_PSP, SKLYAPINA_UDP, udp_packet, OVER_UDP);
+    unsigned int other = sklyapina_check(SKLYAPINA_KIND_PSP, 3, udp_packet, OVER_UDP);
+    unsigned int ip_as_udp = sklyapina_check(SKLYAPINA_KIND_PSP, SKLYAPINA_UDP, ip_packet, OVER_IP);
+    unsigned int udp_as_ip = sklyapina_check(SKLYAPINA_KIND_PSP, SKLYAPINA_IP, udp_packet, OVER_UDP);
+
+    printf("udp %u, other %u, ip as udp %u, udp as ip %u\n", udp, other, ip_as_udp, udp_as_ip);
+    return udp == SKLYAPINA_NONE && other == SKLYAPINA_KIND_UNKNOWN
+        && ip_as_udp == SKLYAPINA_NOT_VERSION_3 && udp_as_ip == SKLYAPINA_NO_NUMBER;
+}
+
+static bool places_are_told(void)
+{
+    struct sklyapina_stretch ip = sklyapina_segment(SKLYAPINA_KIND_PSP, SKLYAPINA_IP, ip_packet, OVER_IP, 1);
+    struct sklyapina_stretch udp = sklyapina_segment(SKLYAPINA_KIND_PSP, SKLYAPINA_UDP, udp_packet, OVER_UDP, 1);
+
+    printf("segment 1 at %zu over ip, at %zu over udp\n", ip.place, udp.place);
+    return ip_packet + ip.place == udp_packet + udp.place && ip.length == 2 && udp.length == 2;
+}
+
+int main(void)
+{
+    bool kinds = kinds_are_told(), transports = transports_are_told(), places = places_are_told();
+
+    return kinds && transports && places ? 0 : 1;
 }

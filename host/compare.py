@@ -6,7 +6,8 @@ host/summary.py works out from the listing of psplist and the trace of psptrace.
 two. One more capture is made here, since none of the others fills a queue to its last byte.
 
 Prints how much was compared. Status 1 where anything differs, and where the captures do not have in them what is to be
-compared: every refusal that a capture can bring about, every state in which a session can end, queues that are full.
+compared: every refusal that a capture can bring about, every state in which a session can end, queues that are full,
+sessions that get packets over IP, over UDP and by both.
 """
 
 import collections
@@ -19,13 +20,15 @@ import summary
 ROOT = pathlib.Path(__file__).resolve().parent.parent
 RUN = str(ROOT / "bin/run-x86-64")
 DATA_LINE = summary.CALLS.index("data")  # in a summary's lines of calls
+OPEN_PSP, DATA = 1, 4  # kinds of entries
 
 # What the summaries have to show at least once: refusals of files, then of calls, kinds and states of sessions, and
 # what else can come up.
 WANTED = [f"refused {code}" for code in range(41, 46)]
-WANTED += [f"code {code}" for code in [*range(2, 13), 21, 22, 23, 25]]
+WANTED += [f"code {code}" for code in [*range(2, 13), 15, 21, 22, 23, 25]]
 WANTED += [f"{kind} {state}" for kind in ("PSP", "D-MPT") for state in ("open", "closed")]
 WANTED += ["six sessions open", "bytes held at the end", "two frames waiting", "frames lost to a full queue"]
+WANTED += ["a session over IP", "a session over UDP", "a session by both"]
 
 
 def number_bytes(number, width):
@@ -44,7 +47,7 @@ def filled_queue():
     1 + 2,048 + 2,037 + 1 were taken: 12,257 wait. The frame of 31 makes 12,288, all that there is room for, and the
     last frame is lost."""
     packets = [whole_frames(number, [1, 2048, 2037]) for number in range(4)] + [whole_frames(4, [31, 1])]
-    entries = [(1, number_bytes(1, 4))] + [(4, packet) for packet in packets]
+    entries = [(OPEN_PSP, number_bytes(1, 4))] + [(DATA, packet) for packet in packets]
     contents = b"".join(bytes([what, 0]) + number_bytes(len(body), 2) for what, body in entries)
     return number_bytes(len(entries), 2) + contents + b"".join(body for _, body in entries)
 
@@ -93,6 +96,18 @@ def seen_in(text):
     return seen
 
 
+def transports_in(capture, listing):
+    """How many sessions had packets accepted over IP, over UDP and by both."""
+    if listing.startswith("refused "):
+        return collections.Counter()
+    codes = [line.split()[2] for line in listing.splitlines()[1:]]
+    accepted = [entry for entry, code in zip(summary.entries_of(capture), codes) if code == "0"]
+    over_ip = {summary.session_of(*entry) for entry in accepted if entry[0] == DATA}
+    over_udp = {summary.session_of(*entry) for entry in accepted if entry[0] == summary.DATA_OVER_UDP}
+    found = {"a session over IP": over_ip, "a session over UDP": over_udp, "a session by both": over_ip & over_udp}
+    return collections.Counter({what: len(sessions) for what, sessions in found.items()})
+
+
 def differences(node, name, capture, expected):
     """What is wrong with what node prints for a capture."""
     for words, wanted in ((["frames"], expected), ([], summary.without_frames(expected))):
@@ -110,7 +125,7 @@ def main():
     for name, capture in captures.items():
         listing, trace = (printed(ROOT / "target/bin" / program, capture) for program in ("psplist", "psptrace"))
         expected = summary.summary(capture, listing, trace)
-        seen += seen_in(expected)
+        seen += seen_in(expected) + transports_in(capture, listing)
         for difference in differences(node, name, capture, expected):
             print(difference)
             wrong += 1

@@ -44,6 +44,9 @@ enum call { CALL_OPEN, CALL_CLOSE, CALL_DATA, CALLS };
 /* Open, close and data are refused by numbers of 1 to 25. */
 enum { REFUSALS = SKLYAPINA_CLOSE_OF_NONE + 1 };
 
+/* Over UDP four bytes stand before a packet's session ID (RFC 3931, section 4.1.2.1). */
+enum { BEFORE_SESSION_OVER_UDP = 4 };
+
 /* Calls made and refused, and refusals by their number. */
 struct counts {
     unsigned long made[CALLS];
@@ -75,6 +78,7 @@ static const char *const words[REFUSALS] = {
     [SKLYAPINA_CONTENT_SPOILT] = "content spoilt",
     [SKLYAPINA_LATE] = "late",
     [SKLYAPINA_TABLE_BROKEN] = "table broken",
+    [SKLYAPINA_NOT_VERSION_3] = "not version 3",
     [SKLYAPINA_OPEN_WITHOUT_ID] = "open without id",
     [SKLYAPINA_ALREADY_OPEN] = "already open",
     [SKLYAPINA_ALL_ROWS_OPEN] = "all rows open",
@@ -95,8 +99,8 @@ static bool was_accepted(struct counts *counts, enum call call, uint32_t code)
     return false;
 }
 
-/* Whether the host itself did something wrong: its arrays are too short, it damaged the table, or it asked for a
- * kind that there is not. No packet and no operator can bring about these three. */
+/* Whether the host itself did something wrong: its arrays are too short, it damaged the table, or it named a kind
+ * or a transport that there is not. No packet and no operator can bring about these three. */
 static bool is_host_at_fault(const struct counts *counts)
 {
     return counts->by_number[SKLYAPINA_SLICE_TOO_SMALL] > 0
@@ -222,13 +226,20 @@ static void queue_frames(struct queue *queue, const uint8_t *output, const uint1
     }
 }
 
-static void receive_packet(struct card *card, const uint8_t *packet, size_t length)
+/* The session of a packet that was accepted: such a packet has 8 bytes at least, over UDP 12. */
+static uint32_t session_of(uint32_t transport, const uint8_t *packet)
+{
+    return capture_session(transport == SKLYAPINA_UDP ? packet + BEFORE_SESSION_OVER_UDP : packet);
+}
+
+/* A driver knows the transport by where a packet came in: from IP as protocol 115, or at the UDP port of a session. */
+static void receive_packet(struct card *card, uint32_t transport, const uint8_t *packet, size_t length)
 {
     /* Filled by one call and emptied before the next, so one pair serves every channel. The lengths of arrays are
      * given in elements: for lengths that is not its size in bytes. */
     static uint8_t output[SKLYAPINA_MOST_BYTES];
     static uint16_t lengths[SKLYAPINA_MOST_FRAMES];
-    struct sklyapina_received answer = sklyapina_receive(card->table, card->holding, SKLYAPINA_HOLDING_SIZE,
+    struct sklyapina_received answer = sklyapina_receive(card->table, transport, card->holding, SKLYAPINA_HOLDING_SIZE,
                                                          packet, length, output, SKLYAPINA_MOST_BYTES,
                                                          lengths, SKLYAPINA_MOST_FRAMES);
     struct channel *channel;
@@ -236,8 +247,8 @@ static void receive_packet(struct card *card, const uint8_t *packet, size_t leng
     card->table = answer.table;
     if (!was_accepted(&card->counts, CALL_DATA, answer.code))
         return;
-    /* An accepted packet has at least 8 bytes, and its session is open. */
-    channel = &card->channels[row_of(&card->table, capture_session(packet))];
+    /* The session of an accepted packet is open. */
+    channel = &card->channels[row_of(&card->table, session_of(transport, packet))];
     channel->session.packets++;
     channel->session.frames += answer.frames;
     channel->session.bytes += answer.bytes;
@@ -261,7 +272,10 @@ static void make_call(struct card *card, const struct capture_entry *entry)
         close_session(card, capture_session(entry->body));
         break;
     case CAPTURE_DATA:
-        receive_packet(card, entry->body, entry->length);
+        receive_packet(card, SKLYAPINA_IP, entry->body, entry->length);
+        break;
+    case CAPTURE_DATA_OVER_UDP:
+        receive_packet(card, SKLYAPINA_UDP, entry->body, entry->length);
         break;
     }
 }

@@ -20,6 +20,8 @@ QUEUE_BYTES, QUEUE_FRAMES = 2 * 6144, 2 * 127
 
 CALLS = ["open", "close", "data"]
 KINDS = {1: "PSP", 2: "D-MPT"}
+# The kind of an entry whose packet came over UDP, and how many bytes stand there before its session ID (document 02, W1).
+DATA_OVER_UDP, BEFORE_SESSION_OVER_UDP = 5, 4
 
 SESSIONS_HEADING = "channel session kind state packets frames bytes dropped missing held0 held1 held2 held3"
 CHANNELS_HEADING = "channel taken most lost"
@@ -39,15 +41,21 @@ class Unsound(Exception):
 # Reading
 
 
-def sessions_of(capture):
-    """The session that each entry of a sound capture names: the first four bytes of its body, or all of a shorter one."""
+def entries_of(capture):
+    """The entries of a sound capture: the kind and the body of each."""
     count = int.from_bytes(capture[:2], "big")
     start = 2 + 4 * count
     for place in range(count):
         at = 2 + 4 * place
         length = int.from_bytes(capture[at + 2 : at + 4], "big")
-        yield int.from_bytes(capture[start : start + min(length, 4)], "big")
+        yield capture[at], capture[start : start + length]
         start += length
+
+
+def session_of(kind, body):
+    """The session that an entry names: four bytes of its body, or as many of them as there are."""
+    at = BEFORE_SESSION_OVER_UDP if kind == DATA_OVER_UDP else 0
+    return int.from_bytes(body[at : at + 4], "big")
 
 
 def details_by_line(trace):
@@ -65,7 +73,7 @@ def details_by_line(trace):
 def calls_of(capture, listing, trace):
     """The calls of a capture that was not refused, in order."""
     lines, details = details_by_line(trace)
-    sessions = list(sessions_of(capture))
+    sessions = [session_of(kind, body) for kind, body in entries_of(capture)]
     if lines != listing.splitlines() or len(lines) != len(sessions) + 1:
         raise Unsound("the listing, the trace and the capture have different entries")
     for line, found, session in zip(lines[1:], details[1:], sessions):

@@ -1,6 +1,6 @@
 /* The card's library, for its host program in C or C++: the packet check, the table of sessions, receiving
- * packets and sending them, as document 01 defines it; and MPEG packets for the modulator, as document 02 asks
- * for them (W3).
+ * packets and sending them, as document 01 defines it; and, as document 02 asks for them, MPEG packets for the
+ * modulator (W3), and packets that come over UDP (W1).
  *
  * The library is target/staticlib/libsklyapina.a, made by `rt staticlib sklyapina`. It is for x86-64, and needs no
  * other library but the C library's memcpy, memmove and memset.
@@ -24,6 +24,12 @@
  * - A pointer is never null, not even where the length is 0. For an array without elements pass the
  *   address of any object of the element's type.
  * - An array that a call may write overlaps no other array of that call.
+ * - This file is the library's own: a program is compiled anew with each library, for nothing notices where it was
+ *   compiled with the header of another.
+ *
+ * With W1 the four calls that take a packet gained the parameter transport, and the two of them that ask for a
+ * segment the parameter kind, so that a program from before does not compile. That change is made once: what document
+ * 02 asks for after W1 comes with calls of its own, and these four keep their parameters.
  *
  * Nothing compares this file with the library's source, crates/sklyapina/src and the structs of the crates
  * below it: each declaration here is a copy by hand. tests/calls and host/run link the two and compare what
@@ -57,6 +63,34 @@ enum sklyapina_kind {
     SKLYAPINA_KIND_DMPT = 2    /* MPEG packets of 188 bytes */
 };
 
+/* What a packet came by. L2TPv3 runs straight over IP, or over UDP with four bytes more (RFC 3931, section 4.1.2.1).
+ * Each call that takes a packet is told, and of that packet alone: one session, and one flow of it, may get packets
+ * by both, in any order, and what joins, drops and delivers does not depend on it.
+ *
+ * A packet is given from the first byte behind the IP header, or behind the UDP header. In bytes:
+ *
+ *   over IP                    | session ID, 4 | header, 4 | what it carries ..
+ *   over UDP   | T, version, 4 | session ID, 4 | header, 4 | what it carries ..
+ *
+ * and the four bytes that are there over UDP alone, bit by bit:
+ *
+ *   | T . . . . . . . | . . . . version | . . . . . . . . | . . . . . . . . |
+ *
+ * T must be 0 and the version 3, else the packet is refused, by 15; the dots are ignored. 00 03 00 00 is what one
+ * writes there.
+ *
+ * That a packet is given by the wrong transport cannot always be told. One over IP, given as UDP, is refused by 15
+ * (by 2 where it has fewer than 12 bytes), unless its session ID has 0 as its top bit and 3 as the low four bits of
+ * its second byte; then its header is read as the session ID. One over UDP, given as IP, has the session ID 0x30000,
+ * if 00 03 00 00 was written: it is refused by 5, unless such a session is open; the packet check, which knows no
+ * sessions, goes on and reads the session ID as the header. So where no session is open for whose ID
+ * (id & 0x800F0000) == 0x00030000, the data call refuses, given by the wrong one of the two, every packet that it
+ * accepts by the right one. */
+enum sklyapina_transport {
+    SKLYAPINA_IP = 1,
+    SKLYAPINA_UDP = 2
+};
+
 /* Why a call is refused. Where several causes hold at once, each call says which comes first. */
 enum sklyapina_refusal {
     /* nothing is refused */
@@ -66,8 +100,8 @@ enum sklyapina_refusal {
     SKLYAPINA_SLICE_TOO_SMALL = 1,
 
     /* A packet, whatever its session. */
-    SKLYAPINA_PACKET_TOO_SHORT = 2, /* fewer than 8 bytes: the session ID and the header behind it have 8 */
-    SKLYAPINA_PACKET_TOO_LONG = 3,  /* more than 4,100 bytes */
+    SKLYAPINA_PACKET_TOO_SHORT = 2, /* fewer than 8 bytes, the session ID and the header; over UDP fewer than 12 */
+    SKLYAPINA_PACKET_TOO_LONG = 3,  /* more than 4,100 bytes; over UDP more than 4,104 */
     SKLYAPINA_CONTROL_MESSAGE = 4,  /* the session ID is 0, which no data packet has */
     SKLYAPINA_SESSION_NOT_OPEN = 5, /* no row of the table has this session open */
 
@@ -89,11 +123,16 @@ enum sklyapina_refusal {
 
     SKLYAPINA_SEGMENT_OUTSIDE = 14, /* the packet has no segment of this number */
 
+    /* A packet over UDP alone: T is set, as in a control message, or the version is not 3. */
+    SKLYAPINA_NOT_VERSION_3 = 15,
+
     /* An open or a close. */
     SKLYAPINA_OPEN_WITHOUT_ID = 21, /* a session cannot have ID 0 */
     SKLYAPINA_ALREADY_OPEN = 22,
     SKLYAPINA_ALL_ROWS_OPEN = 23,
-    SKLYAPINA_KIND_UNKNOWN = 24,  /* an open or a packet check with a kind that is neither PSP nor D-MPT */
+    /* a kind or transport that there is not: in an open or a packet check a kind that is neither PSP nor D-MPT, where
+     * a segment is asked for any kind but PSP; in every call with a packet a transport that is neither IP nor UDP */
+    SKLYAPINA_KIND_UNKNOWN = 24,
     SKLYAPINA_CLOSE_OF_NONE = 25, /* this session is not open, or the ID is 0 */
 
     /* A send. */
@@ -145,25 +184,31 @@ struct sklyapina_table {
 /* Is this packet well formed for a session of this kind? It knows no table, so it says nothing of
  * whether the session is open or the packet late.
  *
- * kind    SKLYAPINA_KIND_PSP or SKLYAPINA_KIND_DMPT
- * packet  the packet, from the first byte of its session ID: without the IP header before it
+ * kind       SKLYAPINA_KIND_PSP or SKLYAPINA_KIND_DMPT
+ * transport  SKLYAPINA_IP or SKLYAPINA_UDP: what the packet came by
+ * packet     the packet: over IP from the first byte of its session ID, over UDP from the four bytes before that
  *
- * Answers 24 for any other kind, else the first of 2, 3, 4 and 6 to 11 that applies, else 0. It writes
- * nothing. */
-uint32_t sklyapina_check(uint32_t kind, const uint8_t *packet, size_t packet_length);
+ * Answers 24 for any other kind or transport, else the first of 2, 3, 15 (over UDP alone), 4 and 6 to 11 that
+ * applies, else 0. It writes nothing. */
+uint32_t sklyapina_check(uint32_t kind, uint32_t transport, const uint8_t *packet, size_t packet_length);
 
-/* Why segment k of a PSP packet, counted from 0, cannot be had: the number of the PSP check, else 14 where the
- * packet has no segment k, else 0. It writes nothing. */
-uint32_t sklyapina_segment_cause(const uint8_t *packet, size_t packet_length, size_t k);
+/* Why segment k of a packet, counted from 0, cannot be had. Only PSP packets have segments.
+ *
+ * Answers 24 for any kind but SKLYAPINA_KIND_PSP, else the number of the packet check, else 14 where the packet has
+ * no segment k, else 0. It writes nothing. */
+uint32_t sklyapina_segment_cause(uint32_t kind, uint32_t transport,
+                                 const uint8_t *packet, size_t packet_length, size_t k);
 
-/* Where segment k of a PSP packet stands in it: its bytes are packet[place] to packet[place + length - 1].
- * Where sklyapina_segment_cause answers another number than 0, place and length are 0. It writes nothing. */
+/* Where segment k of a packet stands in it: its bytes are packet[place] to packet[place + length - 1]. The place
+ * counts from the packet's first byte, and so is 4 more over UDP than over IP. Where sklyapina_segment_cause answers
+ * another number than 0, place and length are 0. It writes nothing. */
 struct sklyapina_stretch {
     size_t place;
     size_t length;
 };
 
-struct sklyapina_stretch sklyapina_segment(const uint8_t *packet, size_t packet_length, size_t k);
+struct sklyapina_stretch sklyapina_segment(uint32_t kind, uint32_t transport,
+                                           const uint8_t *packet, size_t packet_length, size_t k);
 
 /* Opens a session in the lowest closed row, with all its flows fresh: the first packet of each is accepted
  * whatever its number.
@@ -192,14 +237,15 @@ struct sklyapina_closing sklyapina_close(struct sklyapina_table table, uint32_t 
 /* Takes a packet: delivers the frames that it completes, and holds what is left without its end until the
  * flow's next packet.
  *
- * holding  the holding places, 49,152 bytes or more. The place of flow k in row r starts at
- *          (4 x r + k) x 2,048. They belong to the table: one table, one array of places, from the first call
- *          to the last. They need not be cleared
- * packet   the packet, from the first byte of its session ID
- * output   6,144 bytes or more. The frames are written to its front, back to back
- * lengths  127 elements or more. The lengths of the frames are written to its front
+ * transport  SKLYAPINA_IP or SKLYAPINA_UDP: what this packet came by, whatever those before it did
+ * holding    the holding places, 49,152 bytes or more. The place of flow k in row r starts at
+ *            (4 x r + k) x 2,048. They belong to the table: one table, one array of places, from the first call
+ *            to the last. They need not be cleared
+ * packet     the packet: over IP from the first byte of its session ID, over UDP from the four bytes before that
+ * output     6,144 bytes or more. The frames are written to its front, back to back
+ * lengths    127 elements or more. The lengths of the frames are written to its front
  *
- * Answers the first of 1, 13, 2 to 5, 6 to 11 and 12 that applies, or 0. Then
+ * Answers the first of 1, 13, 24, 2, 3, 15 (over UDP alone), 4, 5, 6 to 11 and 12 that applies, or 0. Then
  *
  * frames   how many frames were delivered: so many elements of lengths were written
  * bytes    how long they are together: so many bytes of output were written
@@ -218,7 +264,7 @@ struct sklyapina_received {
     struct sklyapina_table table;
 };
 
-struct sklyapina_received sklyapina_receive(struct sklyapina_table table,
+struct sklyapina_received sklyapina_receive(struct sklyapina_table table, uint32_t transport,
                                             uint8_t *holding, size_t holding_length,
                                             const uint8_t *packet, size_t packet_length,
                                             uint8_t *output, size_t output_length,
@@ -238,7 +284,10 @@ struct sklyapina_position {
  * number   the packet's sequence number
  * limit    how many bytes may follow the session ID: 16 to 4,096
  * frames   the frames back to back, and lengths the length of each: at most 127 frames, of 1 to 2,048 bytes each
- * output   limit + 4 bytes or more; the packet is written to its front
+ * output   limit + 4 bytes or more; the packet is written to its front, from the first byte of its session ID
+ *
+ * To send over UDP, have four bytes before output, put 00 03 00 00 into them, and send those too: nothing else
+ * changes, and the limit counts what follows the session ID all the same.
  *
  * Answers the first of 31 to 36 that applies, or 0. Then `length` is the packet's length, and `position` and
  * `number` are those of the next call; the frames are all sent when that call answers 35. Refused: length is 0,
