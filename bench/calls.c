@@ -1,7 +1,7 @@
 /* Data calls of all sorts. The card has two PSP sessions, two D-MPT sessions and two free rows. A packet is
  * made well formed, for a number that is mostly the one expected, with segments of lengths about those that
  * matter; then often something is spoilt: a byte, the length, the session, the table or the length of a
- * slice. */
+ * slice. Every other packet comes over UDP, and the transport is spoilt too. */
 #include "calls.h"
 
 #include <string.h>
@@ -22,6 +22,7 @@ bool calls_begin(struct calls *calls)
 {
     memset(calls, 0, sizeof *calls);
     calls->generator.state = 19690720;
+    calls->packet = calls->room + UDP_LEAD;
     for (uint32_t row = 0; row < PSP_SESSIONS + DMPT_SESSIONS; row++) {
         struct sklyapina_opening opening = sklyapina_open(
             calls->table, FIRST_SESSION + row, row < PSP_SESSIONS ? SKLYAPINA_KIND_PSP : SKLYAPINA_KIND_DMPT);
@@ -146,6 +147,29 @@ static size_t spoil_packet(struct calls *calls, size_t length)
     }
 }
 
+/* The packet over UDP: four bytes more before it. Of their bits only T and the version are not ignored, and one
+ * packet in 16 has those at random too. */
+static struct packet over_udp(struct calls *calls, size_t length)
+{
+    uint8_t *lead = calls->packet - UDP_LEAD;
+
+    for (size_t place = 0; place < UDP_LEAD; place++)
+        lead[place] = (uint8_t)generator_next(&calls->generator);
+    if (!one_in(calls, 16)) {
+        lead[0] &= 0x7F;
+        lead[1] = (uint8_t)((lead[1] & 0xF0) | 3);
+    }
+    return (struct packet){ SKLYAPINA_UDP, lead, UDP_LEAD + length };
+}
+
+/* A transport that there is not, or the one that the packet may not have come by. */
+static uint32_t some_transport(struct calls *calls)
+{
+    static const uint32_t transports[] = { 0, SKLYAPINA_IP, SKLYAPINA_UDP, 3, 4, 0x80000001, UINT32_MAX };
+
+    return transports[below(calls, sizeof transports / sizeof transports[0])];
+}
+
 /* Changes one 16-bit number of the table: an ID, a kind or part of a flow. The table may still be sound. */
 static void spoil_table(struct calls *calls, struct sklyapina_table *table)
 {
@@ -169,8 +193,7 @@ struct call plain_call(const struct sklyapina_table *table, struct packet packet
 {
     return (struct call){
         .table = *table,
-        .packet = packet.bytes,
-        .packet_length = packet.length,
+        .packet = packet,
         .holding_length = SKLYAPINA_HOLDING_SIZE,
         .output_length = SKLYAPINA_MOST_BYTES,
         .lengths_length = SKLYAPINA_MOST_FRAMES
@@ -179,11 +202,15 @@ struct call plain_call(const struct sklyapina_table *table, struct packet packet
 
 struct call calls_next(struct calls *calls)
 {
-    struct packet packet = { calls->packet, one_in(calls, 3) ? make_dmpt(calls) : make_psp(calls) };
+    size_t length = one_in(calls, 3) ? make_dmpt(calls) : make_psp(calls);
+    struct packet packet;
     struct call call;
 
     if (one_in(calls, 3))
-        packet.length = spoil_packet(calls, packet.length);
+        length = spoil_packet(calls, length);
+    packet = one_in(calls, 2) ? over_udp(calls, length) : (struct packet){ SKLYAPINA_IP, calls->packet, length };
+    if (one_in(calls, 32))
+        packet.transport = some_transport(calls);
     call = plain_call(&calls->table, packet);
     calls->table_is_spoilt = one_in(calls, 4);
     if (calls->table_is_spoilt)

@@ -12,8 +12,7 @@ enum { PACKET_ROOM = 16384 };
 /* What a receiver is given, beside the slices themselves. */
 struct call {
     struct sklyapina_table table;
-    const uint8_t *packet;
-    size_t packet_length;
+    struct packet packet;
     size_t holding_length;
     size_t output_length;
     size_t lengths_length;
@@ -23,7 +22,8 @@ struct calls {
     struct generator generator;
     struct sklyapina_table table; /* what the last call left */
     bool table_is_spoilt;         /* the call was given another table than that */
-    uint8_t packet[PACKET_ROOM];
+    uint8_t room[UDP_LEAD + PACKET_ROOM];
+    uint8_t *packet; /* in the room, from the session ID on: over UDP, what stands before that is there too */
 };
 
 /* The same calls follow in every run. False where the library opened no session. */

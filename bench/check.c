@@ -1,6 +1,7 @@
 /* Runs the receivers side by side: each is given the same calls, on slices of its own, and after every call
- * the answers, the tables and every byte of the slices must be the same. First the streams, whose packets
- * must all be accepted; then calls of all sorts, among which every refusal must come up. */
+ * the answers, the tables and every byte of the slices must be the same. First the streams, over IP, over UDP
+ * and by both, whose packets must all be accepted; then calls of all sorts, among which every number must come
+ * up, by each transport that can give it. */
 #include "calls.h"
 #include "measure.h"
 #include "receivers.h"
@@ -8,7 +9,7 @@
 #include <stdio.h>
 #include <string.h>
 
-enum { SPOILT_CALLS = 40000, CODES = 14 };
+enum { SPOILT_CALLS = 40000, CODES = SKLYAPINA_KIND_UNKNOWN + 1 };
 
 /* What one receiver is lent. */
 struct slices {
@@ -27,12 +28,12 @@ static struct sklyapina_received ask(const struct receiver *receiver, const stru
     struct plain_counts counts;
 
     if (receiver->by_value)
-        return receiver->by_value(call->table, lent->holding, call->holding_length, call->packet,
-                                  call->packet_length, lent->output, call->output_length, lent->lengths,
-                                  call->lengths_length);
-    counts = receiver->in_place(&received.table, lent->holding, call->holding_length, call->packet,
-                                call->packet_length, lent->output, call->output_length, lent->lengths,
-                                call->lengths_length);
+        return receiver->by_value(call->table, call->packet.transport, lent->holding, call->holding_length,
+                                  call->packet.bytes, call->packet.length, lent->output, call->output_length,
+                                  lent->lengths, call->lengths_length);
+    counts = receiver->in_place(&received.table, call->packet.transport, lent->holding, call->holding_length,
+                                call->packet.bytes, call->packet.length, lent->output, call->output_length,
+                                lent->lengths, call->lengths_length);
     received.code = counts.code;
     received.frames = counts.frames;
     received.bytes = counts.bytes;
@@ -70,14 +71,14 @@ static bool all_agree(const struct call *call, struct sklyapina_received *answer
     return true;
 }
 
-static bool check_stream(char letter)
+static bool check_stream(const char *name)
 {
-    const struct stream *stream = stream_make(letter);
+    const struct stream *stream = stream_make(name);
     struct sklyapina_received answer;
     size_t frames = 0;
 
     if (!stream) {
-        printf("check: stream %c cannot be made\n", letter);
+        printf("check: stream %s cannot be made\n", name);
         return false;
     }
     paint();
@@ -86,19 +87,55 @@ static bool check_stream(char letter)
         struct call call = plain_call(&answer.table, stream->packets[place]);
 
         if (!all_agree(&call, &answer) || answer.code != 0) {
-            printf("check: stream %c, packet %zu: the receivers differ, or refuse it\n", letter, place);
+            printf("check: stream %s, packet %zu: the receivers differ, or refuse it\n", name, place);
             return false;
         }
         frames += answer.frames;
     }
-    printf("check: stream %c: %zu packets, %zu frames: all receivers agree\n", letter, stream->count, frames);
+    printf("check: stream %s: %zu packets, %zu frames: all receivers agree\n", name, stream->count, frames);
     return true;
+}
+
+/* How often each number came up over IP, over UDP, and by a transport that there is not. */
+struct times {
+    size_t over_ip[CODES];
+    size_t over_udp[CODES];
+    size_t neither[CODES];
+};
+
+static void count(struct times *times, uint32_t transport, uint32_t code)
+{
+    size_t *of_transport = transport == SKLYAPINA_IP ? times->over_ip
+        : transport == SKLYAPINA_UDP ? times->over_udp : times->neither;
+
+    of_transport[code]++;
+}
+
+/* The numbers of the data call that do not depend on the transport; the other two are 15 and 24. */
+static bool is_by_either(size_t code)
+{
+    return code <= SKLYAPINA_TABLE_BROKEN;
+}
+
+/* Prints how often each number came up; true where each did by every transport that it can come up by. */
+static bool print_times(const struct times *times)
+{
+    bool every = times->over_udp[SKLYAPINA_NOT_VERSION_3] > 0 && times->neither[SKLYAPINA_KIND_UNKNOWN] > 0;
+
+    for (size_t code = 0; code < CODES; code++) {
+        size_t all = times->over_ip[code] + times->over_udp[code] + times->neither[code];
+
+        if (all > 0)
+            printf(" %zu: %zu", code, all);
+        every = every && (!is_by_either(code) || (times->over_ip[code] > 0 && times->over_udp[code] > 0));
+    }
+    printf("\n%s", every ? "" : "check: a number never came up by a transport that gives it\n");
+    return every;
 }
 
 static bool check_spoilt(void)
 {
-    size_t times[CODES] = { 0 };
-    bool every = true;
+    static struct times times;
 
     paint();
     if (!calls_begin(&calls)) {
@@ -113,22 +150,17 @@ static bool check_spoilt(void)
             printf("check: call %zu: the receivers differ, or the number is unknown\n", place);
             return false;
         }
-        times[answer.code]++;
+        count(&times, call.packet.transport, answer.code);
         calls_answered(&calls, &answer.table);
     }
-    printf("check: %d calls of all sorts: all receivers agree; times of each number:", SPOILT_CALLS);
-    for (size_t code = 0; code < CODES; code++) {
-        printf(" %zu", times[code]);
-        every = every && times[code] > 0;
-    }
-    printf("\n%s", every ? "" : "check: a number never came up\n");
-    return every;
+    printf("check: %d calls of all sorts: all receivers agree; each number and how often:", SPOILT_CALLS);
+    return print_times(&times);
 }
 
 int check(void)
 {
-    for (const char *letter = stream_letters; *letter != '\0'; letter++)
-        if (!check_stream(*letter))
+    for (const char *const *name = stream_names; *name; name++)
+        if (!check_stream(*name))
             return 1;
     return check_spoilt() ? 0 : 1;
 }

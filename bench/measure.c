@@ -3,6 +3,7 @@
  *   measure STREAM RECEIVER ROUNDS   runs a stream that often, each round from its freshly opened table
  *   measure nanoseconds STREAM RECEIVER ROUNDS REPETITIONS
  *                                    does so repeatedly, and prints the least nanoseconds per packet
+ *   measure streams                  prints the names of the streams
  *   measure describe STREAM          prints how many packets and bytes a stream has, and what it is
  *   measure check                    compares the receivers with one another
  *   measure stack                    prints how much of the stack they use
@@ -33,8 +34,9 @@ static size_t round_by_value(receive_by_value *receive, const struct stream *str
     size_t refused = 0;
 
     for (size_t place = 0; place < stream->count; place++) {
+        struct packet packet = stream->packets[place];
         struct sklyapina_received received =
-            receive(table, holding, sizeof holding, stream->packets[place].bytes, stream->packets[place].length,
+            receive(table, packet.transport, holding, sizeof holding, packet.bytes, packet.length,
                     output, sizeof output, lengths, SKLYAPINA_MOST_FRAMES);
 
         table = received.table;
@@ -50,8 +52,9 @@ static size_t round_in_place(receive_in_place *receive, const struct stream *str
     size_t refused = 0;
 
     for (size_t place = 0; place < stream->count; place++) {
+        struct packet packet = stream->packets[place];
         struct plain_counts counts =
-            receive(&table, holding, sizeof holding, stream->packets[place].bytes, stream->packets[place].length,
+            receive(&table, packet.transport, holding, sizeof holding, packet.bytes, packet.length,
                     output, sizeof output, lengths, SKLYAPINA_MOST_FRAMES);
 
         refused += counts.code != 0;
@@ -101,24 +104,26 @@ static int unusable(const char *why)
     return 2;
 }
 
-static const struct stream *stream_named(const char *name)
+static int print_names(void)
 {
-    return name[0] != '\0' && name[1] == '\0' ? stream_make(name[0]) : NULL;
+    for (const char *const *name = stream_names; *name; name++)
+        printf("%s\n", *name);
+    return 0;
 }
 
 static int describe(const char *name)
 {
-    const struct stream *stream = stream_named(name);
+    const struct stream *stream = stream_make(name);
 
     if (!stream)
         return unusable("there is no such stream, or it cannot be made");
-    printf("%zu %zu %s\n", stream->count, stream->bytes, stream_title(name[0]));
+    printf("%zu %zu %s\n", stream->count, stream->bytes, stream_title(name));
     return 0;
 }
 
 static int measure(char **words, bool timed)
 {
-    const struct stream *stream = stream_named(words[0]);
+    const struct stream *stream = stream_make(words[0]);
     const struct receiver *receiver = receiver_named(words[1]);
     unsigned long rounds = strtoul(words[2], NULL, 10);
     unsigned long repetitions = timed ? strtoul(words[3], NULL, 10) : 0;
@@ -142,6 +147,8 @@ int main(int count, char **words)
         return check();
     if (count == 2 && strcmp(words[1], "stack") == 0)
         return stack();
+    if (count == 2 && strcmp(words[1], "streams") == 0)
+        return print_names();
     if (count == 3 && strcmp(words[1], "describe") == 0)
         return describe(words[2]);
     if (count == 6 && strcmp(words[1], "nanoseconds") == 0)

@@ -1,6 +1,7 @@
-/* The data call of document 01 in plain C, without proof: memcpy, early exits, the table changed in place.
- * It is written for speed and to be read, as one would write it for the card if nothing had to be proved;
- * bench/run counts what it executes. */
+/* The data call of document 01, by either transport (document 02, W1), in plain C, without proof: memcpy,
+ * early exits, the table changed in place. It is written for speed and to be read, as one would write it for
+ * the card if nothing had to be proved; bench/run counts what it executes. Once the transport is judged, a
+ * packet is handed on from its session ID, so that all else is the same by either. */
 #include "plain.h"
 
 #include <stdbool.h>
@@ -21,12 +22,17 @@ enum {
     LENGTHS_DISAGREE = 10,
     CONTENT_SPOILT = 11,
     LATE = 12,
-    TABLE_BROKEN = 13
+    TABLE_BROKEN = 13,
+    NOT_VERSION_3 = 15,
+    TRANSPORT_UNKNOWN = 24
 };
 
 enum { HEADER_SIZE = 8, LONGEST_PACKET = 4100, LATE_FROM = 32768 };
 
-/* Byte 4 of a packet: V and H must be clear, X is ignored. */
+/* What stands before the session ID over UDP: how many bytes, T in the first of them, the version in the second. */
+enum { UDP_LEAD = 4, T = 0x80, VERSION = 0x0F, VERSION_3 = 3 };
+
+/* Byte 4, counted from the session ID: V and H must be clear, X is ignored. */
 enum { V_AND_H = 0xB0, S = 0x40, FLOW = 0x07 };
 
 /* Byte 5, and an entry of the segment table. */
@@ -333,45 +339,73 @@ static struct plain_counts receive_dmpt(struct sklyapina_flow *flow, const uint8
 
 /* --- the data call --- */
 
-struct plain_counts plain_receive_in_place(struct sklyapina_table *table,
-                                           uint8_t *holding, size_t holding_length,
-                                           const uint8_t *packet, size_t packet_length,
-                                           uint8_t *output, size_t output_length,
-                                           uint16_t *lengths, size_t lengths_length)
+static size_t lead_of(uint32_t transport)
 {
-    struct delivery to = { output, lengths };
-    uint32_t session;
+    return transport == SKLYAPINA_UDP ? UDP_LEAD : 0;
+}
+
+/* Refusals 24, 2, 3 and 15: what is judged before a packet's session ID is read. */
+static uint32_t check_transport(uint32_t transport, const uint8_t *packet, size_t length)
+{
+    if (transport != SKLYAPINA_IP && transport != SKLYAPINA_UDP)
+        return TRANSPORT_UNKNOWN;
+    if (length < lead_of(transport) + HEADER_SIZE)
+        return PACKET_TOO_SHORT;
+    if (length > lead_of(transport) + LONGEST_PACKET)
+        return PACKET_TOO_LONG;
+    if (transport == SKLYAPINA_UDP && (packet[0] & T || (packet[1] & VERSION) != VERSION_3))
+        return NOT_VERSION_3;
+    return ACCEPTED;
+}
+
+/* The rest of the call, for a packet from its session ID on. */
+static struct plain_counts receive_from_session(struct sklyapina_table *table, uint8_t *holding,
+                                                const uint8_t *packet, size_t length, struct delivery to)
+{
+    uint32_t session = big_endian_32(packet);
     size_t row;
 
-    if (holding_length < SKLYAPINA_HOLDING_SIZE || output_length < SKLYAPINA_MOST_BYTES
-        || lengths_length < SKLYAPINA_MOST_FRAMES)
-        return refused(SLICES_TOO_SHORT);
-    if (table_is_broken(table))
-        return refused(TABLE_BROKEN);
-    if (packet_length < HEADER_SIZE)
-        return refused(PACKET_TOO_SHORT);
-    if (packet_length > LONGEST_PACKET)
-        return refused(PACKET_TOO_LONG);
-    session = big_endian_32(packet);
     if (session == 0)
         return refused(CONTROL_MESSAGE);
     row = row_of(table, session);
     if (row == SKLYAPINA_ROWS)
         return refused(SESSION_NOT_OPEN);
     if (table->rows[row].kind == SKLYAPINA_KIND_DMPT)
-        return receive_dmpt(&table->rows[row].flows[0], packet, packet_length, to);
+        return receive_dmpt(&table->rows[row].flows[0], packet, length, to);
     return receive_psp(table->rows[row].flows, holding + row * SKLYAPINA_FLOWS * SKLYAPINA_LONGEST_FRAME, packet,
-                       packet_length, to);
+                       length, to);
 }
 
-struct sklyapina_received plain_receive(struct sklyapina_table table,
+struct plain_counts plain_receive_in_place(struct sklyapina_table *table, uint32_t transport,
+                                           uint8_t *holding, size_t holding_length,
+                                           const uint8_t *packet, size_t packet_length,
+                                           uint8_t *output, size_t output_length,
+                                           uint16_t *lengths, size_t lengths_length)
+{
+    struct delivery to = { output, lengths };
+    size_t lead = lead_of(transport);
+    uint32_t code;
+
+    if (holding_length < SKLYAPINA_HOLDING_SIZE || output_length < SKLYAPINA_MOST_BYTES
+        || lengths_length < SKLYAPINA_MOST_FRAMES)
+        return refused(SLICES_TOO_SHORT);
+    if (table_is_broken(table))
+        return refused(TABLE_BROKEN);
+    code = check_transport(transport, packet, packet_length);
+    if (code != ACCEPTED)
+        return refused(code);
+    return receive_from_session(table, holding, packet + lead, packet_length - lead, to);
+}
+
+struct sklyapina_received plain_receive(struct sklyapina_table table, uint32_t transport,
                                         uint8_t *holding, size_t holding_length,
                                         const uint8_t *packet, size_t packet_length,
                                         uint8_t *output, size_t output_length,
                                         uint16_t *lengths, size_t lengths_length)
 {
-    struct plain_counts counts = plain_receive_in_place(&table, holding, holding_length, packet, packet_length,
-                                                        output, output_length, lengths, lengths_length);
+    struct plain_counts counts = plain_receive_in_place(&table, transport, holding, holding_length,
+                                                        packet, packet_length, output, output_length,
+                                                        lengths, lengths_length);
 
     return (struct sklyapina_received){
         .code = counts.code,

@@ -1,4 +1,5 @@
-/* The data call of document 01 in plain C, without proof: what the proved receiver is measured against. */
+/* The data call of document 01, by either transport (document 02, W1), in plain C, without proof: what the proved
+ * receiver is measured against. */
 #ifndef PLAIN_H
 #define PLAIN_H
 
@@ -14,14 +15,14 @@ struct plain_counts {
 };
 
 /* The receiver as one would write it in C: the table is changed where it stands. */
-struct plain_counts plain_receive_in_place(struct sklyapina_table *table,
+struct plain_counts plain_receive_in_place(struct sklyapina_table *table, uint32_t transport,
                                            uint8_t *holding, size_t holding_length,
                                            const uint8_t *packet, size_t packet_length,
                                            uint8_t *output, size_t output_length,
                                            uint16_t *lengths, size_t lengths_length);
 
 /* The same with the prototype of sklyapina_receive, so that either can be put in the other's place. */
-struct sklyapina_received plain_receive(struct sklyapina_table table,
+struct sklyapina_received plain_receive(struct sklyapina_table table, uint32_t transport,
                                         uint8_t *holding, size_t holding_length,
                                         const uint8_t *packet, size_t packet_length,
                                         uint8_t *output, size_t output_length,

@@ -9,13 +9,13 @@
 receive_by_value gcc_plain_receive;
 receive_in_place gcc_plain_receive_in_place;
 
-static struct sklyapina_received pass(struct sklyapina_table table,
+static struct sklyapina_received pass(struct sklyapina_table table, uint32_t transport,
                                       uint8_t *holding, size_t holding_length,
                                       const uint8_t *packet, size_t packet_length,
                                       uint8_t *output, size_t output_length,
                                       uint16_t *lengths, size_t lengths_length)
 {
-    (void)holding, (void)holding_length, (void)packet, (void)packet_length;
+    (void)transport, (void)holding, (void)holding_length, (void)packet, (void)packet_length;
     (void)output, (void)output_length, (void)lengths, (void)lengths_length;
     return (struct sklyapina_received){ .table = table };
 }

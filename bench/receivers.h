@@ -5,14 +5,14 @@
 #include "plain.h"
 
 /* The prototype of sklyapina_receive. */
-typedef struct sklyapina_received receive_by_value(struct sklyapina_table table,
+typedef struct sklyapina_received receive_by_value(struct sklyapina_table table, uint32_t transport,
                                                    uint8_t *holding, size_t holding_length,
                                                    const uint8_t *packet, size_t packet_length,
                                                    uint8_t *output, size_t output_length,
                                                    uint16_t *lengths, size_t lengths_length);
 
 /* That of plain_receive_in_place. */
-typedef struct plain_counts receive_in_place(struct sklyapina_table *table,
+typedef struct plain_counts receive_in_place(struct sklyapina_table *table, uint32_t transport,
                                              uint8_t *holding, size_t holding_length,
                                              const uint8_t *packet, size_t packet_length,
                                              uint8_t *output, size_t output_length,

@@ -38,8 +38,8 @@ static struct sklyapina_received answer;
 static void answer_calls(void)
 {
     for (;;) {
-        answer = receive(call.table, holding, call.holding_length, call.packet, call.packet_length,
-                         output, call.output_length, lengths, call.lengths_length);
+        answer = receive(call.table, call.packet.transport, holding, call.holding_length, call.packet.bytes,
+                         call.packet.length, output, call.output_length, lengths, call.lengths_length);
         swapcontext(&answering, &asking);
     }
 }
@@ -105,8 +105,8 @@ static size_t deepest(receive_by_value *receiver)
         if (here == 0)
             return 0;
         worst = here > worst ? here : worst;
-        for (const char *letter = stream_letters; *letter != '\0'; letter++) {
-            const struct stream *stream = stream_make(*letter);
+        for (const char *const *name = stream_names; *name; name++) {
+            const struct stream *stream = stream_make(*name);
 
             if (!stream)
                 return 0;

@@ -1,7 +1,9 @@
-/* Makes the five streams of packets: six sessions are open, with four flows each (D-MPT has flow 0 alone),
- * and the flows take turns, a packet each: flow 0 of the six sessions, then flow 1 of the six, and so on.
- * Frames are cut by the library's own sender, in series of 127 frames; where a series ends, its last packet
- * is as short as it comes out. Every run makes the same bytes. */
+/* Makes the streams of packets: six sessions are open, with four flows each (D-MPT has flow 0 alone), and the
+ * flows take turns, a packet each: flow 0 of the six sessions, then flow 1 of the six, and so on. Frames are
+ * cut by the library's own sender, in series of 127 frames; where a series ends, its last packet is as short
+ * as it comes out. Every run makes the same bytes. Over UDP they are those over IP, with 00 03 00 00 before
+ * each packet; where both transports take turns, every flow's packets come by either in turn, so that frames
+ * are joined across them. */
 #include "streams.h"
 
 #include <stdalign.h>
@@ -10,7 +12,7 @@
 
 enum {
     LIMIT = 1496,                       /* on what follows the session ID: packets of at most 1,500 bytes */
-    ROOM = 1536,                        /* for one packet: every one begins at a multiple of 64 */
+    ROOM = 1536,                        /* for one packet: every one begins at a multiple of 64, by either transport */
     LONGEST = 1518,                     /* of the frames */
     SERIES = SKLYAPINA_MOST_FRAMES,
     FIRST_NUMBER = 65436,               /* so that the numbers pass 65,535 in the middle */
@@ -36,7 +38,24 @@ static const struct recipe recipes[] = {
     { 'e', 0, 0, "D-MPT, 7 MPEG packets" }
 };
 
-const char stream_letters[] = "abcde";
+/* By what a stream's packets come: the word behind its letter, the transport of each flow's first packet and its
+ * third and so on, that of the others, and what it is called. */
+struct way {
+    const char *word;
+    uint32_t first;
+    uint32_t second;
+    const char *title;
+};
+
+static const struct way ways[] = {
+    { "", SKLYAPINA_IP, SKLYAPINA_IP, NULL },
+    { "-udp", SKLYAPINA_UDP, SKLYAPINA_UDP, "the same, over UDP" },
+    { "-both", SKLYAPINA_IP, SKLYAPINA_UDP, "the same, by both" }
+};
+
+const char *const stream_names[] = {
+    "a", "b", "c", "d", "e", "a-udp", "b-udp", "c-udp", "d-udp", "e-udp", "a-both", NULL
+};
 
 /* A flow's sender: the frames of its series, and how far they are sent. */
 struct sender {
@@ -77,19 +96,29 @@ static void fill(struct generator *generator, uint8_t *bytes, size_t length)
     }
 }
 
-static const struct recipe *recipe_of(char letter)
+static const struct recipe *recipe_of(const char *name)
 {
     for (size_t place = 0; place < sizeof recipes / sizeof recipes[0]; place++)
-        if (recipes[place].letter == letter)
+        if (recipes[place].letter == name[0])
             return &recipes[place];
     return NULL;
 }
 
-const char *stream_title(char letter)
+/* For a name whose letter is a stream's. */
+static const struct way *way_of(const char *name)
 {
-    const struct recipe *recipe = recipe_of(letter);
+    for (size_t place = 0; place < sizeof ways / sizeof ways[0]; place++)
+        if (strcmp(ways[place].word, name + 1) == 0)
+            return &ways[place];
+    return NULL;
+}
 
-    return recipe ? recipe->title : NULL;
+const char *stream_title(const char *name)
+{
+    const struct recipe *recipe = recipe_of(name);
+    const struct way *way = recipe ? way_of(name) : NULL;
+
+    return way && way->title ? way->title : way ? recipe->title : NULL;
 }
 
 static bool open_sessions(uint32_t kind)
@@ -118,7 +147,7 @@ static void begin_series(struct sender *sender, const struct recipe *recipe, str
     fill(generator, sender->frames, sender->frames_length);
 }
 
-/* Writes a flow's next packet; answers its length, or 0 where the library refused. */
+/* Writes a flow's next packet, from its session ID on; answers its length, or 0 where the library refused. */
 static size_t next_psp(size_t row, size_t flow, const struct recipe *recipe, struct generator *generator,
                        uint8_t *packet)
 {
@@ -128,14 +157,15 @@ static size_t next_psp(size_t row, size_t flow, const struct recipe *recipe, str
     if (sender->position.frame == SERIES)
         begin_series(sender, recipe, generator);
     sent = sklyapina_send(FIRST_SESSION + (uint32_t)row, flow, sender->number, LIMIT, sender->frames,
-                          sender->frames_length, sender->lengths, SERIES, sender->position, packet, ROOM);
+                          sender->frames_length, sender->lengths, SERIES, sender->position, packet,
+                          ROOM - UDP_LEAD);
     sender->number = sent.number;
     sender->position = sent.position;
     return sent.code == 0 ? sent.length : 0;
 }
 
-/* Writes packet `turn` of the D-MPT session of a row: S set, and one MPEG packet in eight has the PID
- * 0x1FFF. The others have PIDs that are not: the bits of that byte above 0x0F are clear. */
+/* Writes packet `turn` of the D-MPT session of a row, from its session ID on: S set, and one MPEG packet in eight
+ * has the PID 0x1FFF. The others have PIDs that are not: the bits of that byte above 0x0F are clear. */
 static size_t next_dmpt(size_t row, size_t turn, struct generator *generator, uint8_t *packet)
 {
     uint32_t session = FIRST_SESSION + (uint32_t)row;
@@ -167,28 +197,43 @@ static void start_senders(void)
         }
 }
 
-const struct stream *stream_make(char letter)
+static bool is_dmpt(const struct recipe *recipe)
 {
-    const struct recipe *recipe = recipe_of(letter);
-    struct generator generator = { 20240607 };
-    bool dmpt = recipe && recipe->greatest == 0;
+    return recipe->greatest == 0;
+}
 
-    if (!recipe || !open_sessions(dmpt ? SKLYAPINA_KIND_DMPT : SKLYAPINA_KIND_PSP))
+/* Writes the next packet of the stream; false where the library refused. Over UDP the four bytes stand before what
+ * it would be over IP. */
+static bool add_packet(const struct recipe *recipe, uint32_t transport, size_t turn, size_t row, size_t flow,
+                       struct generator *generator)
+{
+    static const uint8_t version_3[UDP_LEAD] = { 0x00, 0x03, 0x00, 0x00 };
+    size_t lead = transport == SKLYAPINA_UDP ? UDP_LEAD : 0;
+    uint8_t *packet = packets[stream.count];
+    size_t length = is_dmpt(recipe) ? next_dmpt(row, turn, generator, packet + lead)
+                                    : next_psp(row, flow, recipe, generator, packet + lead);
+
+    memcpy(packet, version_3, lead);
+    stream.packets[stream.count++] = (struct packet){ transport, packet, lead + length };
+    stream.bytes += lead + length;
+    return length > 0;
+}
+
+const struct stream *stream_make(const char *name)
+{
+    const struct recipe *recipe = recipe_of(name);
+    const struct way *way = recipe ? way_of(name) : NULL;
+    struct generator generator = { 20240607 };
+
+    if (!way || !open_sessions(is_dmpt(recipe) ? SKLYAPINA_KIND_DMPT : SKLYAPINA_KIND_PSP))
         return NULL;
     start_senders();
     stream.count = 0;
     stream.bytes = 0;
     for (size_t turn = 0; turn < PACKETS_PER_FLOW; turn++)
-        for (size_t flow = 0; flow < (dmpt ? 1 : SKLYAPINA_FLOWS); flow++)
-            for (size_t row = 0; row < SKLYAPINA_ROWS; row++) {
-                uint8_t *packet = packets[stream.count];
-                size_t length = dmpt ? next_dmpt(row, turn, &generator, packet)
-                                     : next_psp(row, flow, recipe, &generator, packet);
-
-                if (length == 0)
+        for (size_t flow = 0; flow < (is_dmpt(recipe) ? 1 : SKLYAPINA_FLOWS); flow++)
+            for (size_t row = 0; row < SKLYAPINA_ROWS; row++)
+                if (!add_packet(recipe, turn % 2 == 0 ? way->first : way->second, turn, row, flow, &generator))
                     return NULL;
-                stream.packets[stream.count++] = (struct packet){ packet, length };
-                stream.bytes += length;
-            }
     return &stream;
 }
