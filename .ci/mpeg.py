@@ -1,9 +1,9 @@
 """Runs pspmpeg and mpegframes on many captures and files and holds what they write to a second program.
 
-The second program is W3's writer once more, below, with the capture file and the packets of document 01, written from the papers and not from the
-Rattle code. Captures are made here, and by pspsend; what pspmpeg writes is compared byte for byte with the packets made here, and what mpegframes
-writes with the frames that they were made of. Ends with status 0 only where all agree. Needs pspsend, pspmpeg and mpegframes in target/bin, where
-rt check or rt ci leaves them.
+The second program is W3's writer once more, below, with the capture file and the packets of document 01, by either transport (W1), written from the
+papers and not from the Rattle code. Captures are made here, and by pspsend; what pspmpeg writes is compared byte for byte with the packets made here,
+and what mpegframes writes with the frames that they were made of. Ends with status 0 only where all agree. Needs pspsend, pspmpeg and mpegframes in
+target/bin, where rt check or rt ci leaves them.
 """
 import pathlib
 import random
@@ -80,6 +80,16 @@ def cut(session, flow, number, room, frames):
     return entries
 
 
+def over_udp(rng, entry):
+    """A data entry as it comes over UDP: four bytes more, of which T, 0, and the version, 3, count (W1)."""
+    return 5, bytes([rng.randrange(128), 16 * rng.randrange(16) + 3]) + rng.randbytes(2) + entry[1]
+
+
+def by_either(rng, entries):
+    """Data entries, each by one of the two transports."""
+    return [over_udp(rng, entry) if rng.random() < 0.5 else entry for entry in entries]
+
+
 def run(name, words, given):
     done = subprocess.run([str(ROOT / "bin" / "run-x86-64"), str(ROOT / "target" / "bin" / name), *words], input=given, capture_output=True)
     return done.stdout, done.stderr.decode("utf-8", "replace")
@@ -98,6 +108,18 @@ class Tally:
 
 def bodies(session):
     return session.to_bytes(4, "big")
+
+
+def hold_transports(rng, tally, sizes):
+    """Frames over UDP, and by both transports; what is refused over UDP, and what was recorded by the wrong transport, brings none."""
+    for turn in range(30):
+        frames = [frame(rng, rng.choice(sizes)) for _ in range(4)]
+        sent = cut(5, 2, 65530, rng.choice((200, 500, 1496)), frames)
+        udp = over_udp(rng, sent[0])[1]
+        short, version_2, control = udp[:11], udp[:1] + b"\2" + udp[2:], b"\x80" + udp[1:]
+        strays = [(5, b""), (5, short), (5, version_2), (5, control), (5, sent[0][1]), (4, b"\0\3" + udp[2:])]
+        for what, entries in (("over UDP", [over_udp(rng, entry) for entry in sent]), ("by both", by_either(rng, sent))):
+            tally.hold(what, "pspmpeg", ["5"], capture([(1, bodies(5))] + strays + entries), b"".join(packets(frames)))
 
 
 def main():
@@ -119,15 +141,16 @@ def main():
         tally.hold("through", "pspmpeg", [str(session)], made, ts)
         tally.hold("back", "mpegframes", [], ts, pack(frames))
         tally.hold("other session", "pspmpeg", [str(session % 0xFFFFFFFF + 1)], made, b"")
-    # several sessions and flows in one capture, D-MPT among them, and one ID that is PSP, then closed, then D-MPT
+    hold_transports(rng, tally, sizes)
+    # several sessions and flows in one capture, by both transports, D-MPT among them, and one ID that is PSP, then closed, then D-MPT
     for turn in range(30):
         one = [frame(rng, rng.choice(sizes)) for _ in range(4)]
         two = [frame(rng, rng.choice(sizes)) for _ in range(4)]
         mpegs = [b"\x47" + rng.randbytes(187) for _ in range(3)]
         dmpt = bodies(3) + bytes([0x40, 0, 0, 1]) + b"".join(mpegs)
         same = bodies(1) + bytes([0x40, 0, 0, 1]) + b"".join(mpegs)
-        first = cut(1, 0, 9, 500, one)
-        second = cut(2, 3, 65535, 333, two)
+        first = by_either(rng, cut(1, 0, 9, 500, one))
+        second = by_either(rng, cut(2, 3, 65535, 333, two))
         mixed = [(1, bodies(1)), (1, bodies(2)), (2, bodies(3)), (4, dmpt)]
         while first or second:
             mixed.append((first if first and (not second or rng.random() < 0.5) else second).pop(0))
