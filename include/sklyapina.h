@@ -67,10 +67,12 @@ enum sklyapina_kind {
  * Each call that takes a packet is told, and of that packet alone: one session, and one flow of it, may get packets
  * by both, in any order, and what joins, drops and delivers does not depend on it.
  *
- * A packet is given from the first byte behind the IP header, or behind the UDP header. In bytes:
+ * A packet is given from the first byte behind the IP header, or behind the UDP header; below it stand the places:
  *
- *   over IP                    | session ID, 4 | header, 4 | what it carries ..
- *   over UDP   | T, version, 4 | session ID, 4 | header, 4 | what it carries ..
+ *   over IP                    | session ID   | header   | what it carries ..
+ *                              0              4          8
+ *   over UDP   | T, version    | session ID   | header   | what it carries ..
+ *              0               4              8          12
  *
  * and the four bytes that are there over UDP alone, bit by bit:
  *
@@ -82,10 +84,10 @@ enum sklyapina_kind {
  * That a packet is given by the wrong transport cannot always be told. One over IP, given as UDP, is refused by 15
  * (by 2 where it has fewer than 12 bytes), unless its session ID has 0 as its top bit and 3 as the low four bits of
  * its second byte; then its header is read as the session ID. One over UDP, given as IP, has the session ID 0x30000,
- * if 00 03 00 00 was written: it is refused by 5, unless such a session is open; the packet check, which knows no
- * sessions, goes on and reads the session ID as the header. So where no session is open for whose ID
- * (id & 0x800F0000) == 0x00030000, the data call refuses, given by the wrong one of the two, every packet that it
- * accepts by the right one. */
+ * if 00 03 00 00 was written: it is refused by 5 (by 3 where it has more than 4,100 bytes), unless such a session is
+ * open; the packet check, which knows no sessions, goes on and reads the session ID as the header. So where no
+ * session is open for whose ID (id & 0x800F0000) == 0x00030000, the data call refuses, given by the wrong one of the
+ * two, every packet that it accepts by the right one. */
 enum sklyapina_transport {
     SKLYAPINA_IP = 1,
     SKLYAPINA_UDP = 2
