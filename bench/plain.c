@@ -339,41 +339,23 @@ static struct plain_counts receive_dmpt(struct sklyapina_flow *flow, const uint8
 
 /* --- the data call --- */
 
-static size_t lead_of(uint32_t transport)
+/* Refusals 2 and 3 over IP. */
+static uint32_t check_ip(size_t length)
 {
-    return transport == SKLYAPINA_UDP ? UDP_LEAD : 0;
-}
-
-/* Refusals 24, 2, 3 and 15: what is judged before a packet's session ID is read. */
-static uint32_t check_transport(uint32_t transport, const uint8_t *packet, size_t length)
-{
-    if (transport != SKLYAPINA_IP && transport != SKLYAPINA_UDP)
-        return TRANSPORT_UNKNOWN;
-    if (length < lead_of(transport) + HEADER_SIZE)
+    if (length < HEADER_SIZE)
         return PACKET_TOO_SHORT;
-    if (length > lead_of(transport) + LONGEST_PACKET)
-        return PACKET_TOO_LONG;
-    if (transport == SKLYAPINA_UDP && (packet[0] & T || (packet[1] & VERSION) != VERSION_3))
-        return NOT_VERSION_3;
-    return ACCEPTED;
+    return length > LONGEST_PACKET ? PACKET_TOO_LONG : ACCEPTED;
 }
 
-/* The rest of the call, for a packet from its session ID on. */
-static struct plain_counts receive_from_session(struct sklyapina_table *table, uint8_t *holding,
-                                                const uint8_t *packet, size_t length, struct delivery to)
+/* Refusals 2, 3 and 15 over UDP. Each transport has its own limits as constants: with a sum of lead and limit both
+ * compilers took more, over IP too. */
+static uint32_t check_udp(const uint8_t *packet, size_t length)
 {
-    uint32_t session = big_endian_32(packet);
-    size_t row;
-
-    if (session == 0)
-        return refused(CONTROL_MESSAGE);
-    row = row_of(table, session);
-    if (row == SKLYAPINA_ROWS)
-        return refused(SESSION_NOT_OPEN);
-    if (table->rows[row].kind == SKLYAPINA_KIND_DMPT)
-        return receive_dmpt(&table->rows[row].flows[0], packet, length, to);
-    return receive_psp(table->rows[row].flows, holding + row * SKLYAPINA_FLOWS * SKLYAPINA_LONGEST_FRAME, packet,
-                       length, to);
+    if (length < UDP_LEAD + HEADER_SIZE)
+        return PACKET_TOO_SHORT;
+    if (length > UDP_LEAD + LONGEST_PACKET)
+        return PACKET_TOO_LONG;
+    return packet[0] & T || (packet[1] & VERSION) != VERSION_3 ? NOT_VERSION_3 : ACCEPTED;
 }
 
 struct plain_counts plain_receive_in_place(struct sklyapina_table *table, uint32_t transport,
@@ -383,18 +365,34 @@ struct plain_counts plain_receive_in_place(struct sklyapina_table *table, uint32
                                            uint16_t *lengths, size_t lengths_length)
 {
     struct delivery to = { output, lengths };
-    size_t lead = lead_of(transport);
-    uint32_t code;
+    uint32_t code = TRANSPORT_UNKNOWN, session;
+    size_t row, lead = 0;
 
     if (holding_length < SKLYAPINA_HOLDING_SIZE || output_length < SKLYAPINA_MOST_BYTES
         || lengths_length < SKLYAPINA_MOST_FRAMES)
         return refused(SLICES_TOO_SHORT);
     if (table_is_broken(table))
         return refused(TABLE_BROKEN);
-    code = check_transport(transport, packet, packet_length);
+    if (transport == SKLYAPINA_IP) {
+        code = check_ip(packet_length);
+    } else if (transport == SKLYAPINA_UDP) {
+        code = check_udp(packet, packet_length);
+        lead = UDP_LEAD;
+    }
     if (code != ACCEPTED)
         return refused(code);
-    return receive_from_session(table, holding, packet + lead, packet_length - lead, to);
+    packet += lead;
+    packet_length -= lead;
+    session = big_endian_32(packet);
+    if (session == 0)
+        return refused(CONTROL_MESSAGE);
+    row = row_of(table, session);
+    if (row == SKLYAPINA_ROWS)
+        return refused(SESSION_NOT_OPEN);
+    if (table->rows[row].kind == SKLYAPINA_KIND_DMPT)
+        return receive_dmpt(&table->rows[row].flows[0], packet, packet_length, to);
+    return receive_psp(table->rows[row].flows, holding + row * SKLYAPINA_FLOWS * SKLYAPINA_LONGEST_FRAME, packet,
+                       packet_length, to);
 }
 
 struct sklyapina_received plain_receive(struct sklyapina_table table, uint32_t transport,
