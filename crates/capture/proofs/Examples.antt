@@ -101,9 +101,10 @@ too-many = refl
 pub wrong-entries :
     (fileRefusal (0x00 ∷ 0x01 ∷ 0x08 ∷ 0x00 ∷ 0x00 ∷ 0x00 ∷ []) ≡ 44)
     × (fileRefusal (0x00 ∷ 0x01 ∷ 0x04 ∷ 0x01 ∷ 0x00 ∷ 0x00 ∷ []) ≡ 44)
+    × (fileRefusal (0x00 ∷ 0x01 ∷ 0x05 ∷ 0x01 ∷ 0x00 ∷ 0x00 ∷ []) ≡ 44)
     × (fileRefusal (0x00 ∷ 0x01 ∷ 0x01 ∷ 0x00 ∷ 0x00 ∷ 0x03 ∷ 0x00 ∷ 0x01 ∷ 0x01 ∷ []) ≡ 44)
 unfolding fileRefusal bodyStart any sumTo
-wrong-entries = (refl, refl, refl)
+wrong-entries = (refl, refl, refl, refl)
 
 -- 45: a byte behind the last body; and one that the last body lacks
 pub wrong-end :

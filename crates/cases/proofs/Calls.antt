@@ -10,7 +10,7 @@ use Rattle.octets.specs.Count.{any, least, sumTo, upTo}
 use Rattle.flow.specs.declared.Flow.{Flow}
 use Rattle.flow.specs.Numbers.{ahead, next}
 use Rattle.flow.specs.Flow.{fresh}
-use Rattle.packet.specs.Header.{packetBy, ip, udp, inUdp}
+use Rattle.packet.specs.Header.{packetBy, ip, udp, udpFront, inUdp}
 use Rattle.packet.specs.Segments.{bodyAt, segmentAt, segments}
 use Rattle.packet.specs.Psp.{wanted}
 use Rattle.packet.specs.Dmpt.{mpegAt, mpegs}
@@ -174,8 +174,8 @@ order : (received broken-card (ip []) (short 49151 6144 127) ≡ refused 1 broke
 unfolding part rest put any least sumTo ahead next bodyAt wanted broken refused receivedBy received
 order = (refl, refl, refl, refl, refl, refl, refl, refl, refl, refl, refl, refl, refl, refl, refl, refl)
 
--- Over UDP (W1): A comes over UDP and B over IP, with outcomes as above; and then B over UDP is late. What stands before the session ID is
--- in no frame.
+-- Over UDP (W1): A, and B behind it, come to what they come to over IP, and leave the same; so either may come by either. B once more is
+-- late.
 over-udp : (received (card fresh) (inUdp A) (lent before)
     ≡ accepts 1 6 0 0 (card (at 0 2)) afterA (0x11 ∷ 0x12 ∷ 0x13 ∷ 0x14 ∷ 0x15 ∷ 0x16 ∷ []) (6 ∷ []))
     × (received (card (at 0 2)) (inUdp B) (lent afterA)
@@ -185,7 +185,8 @@ unfolding part rest put joined lengths any least sumTo upTo ahead next bodyAt se
     settledBy settled fateBy fate atGap inOrder pspFate hear carriedOut refused receivedBy received
 over-udp = (refl, refl, refl)
 
--- The order over UDP: 1 and 13 before 24, 24 before 2; 2 and 3 before 15; 15 before 4 and before 5; then 4, 5 and the rest as over IP.
+-- The order over UDP: 1 and 13 before 24, 24 before 2; 2 and 3 before 15; 15 before 4 and before 5; then 4, 5 and the rest as over IP. What
+-- is over UDP, given as if it were over IP, is of another session.
 udp-order : (received broken-card (packetBy 3 []) (short 49151 6144 127) ≡ refused 1 broken-card (short 49151 6144 127))
     × (received broken-card (packetBy 3 A) (lent before) ≡ refuses 13 broken-card before)
     × (received empty (packetBy 0 []) (lent before) ≡ refuses 24 empty before)
@@ -197,6 +198,7 @@ udp-order : (received broken-card (packetBy 3 []) (short 49151 6144 127) ≡ ref
     × (received (card fresh) (udp A) (lent before) ≡ refuses 15 (card fresh) before)
     × (received empty (udp (0x00 ∷ 0x03 ∷ replicate 4102 0)) (lent before) ≡ refuses 4 empty before)
     × (received empty (inUdp (set A 4 0x80)) (lent before) ≡ refuses 5 empty before)
+    × (received (card fresh) (ip (udpFront ++ A)) (lent before) ≡ refuses 5 (card fresh) before)
     × (received (card (at 1 0)) (inUdp (set A 4 0x87)) (lent before) ≡ refuses 6 (card (at 1 0)) before)
 unfolding part rest put any least sumTo ahead next bodyAt wanted broken refused receivedBy received
-udp-order = (refl, refl, refl, refl, refl, refl, refl, refl, refl, refl, refl, refl)
+udp-order = (refl, refl, refl, refl, refl, refl, refl, refl, refl, refl, refl, refl, refl)

@@ -168,7 +168,7 @@ unfolding trace traceBy tracedAt framesText frameLine rowsText rowText rowLine f
 gap-traced = refl
 
 -- A core that speaks UDP (W1, kind 5): A over UDP; a control message of its own, with T set; B over IP; what is over IP given as if it were
--- over UDP.
+-- over UDP; and nothing at all.
 abbrev by-either : List ℕ
 by-either =
     fileOf

@@ -8,6 +8,7 @@ use lib.ListN.{length, replicate}
 use Rattle.octets.specs.Stretch.{part, rest, put, joined, lengths, cutBy}
 use Rattle.octets.specs.Count.{any, least, sumTo, upTo}
 use Rattle.flow.specs.Numbers.{ahead, next}
+use Rattle.packet.specs.Header.{inUdp}
 use Rattle.packet.specs.Segments.{bodyAt, segmentAt, segments}
 use Rattle.packet.specs.Psp.{wanted}
 use Rattle.packet.specs.Dmpt.{mpegAt, mpegs}
@@ -18,7 +19,7 @@ use Rattle.table.specs.Calls.{asking, opened, closed}
 use Rattle.join.specs.Join.{settledBy, settled, fateBy, fate, atGap, mpegFate, inOrder, pspFate, dmptFate}
 use Rattle.card.specs.Hear.{hear}
 use Rattle.card.specs.Receive.{carriedOut, refused, receivedBy, received}
-use Rattle.card.specs.History.{Call, opens, closes, answer, after, afterAll, emptyCard}
+use Rattle.card.specs.History.{Call, opens, closes, answer, after, afterAll, emptyCard, hands}
 use Rattle.promises.specs.Account.{Lent, cardFor, tableAfterAll, countedBy, bytesTaken, bytesDelivered, bytesDropped, heldInAll, takenBy, deliveredBy, droppedBy, gathered, bytesHeld}
 use Rattle.promises.specs.Marked.{A, B, single, hand}
 
@@ -26,14 +27,18 @@ use Rattle.promises.specs.Marked.{A, B, single, hand}
 abbrev begins : List ℕ
 begins = single 5 0x8000 3 (0x71 ∷ 0x72 ∷ 0x73 ∷ [])
 
--- each call with a holding slice of its own: an open with none, A, B with one that is a byte short (1), B with another one, a beginning behind a gap
+-- each call with a holding slice of its own: an open with none, A over UDP, B over IP with one that is a byte short (1), B with another
+-- one, a beginning behind a gap
 abbrev with-slice : List ℕ → Call → Lent
 with-slice holding x = record { holding = holding; call = x }
+
+abbrev hand-udp : List ℕ → Call
+hand-udp packet = hands (record { packet = inUdp packet; output = replicate 6144 0; lengths = replicate 127 0 })
 
 abbrev slices-change : List Lent
 slices-change =
     with-slice [] (opens (asking kind.Psp 0x101))
-    ∷ with-slice (replicate 49152 0) (hand A)
+    ∷ with-slice (replicate 49152 0) (hand-udp A)
     ∷ with-slice (replicate 49151 0) (hand B)
     ∷ with-slice (replicate 49152 9) (hand B)
     ∷ with-slice (replicate 49152 0) (hand begins)
@@ -51,13 +56,14 @@ abbrev short-slice : Lent
 short-slice = with-slice (replicate 49151 0) (hand B)
 
 abbrev before-it : List Lent
-before-it = with-slice [] (opens (asking kind.Psp 0x101)) ∷ with-slice (replicate 49152 0) (hand A) ∷ []
+before-it = with-slice [] (opens (asking kind.Psp 0x101)) ∷ with-slice (replicate 49152 0) (hand-udp A) ∷ []
 
 refused-by-1 : (answer (cardFor (tableAfterAll empty before-it) short-slice) (hand B)) .code ≡ 1
 unfolding part rest put joined lengths cutBy any least sumTo upTo ahead next bodyAt segmentAt segments wanted broken opened settledBy settled fateBy fate atGap inOrder pspFate hear carriedOut refused receivedBy received answer after tableAfterAll
 refused-by-1 = refl
 
--- then a D-MPT session with a packet of two MPEG packets, one of which carries nothing, and the close of the other session, which drops the 3 bytes
+-- then a D-MPT session with a packet over UDP, of two MPEG packets, one of which carries nothing, and the close of the other session, which
+-- drops the 3 bytes
 abbrev mpegs-come : List ℕ
 mpegs-come =
     0x00 ∷ 0x00 ∷ 0x01 ∷ 0x03 ∷ 0x00 ∷ 0x00 ∷ 0x00 ∷ 0x00 ∷ 0x47 ∷ 0x1F ∷ 0xFF ∷ (replicate 185 0xB1 ++ (0x47 ∷ 0x00 ∷ 0x10 ∷ replicate 185 0xA1))
@@ -65,7 +71,10 @@ mpegs-come =
 abbrev and-closes : List Lent
 and-closes =
     slices-change
-    ++ (with-slice [] (opens (asking kind.Dmpt 0x103)) ∷ with-slice (replicate 49152 4) (hand mpegs-come) ∷ with-slice [] (closes 0x101) ∷ [])
+    ++ (with-slice [] (opens (asking kind.Dmpt 0x103))
+    ∷ with-slice (replicate 49152 4) (hand-udp mpegs-come)
+    ∷ with-slice [] (closes 0x101)
+    ∷ [])
 
 closes-counted : (countedBy bytesTaken empty and-closes ≡ 394)
     × (countedBy bytesDelivered empty and-closes ≡ 203)
@@ -80,7 +89,7 @@ never-broken-instance = (refl, refl)
 
 -- one slice through all calls, and the close: which bytes come in, are delivered, are dropped, and that none is held at the end
 abbrev calls : List Call
-calls = opens (asking kind.Psp 0x101) ∷ hand A ∷ hand B ∷ hand begins ∷ closes 0x101 ∷ []
+calls = opens (asking kind.Psp 0x101) ∷ hand A ∷ hand-udp B ∷ hand begins ∷ closes 0x101 ∷ []
 
 each-byte-instance : (gathered takenBy (emptyCard (replicate 49152 0)) calls
     ≡ 0x11 ∷ 0x12 ∷ 0x13 ∷ 0x14 ∷ 0x15 ∷ 0x16 ∷ 0x21 ∷ 0x22 ∷ 0x23 ∷ 0x24 ∷ 0x25 ∷ 0x26 ∷ 0x27 ∷ 0x28 ∷ 0x29 ∷ 0x71 ∷ 0x72 ∷ 0x73 ∷ [])

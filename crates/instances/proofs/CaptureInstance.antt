@@ -30,3 +30,14 @@ its-entries =
 reads-back-instance : (fileRefusal file ≡ 0) × (entries file ≡ its-entries) × (fileOf its-entries ≡ file)
 unfolding part joined any sumTo upTo bodyStart fileRefusal nthEntry entries fileOf
 reads-back-instance = (refl, refl, refl)
+
+-- and a file with the kinds that it lacks: the session opened as D-MPT, and an empty packet over UDP
+abbrev udp-file : List ℕ
+udp-file = 0x00 ∷ 0x03 ∷ 2 ∷ 0 ∷ 0 ∷ 4 ∷ 5 ∷ 0 ∷ 0 ∷ 0 ∷ 4 ∷ 0 ∷ 0 ∷ 17 ∷ session ++ B
+
+abbrev udp-entries : List Entry
+udp-entries = record { kind = 2; body = session } ∷ record { kind = 5; body = [] } ∷ record { kind = 4; body = B } ∷ []
+
+reads-back-udp : (fileRefusal udp-file ≡ 0) × (entries udp-file ≡ udp-entries) × (fileOf udp-entries ≡ udp-file)
+unfolding part joined any sumTo upTo bodyStart fileRefusal nthEntry entries fileOf
+reads-back-udp = (refl, refl, refl)

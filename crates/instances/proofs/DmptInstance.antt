@@ -8,7 +8,7 @@ use Rattle.octets.specs.Stretch.{part, rest, put, joined, lengths, cutBy}
 use Rattle.octets.specs.Count.{any, least, sumTo, upTo}
 use Rattle.flow.specs.Numbers.{ahead, next}
 use Rattle.flow.specs.Flow.{fresh}
-use Rattle.packet.specs.Header.{ip, sub}
+use Rattle.packet.specs.Header.{ip, inUdp, sub}
 use Rattle.packet.specs.Segments.{bodyAt, segmentAt, segments}
 use Rattle.packet.specs.Psp.{wanted}
 use Rattle.packet.specs.Dmpt.{mpegAt, mpegs}
@@ -19,7 +19,7 @@ use Rattle.table.specs.Calls.{asking, opened}
 use Rattle.join.specs.Join.{settledBy, settled, fateBy, fate, atGap, mpegFate, inOrder, pspFate, dmptFate}
 use Rattle.card.specs.Hear.{hear}
 use Rattle.card.specs.Receive.{rowOf, carriedOut, refused, receivedBy, received}
-use Rattle.card.specs.History.{Card, opens, framesOf, answer, after, afterAll, emptyCard}
+use Rattle.card.specs.History.{Card, Call, opens, hands, framesOf, answer, after, afterAll, emptyCard}
 use Rattle.promises.specs.Dmpt.{carrying, nulls}
 use Rattle.promises.specs.Marked.{hand}
 
@@ -62,14 +62,19 @@ pub dmpt-goes : (dmpt-card ≡ dmpt-told) × (isDmpt (termsAt (dmpt-card .table)
 unfolding part rest put joined lengths any least sumTo upTo ahead next bodyAt segmentAt segments wanted broken opened settledBy settled fateBy fate atGap inOrder pspFate hear carriedOut refused receivedBy received after afterAll
 dmpt-goes = (refl, refl)
 
--- .. and accepted: the first MPEG packet is found, the second is dropped, and the card is as it was.
+-- .. and accepted: the first MPEG packet is found, the second is dropped, and the card is as it was; over UDP too.
+abbrev pub hand-udp : List ℕ → Call
+hand-udp packet = hands (record { packet = inUdp packet; output = replicate 6144 0; lengths = replicate 127 0 })
+
 pub dmpt-instance : ((answer dmpt-card (hand dmpt-packet)) .code ≡ 0)
     × (framesOf (answer dmpt-card (hand dmpt-packet)) ≡ mpeg-some ∷ [])
     × ((answer dmpt-card (hand dmpt-packet)) .dropped ≡ 188)
     × ((answer dmpt-card (hand dmpt-packet)) .gap ≡ 0)
     × (after dmpt-card (hand dmpt-packet) ≡ dmpt-told)
+    × (framesOf (answer dmpt-card (hand-udp dmpt-packet)) ≡ mpeg-some ∷ [])
+    × (after dmpt-card (hand-udp dmpt-packet) ≡ dmpt-told)
 unfolding part rest put joined lengths cutBy any least sumTo upTo ahead next bodyAt segmentAt segments wanted mpegAt mpegs broken opened settledBy settled fateBy fate atGap mpegFate inOrder pspFate dmptFate hear carriedOut refused receivedBy received answer after afterAll
-dmpt-instance = (refl, refl, refl, refl, refl)
+dmpt-instance = (refl, refl, refl, refl, refl, refl, refl)
 
 pub dmpt-carries : (carrying (mpegs (sub (ip dmpt-packet))) ≡ mpeg-some ∷ []) × (nulls (mpegs (sub (ip dmpt-packet))) ≡ mpeg-null ∷ [])
 unfolding part rest upTo mpegAt mpegs carrying nulls

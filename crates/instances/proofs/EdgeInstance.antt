@@ -69,19 +69,30 @@ unfolding part rest put joined lengths any least sumTo upTo ahead next bodyAt se
     fateBy fate atGap inOrder pspFate hear carriedOut refused receivedBy received answer after afterAll told
 two-transports = refl
 
--- Between A and B come packets in which nobody reads a session ID: B with T set, B by another version, B by a transport that there is not.
--- They are nobody's, and change nothing.
+-- Between A and B come packets of which there is no telling where a session ID stands: B with T set, B by another version, B by a transport
+-- that there is not; and one over UDP with 11 bytes, which has none. They are nobody's, and change nothing.
 abbrev with-t : List ℕ → Packet
 with-t packet = udp (0x80 ∷ 0x03 ∷ 0x00 ∷ 0x00 ∷ packet)
 
 abbrev version-2 : List ℕ → Packet
 version-2 packet = udp (0x00 ∷ 0x02 ∷ 0x00 ∷ 0x00 ∷ packet)
 
-nobodys : told 0x101 fresh-101 (hand A ∷ hand-by (with-t B) ∷ hand-by (version-2 B) ∷ hand-by (packetBy 3 B) ∷ hand-by (inUdp B) ∷ [])
+nobodys : told 0x101 fresh-101
+    (hand A ∷ hand-by (with-t B) ∷ hand-by (version-2 B) ∷ hand-by (packetBy 3 B) ∷ hand-by (inUdp (take 7 B)) ∷ hand-by (inUdp B) ∷ [])
     ≡ one-frame 6 0 0 of6 ∷ one-frame 9 0 0 of9 ∷ []
 unfolding part rest put joined lengths any least sumTo upTo ahead next bodyAt segmentAt segments wanted broken opened settledBy settled
     fateBy fate atGap inOrder pspFate hear carriedOut refused receivedBy received answer after afterAll told
 nobodys = refl
+
+-- A packet that is too long has its ID where it should be: it is the session's, which is told 3.
+abbrev too-long : Told
+too-long = record { code = 3; frames = 0; bytes = 0; dropped = 0; gap = 0; output = []; lengths = [] }
+
+too-long-is-told : told 0x101 fresh-101 (hand (B ++ replicate 4084 0) ∷ hand-by (inUdp (B ++ replicate 4084 0)) ∷ [])
+    ≡ too-long ∷ too-long ∷ []
+unfolding part rest put joined lengths any least sumTo upTo ahead next bodyAt segmentAt segments wanted broken opened settledBy settled
+    fateBy fate atGap inOrder pspFate hear carriedOut refused receivedBy received answer after afterAll told
+too-long-is-told = refl
 
 -- Between A and B another session is closed, and a packet with number 3 is refused, whose last byte is cut: B finds what A left, and the number is expected.
 abbrev half-there : List Call

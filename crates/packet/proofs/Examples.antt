@@ -9,7 +9,8 @@ use Rattle.octets.specs.Stretch.{part, rest}
 use Rattle.octets.specs.Count.{any, sumTo, upTo}
 use Rattle.flow.specs.Flow.{topFlow, flows}
 use Rattle.packet.specs.declared.Extent.{Extent}
-use Rattle.packet.specs.Header.{Packet, packetBy, ip, udp, udpFront, inUdp, sub, sessionId, sSet, flowId, segmentCount, number}
+use Rattle.packet.specs.Header.{Packet, packetBy, overIp, overUdp, udpLead, longestPacket, ip, udp, udpFront, inUdp, sub, sessionId}
+use Rattle.packet.specs.Header.{sSet, flowId, segmentCount, number}
 use Rattle.packet.specs.Header.{idLength, headerLength, shortestPacket}
 use Rattle.packet.specs.Segments.{entryWidth, lengthIn, segments, segmentAt, bodyAt}
 use Rattle.packet.specs.Psp.{wanted}
@@ -39,7 +40,8 @@ segmentCauseIp bytes k = segmentCause 1 (ip bytes) k
 
 -- limits that the paper says in two ways
 limits : (topFlow + 1 ≡ flows) × (idLength + headerLength ≡ shortestPacket)
-limits = (refl, refl)
+    × (udpLead + shortestPacket ≡ 12) × (udpLead + longestPacket ≡ 4104) × (overIp ≡ 1) × (overUdp ≡ 2)
+limits = (refl, refl, refl, refl, refl, refl)
 
 a-fields : (sessionId (ip A) ≡ 0x101) × (flowId (sub (ip A)) ≡ 1) × (sSet (sub (ip A)) ≡ true)
     × (segmentCount (sub (ip A)) ≡ 2) × (number (sub (ip A)) ≡ 0xFFFF)
@@ -166,12 +168,19 @@ over-udp : (checkUdp 1 (udpFront ++ A) ≡ 0) × (checkUdp 2 (udpFront ++ D) ≡
 unfolding check checkRefusals rest wanted bodyAt any sumTo mpegAt part
 over-udp = (refl, refl, refl, refl, refl, refl, refl, refl, refl, refl)
 
--- 15: T set, also with another version; version 2, 0 and 4; version 3 with the bits above it set, and every bit that nobody reads
-version-judged : (checkUdp 1 (0x80 ∷ 3 ∷ 0 ∷ 0 ∷ A) ≡ 15) × (checkUdp 1 (0xC8 ∷ 2 ∷ 0 ∷ 0 ∷ A) ≡ 15) × (checkUdp 1 (0 ∷ 2 ∷ 0 ∷ 0 ∷ A) ≡ 15)
-    × (checkUdp 1 (0 ∷ 0 ∷ 0 ∷ 0 ∷ A) ≡ 15) × (checkUdp 1 (0 ∷ 4 ∷ 0 ∷ 0 ∷ A) ≡ 15) × (checkUdp 1 (0 ∷ 0xF3 ∷ 0 ∷ 0 ∷ A) ≡ 0)
+-- 15: T set, also with another version; versions 0 to 4, 7, 11 and 15; version 3 with the bits above it set, and every bit that nobody
+-- reads
+versions : (checkUdp 1 (0 ∷ 0 ∷ 0 ∷ 0 ∷ A) ≡ 15) × (checkUdp 1 (0 ∷ 1 ∷ 0 ∷ 0 ∷ A) ≡ 15) × (checkUdp 1 (0 ∷ 2 ∷ 0 ∷ 0 ∷ A) ≡ 15)
+    × (checkUdp 1 (0 ∷ 4 ∷ 0 ∷ 0 ∷ A) ≡ 15) × (checkUdp 1 (0 ∷ 7 ∷ 0 ∷ 0 ∷ A) ≡ 15) × (checkUdp 1 (0 ∷ 11 ∷ 0 ∷ 0 ∷ A) ≡ 15)
+    × (checkUdp 1 (0 ∷ 15 ∷ 0 ∷ 0 ∷ A) ≡ 15) × (checkUdp 1 (0 ∷ 0x13 ∷ 0 ∷ 0 ∷ A) ≡ 0)
+unfolding check checkRefusals rest wanted bodyAt any sumTo
+versions = (refl, refl, refl, refl, refl, refl, refl, refl)
+
+version-judged : (checkUdp 1 (0x80 ∷ 3 ∷ 0 ∷ 0 ∷ A) ≡ 15) × (checkUdp 1 (0xC8 ∷ 2 ∷ 0 ∷ 0 ∷ A) ≡ 15)
+    × (checkUdp 1 (0 ∷ 0xF3 ∷ 0 ∷ 0 ∷ A) ≡ 0)
     × (checkUdp 1 (0x7F ∷ 0x53 ∷ 0xFF ∷ 0xFF ∷ A) ≡ 0) × (checkUdp 1 (0x7F ∷ 0x32 ∷ 3 ∷ 3 ∷ A) ≡ 15)
 unfolding check checkRefusals rest wanted bodyAt any sumTo
-version-judged = (refl, refl, refl, refl, refl, refl, refl, refl)
+version-judged = (refl, refl, refl, refl, refl)
 
 -- 2 and 3 before 15, 15 before 4 and before 6. Over IP there are no such bytes: an ID that starts like a control message is an ID.
 version-in-order : (checkUdp 1 (0x80 ∷ 2 ∷ 0 ∷ 0 ∷ take 7 A) ≡ 2) × (checkUdp 1 (0x80 ∷ 3 ∷ 0 ∷ 0 ∷ A ++ replicate 4081 0) ≡ 3)
@@ -180,14 +189,24 @@ version-in-order : (checkUdp 1 (0x80 ∷ 2 ∷ 0 ∷ 0 ∷ take 7 A) ≡ 2) × (
 unfolding check checkRefusals rest wanted bodyAt any sumTo
 version-in-order = (refl, refl, refl, refl, refl)
 
--- 24: a transport that there is not, before all else, and a kind that there is not
-transports-judged : (check 1 (packetBy 0 A) ≡ 24) × (check 1 (packetBy 3 A) ≡ 24) × (check 1 (packetBy 3 []) ≡ 24)
-    × (check 1 (packetBy 257 A) ≡ 24) × (check 0 (packetBy 0 A) ≡ 24) × (checkUdp 3 [] ≡ 24)
+-- The transports by their numbers. 24: one that there is not, before all else, and a kind that there is not
+transports-judged : (check 1 (packetBy 1 A) ≡ 0) × (check 1 (packetBy 2 (0 ∷ 3 ∷ 0 ∷ 0 ∷ A)) ≡ 0) × (check 1 (packetBy 0 A) ≡ 24)
+    × (check 1 (packetBy 3 A) ≡ 24) × (check 1 (packetBy 4 A) ≡ 24) × (check 1 (packetBy 5 (0 ∷ 3 ∷ 0 ∷ 0 ∷ A)) ≡ 24)
+    × (check 1 (packetBy 3 []) ≡ 24) × (check 1 (packetBy 257 A) ≡ 24) × (check 1 (packetBy 258 (0 ∷ 3 ∷ 0 ∷ 0 ∷ A)) ≡ 24)
+    × (check 1 (packetBy 65537 A) ≡ 24) × (check 0 (packetBy 0 A) ≡ 24) × (checkUdp 3 [] ≡ 24)
 unfolding check checkRefusals rest wanted bodyAt any sumTo
-transports-judged = (refl, refl, refl, refl, refl, refl)
+transports-judged = (refl, refl, refl, refl, refl, refl, refl, refl, refl, refl, refl, refl)
 
--- A packet over IP given as one over UDP, and the other way round: the first has no version 3 where it should be, the second is too long by
--- four bytes that stand where the session ID should be.
+-- the longest packet, 4,100 bytes over IP and 4,104 over UDP, with one segment
+abbrev longest : List ℕ
+longest = 0 ∷ 0 ∷ 1 ∷ 1 ∷ 0x41 ∷ 1 ∷ 0 ∷ 0 ∷ 0xCF ∷ 0xFA ∷ replicate 4090 7
+
+longest-passes : (checkIp 1 longest ≡ 0) × (checkUdp 1 (udpFront ++ longest) ≡ 0) × (checkIp 1 (udpFront ++ longest) ≡ 3)
+unfolding check checkRefusals rest wanted bodyAt any sumTo
+longest-passes = (refl, refl, refl)
+
+-- A packet over IP given as one over UDP has no version 3 where it should be. One over UDP given as one over IP has the ID 0x30000, and its
+-- own ID is read as the header: here S is clear in it.
 mistaken : (checkUdp 1 A ≡ 15) × (checkIp 1 (udpFront ++ A) ≡ 8) × (sessionId (ip (udpFront ++ A)) ≡ 0x30000)
 unfolding check checkRefusals rest wanted bodyAt any sumTo
 mistaken = (refl, refl, refl)

@@ -2,7 +2,7 @@
 -- arguments. A function's own proof then only cites these.
 use Prim.Native.Nat.{ℕ, _+_, _*_, _<_, _≤_}
 use mathlib.Core.Path.{_≡_, refl, sym, ap, _∙_}
-use mathlib.Core.Bool.{Bool, true, false, cond}
+use mathlib.Core.Bool.{Bool, true, false, cond, not, _&&_}
 use mathlib.Core.List.{List, [], _∷_, _++_}
 use native.Mathlib.Omega.{arith}
 use lib.Dec.{eqb, leb}
@@ -11,7 +11,8 @@ use borrow.Author.Tests.{eq-eqb, ne-eqb, lt-ltb, le-ltb, le-leb, lt-leb}
 use Rattle.refusal.specs.Refusal.{Refusal, _when_, first}
 use Rattle.refusal.proofs.Laws.{first-passed, first-stopped}
 use Rattle.octets.specs.Count.{any, sumTo}
-use Rattle.packet.specs.Header.{Packet, transportUnknown, lead, notVersion3, sessionId, sub, headerLength, segmentCount}
+use Rattle.packet.specs.Header.{Packet, overIp, overUdp, transportUnknown, lead, notVersion3, sessionId, sub, headerLength}
+use Rattle.packet.specs.Header.{segmentCount}
 use Rattle.packet.specs.Header.{shortestPacket, longestPacket, tooShort, tooLong, beforeSession}
 use Rattle.packet.specs.Segments.{entryWidth, lengthAt, bodyAt}
 use Rattle.packet.specs.Psp.{wanted, badAt, segmentRefusals, pspRefusals}
@@ -54,6 +55,20 @@ module _ (width : ℕ) (sub : List ℕ) (count : ℕ) (counted : count ≡ segme
 
         pub segments-passed : spoilt ≡ false → 0 ≡ first (segmentRefusals width sub)
         segments-passed e = sym (ap (λ (b : Bool). cond b 11 0) e) ∙ by-faults
+
+-- The two transports that there are, and any other.
+pub transport-ip : (p : Packet) → p .transport ≡ overIp → transportUnknown p ≡ false
+transport-ip p e = rw (eq-eqb (p .transport) overIp e) refl
+
+pub transport-udp : (p : Packet) → p .transport ≡ overUdp → transportUnknown p ≡ false
+transport-udp p e = either (eqb (p .transport) overIp) (eq-eqb (p .transport) overUdp e)
+  where
+    either : (a : Bool) {b : Bool} → b ≡ true → (not a && not b) ≡ false
+    either true h = refl
+    either false h = rw h refl
+
+pub transport-other : (p : Packet) → (p .transport ≡ overIp → ⊥) → (p .transport ≡ overUdp → ⊥) → transportUnknown p ≡ true
+transport-other p i u = rw (ne-eqb (p .transport) overIp i, ne-eqb (p .transport) overUdp u) refl
 
 -- Refusals 24, 2, 3, 15 and 4. `before` is what the code has counted before the session ID, and `id` what it has read there.
 module _ (p : Packet) where

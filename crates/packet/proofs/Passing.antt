@@ -16,7 +16,8 @@ use Rattle.octets.specs.Count.{any}
 use Rattle.octets.proofs.Counts.{none-at, or-false-left, or-false-right, sum-within}
 use Rattle.octets.proofs.Stretches.{length-rest}
 use Rattle.flow.specs.Flow.{topFlow}
-use Rattle.packet.specs.Header.{Packet, transportUnknown, lead, notVersion3, idLength, sessionId, sub, headerLength, sSet, flowId}
+use Rattle.packet.specs.Header.{Packet, transportUnknown, lead, notVersion3, idLength, sessionId, sub, headerLength, sSet}
+use Rattle.packet.specs.Header.{flowId}
 use Rattle.packet.specs.Header.{segmentCount, notPlain, shortestPacket, longestPacket, beforeSession}
 use Rattle.packet.specs.Segments.{entryWidth, entryAt, beginsIn, endsIn, lengthIn, lengthAt, bodyAt}
 use Rattle.packet.specs.Psp.{wanted, badAt, segmentRefusals, pspRefusals}

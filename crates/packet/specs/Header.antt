@@ -7,8 +7,8 @@
 --   |                          session ID                           |
 --   |V S H H X  flow|.    count     |        sequence number        |   `sub` starts here; then segments, or MPEG packets
 --
--- T, V, S and X are a bit each, and H is two; the version has four bits, the flow ID three, the count of segments seven. X and all that is
--- drawn as a dot is read by nobody.
+-- Each byte is drawn from its top bit on. T, V, S and X are a bit each, and H is two; the version has four bits, the flow ID three, the
+-- count of segments seven. X and all that is drawn as a dot is read by nobody.
 use Prim.Native.Nat.{ℕ, _+_, _/_, _%_}
 use mathlib.Core.Bool.{Bool, cond, not, _&&_, _||_}
 use mathlib.Core.List.{List, [], _∷_, _++_}
@@ -39,8 +39,8 @@ ip bytes = packetBy overIp bytes
 abbrev pub udp : List ℕ → Packet
 udp bytes = packetBy overUdp bytes
 
--- A packet as it goes over IP, sent over UDP: what a sender puts before it. (`same-packet` in proofs/Transports.antt: it is the same
--- packet.)
+-- A packet as it goes over IP, and the same packet over UDP: what a sender puts before it. (That it is the same: Transports.antt in
+-- proofs/.)
 abbrev pub udpFront : List ℕ
 udpFront = 0 ∷ 3 ∷ 0 ∷ 0 ∷ []
 
@@ -50,7 +50,8 @@ inUdp bytes = udp (udpFront ++ bytes)
 abbrev pub transportUnknown : Packet → Bool
 transportUnknown p = not (eqb (p .transport) overIp) && not (eqb (p .transport) overUdp)
 
--- How many bytes stand before the session ID. (Of a transport that there is not nothing is read: it is refused first.)
+-- How many bytes stand before the session ID. (For a transport that there is not this says 0, and decides nothing: such a packet is refused
+-- before anything of it is read.)
 abbrev pub udpLead : ℕ
 udpLead = 4
 

@@ -25,7 +25,7 @@ pub const HEADER_LENGTH: usize = 4;
 // What S is worth in its byte.
 pub const S_BIT: u8 = 64;
 
-// A packet over IP has 8 to 4,100 bytes; over UDP the lead comes to both.
+// A packet over IP has 8 to 4,100 bytes, and over UDP four more.
 const SHORTEST_PACKET: usize = 8;
 
 const LONGEST_PACKET: usize = 4100;
@@ -118,7 +118,7 @@ pub fn not_plain(sub: &[u8]) -> bool
 
 // Refusal 15, over UDP alone: T set, which marks a control message, or another version than 3.
 fn not_version_3(packet: &[u8], transport: u32) -> bool
-    requires { ⌜ idLength ≤ length (now packet) ⌝ }
+    requires { ⌜ udpLead ≤ length (now packet) ⌝ }
     ensures { λ r. ⌜ r ≡ notVersion3 (packetBy transport (now (packet .entry))) ⌝ }
 {
     if transport != UDP {
@@ -131,8 +131,11 @@ fn not_version_3(packet: &[u8], transport: u32) -> bool
 pub fn refuse_before_session(packet: &[u8], transport: u32) -> u32
     ensures { λ r. ⌜ r ≡ first (beforeSession (packetBy transport (now (packet .entry)))) ⌝ }
 {
-    if (transport != IP) & (transport != UDP) {
-        return refusal::TRANSPORT_UNKNOWN;
+    // one question inside the other, so that over IP a single comparison settles all that is asked of the transport
+    if transport != IP {
+        if transport != UDP {
+            return refusal::TRANSPORT_UNKNOWN;
+        }
     }
     let lead = lead_of(transport);
     if packet.len() < lead + SHORTEST_PACKET {

@@ -41,9 +41,9 @@ of-session kind session flow p e =
       eqb-true (flowIn kind (sub p)) flow (and-right (ofSession session p) (eqb (flowIn kind (sub p)) flow) e),
     )
 
--- a packet that is not refused before its session is sought is readable
-early-readable : (p : Packet) → EarlyPassed p → readable p ≡ true
-early-readable p passed =
+-- a packet that is not refused without its session is readable
+passed-readable : (p : Packet) → EarlyPassed p → readable p ≡ true
+passed-readable p passed =
     rw (passed .known, le-ltb (length (p .bytes)) (lead p + shortestPacket) (passed .not-short), passed .right-version) refl
 
 is-of : (kind : Kind) (session flow : ℕ) (p : Packet) → readable p ≡ true → sessionId p ≡ session → flowIn kind (sub p) ≡ flow →
@@ -104,7 +104,7 @@ module _ (c : Card) (a : Arrival) (g : Good c) (z : answer c (hands a) .code ≡
     apart not-of e q =
         let ok = accepted (c .table) packet lent z in
         let same : sessionId packet ≡ session = sym (one-row (c .table) session (sessionId packet) (s .is-there) (ok .found) e) in
-        let its-own = is-of (terms .kind) session flow packet (early-readable packet (ok .early)) same (its-kind e ∙ sym q) in
+        let its-own = is-of (terms .kind) session flow packet (passed-readable packet (ok .early)) same (its-kind e ∙ sym q) in
         true≢false (sym its-own ∙ not-of)
 
     same-record : ofFlow (terms .kind) session flow packet ≡ false → flowAt (rowAt (d .table) r) flow ≡ flowAt (rowAt (c .table) r) flow

@@ -1,6 +1,6 @@
--- Capture files (document 01, "Capture file and listing"). A file that is not refused is the file of its entries: what is read from it, written again, is the same
--- file, byte for byte. And the other way round: entries of the four kinds with bodies of the right lengths, not too many and not too long, written
--- and then read, are the same entries.
+-- Capture files (document 01, "Capture file and listing"). A file that is not refused is the file of its entries: what is read from it,
+-- written again, is the same file, byte for byte. And the other way round: entries of the kinds that there are, with bodies of the right
+-- lengths, not too many and not too long, written and then read, are the same entries.
 use Prim.Native.Nat.{ℕ}
 use mathlib.Core.Path.{_≡_}
 use mathlib.Core.List.{List}

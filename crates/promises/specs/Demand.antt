@@ -33,10 +33,10 @@ opening line = asking kind.Psp (line .session)
 abbrev pub kindOn : Line → Kind
 kindOn line = (opening line) .kind
 
--- A run of a card: any calls from an empty table, then the session's opening as PSP, then any calls again, none of which closes it. Among them
--- its flow gets the sender's packets, and no others, in the order of `arrivals`. What else is called, for other sessions and other flows, before and
--- after, refused or not, is left open. (That each arrival was sent is not asked for: past the end of the packets stands an empty list, which is no
--- packet of any flow.)
+-- A run of a card: any calls from an empty table, then the session's opening as PSP, then any calls again, none of which closes it. Among
+-- them its flow gets the sender's packets, and no others, in the order of `arrivals`. What else is called, for other sessions and other
+-- flows, before and after, refused or not, is left open. (That each arrival was sent is not asked for: past the end of the packets stands
+-- one without bytes, which is no packet of any flow.)
 pub record Run (s : Sending) : Type 0 where
   pub holding : List ℕ
   pub before : List Call

@@ -1,6 +1,5 @@
 -- Words that the promises share: which calls of a history are for a session or for one of its flows, what comes out of these, and when
--- they have room. A packet is for no session where nobody reads a session ID in it: of a transport that there is not (24), too short (2),
--- over UDP with T set or another version than 3 (15).
+-- they have room.
 use Prim.Native.Nat.{ℕ, _≤_}
 use mathlib.Core.Path.{_≡_}
 use mathlib.Core.Bool.{Bool, true, false, cond, not, _&&_, _||_}
@@ -15,6 +14,8 @@ use Rattle.card.specs.Hear.{flowIn}
 use Rattle.card.specs.Receive.{holdingSize}
 use Rattle.card.specs.History.{Card, Arrival, Call, opens, closes, hands, framesOf, answer, after}
 
+-- Of a session are the packets with its ID. There is no telling where an ID stands in a packet by a transport that there is not (24), and
+-- over UDP in one that has T set or another version (15); and a packet that is too short has none (2). These are of no session.
 abbrev pub readable : Packet → Bool
 readable p = not (transportUnknown p || tooShort p || notVersion3 p)
 

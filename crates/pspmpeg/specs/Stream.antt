@@ -21,8 +21,8 @@ use Rattle.mpeg.specs.Frame.{good}
 use Rattle.mpeg.specs.Packet.{none}
 use Rattle.mpeg.specs.Run.{Backlog, waitingIn, packetNext, afterNext}
 
--- The session is open as PSP; an entry is a packet for it then, by either transport. (What is refused without its session delivers
--- nothing.)
+-- The session is open as PSP; an entry is a packet for it then, by either transport. (A packet that 24, 2, 3, 15 or 4 refuses delivers
+-- nothing, so it is not asked for its session.)
 abbrev pub openAsPsp : Table → ℕ → Bool
 openAsPsp t id = isOpen t id && not (isDmpt (termsAt t (find t id) .kind))
 

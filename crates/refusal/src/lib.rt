@@ -38,7 +38,7 @@ pub const TABLE_BROKEN: u32 = 13;
 // A segment that was asked for by its number.
 pub const SEGMENT_OUTSIDE: u32 = 14;
 
-// The four bytes before the session ID over UDP.
+// The four bytes before the session ID over UDP: T set, which marks a control message, or another version than 3.
 pub const NOT_VERSION_3: u32 = 15;
 
 // An open.
@@ -48,7 +48,8 @@ pub const ALREADY_OPEN: u32 = 22;
 
 pub const ALL_ROWS_OPEN: u32 = 23;
 
-// The kind that a packet check, a segment request or an open names by its number; and the transport of a packet, which has the same number.
+// A number that stands for no kind, in a packet check, a segment request or an open; or for no transport. The papers have one number for
+// both.
 pub const KIND_UNKNOWN: u32 = 24;
 
 pub const TRANSPORT_UNKNOWN: u32 = 24;

@@ -28,7 +28,7 @@ module _ (P : Packet → Type 0) (same : (bytes : List ℕ) → P (ip bytes) →
 
 -- behind the session ID they are the same
 sub-either : (way : Bool) (bytes : List ℕ) → sub (cond way (inUdp bytes) (ip bytes)) ≡ sub (ip bytes)
-sub-either true bytes = same-sub bytes
+sub-either true bytes = same-sub 0 3 0 0 bytes
 sub-either false bytes = refl
 
 sub-ways : (ways : List Bool) (packets : List (List ℕ)) (i : ℕ) → sub (packetAt (goOut ways packets) i) ≡ sub (packetAt (map ip packets) i)
@@ -59,9 +59,10 @@ pub keeps-ways : (line : Line) (frames : List Pieces) (unfinished : Pieces) (way
 keeps-ways line frames unfinished ways packets k =
     record {
       sizes = k .sizes;
-      passing = each-way (λ p. check kindPsp p ≡ 0) (λ bytes h. same-check bytes kindPsp ∙ h) ways packets (k .passing);
+      passing = each-way (λ p. check kindPsp p ≡ 0) (λ bytes h. same-check 0 3 0 0 bytes refl kindPsp ∙ h) ways packets (k .passing);
       addressed =
-          each-way (Addressed line) (λ bytes h. (same-session bytes ∙ h .0, ap flowId (same-sub bytes) ∙ h .1)) ways packets (k .addressed);
+          each-way (Addressed line) (λ bytes h. (same-session 0 3 0 0 bytes ∙ h .0, ap flowId (same-sub 0 3 0 0 bytes) ∙ h .1))
+          ways packets (k .addressed);
       numbered = λ i l. ap number (sub-ways ways packets i) ∙ k .numbered i (rw (length-ways ways packets) at l);
       in-order = segments-ways ways packets ∙ k .in-order;
     }

@@ -52,7 +52,8 @@ pub extern "C" fn sklyapina_segment_cause(kind: u32, transport: u32, packet: &[u
     packet::segment_cause(kind, transport, packet, k)
 }
 
-// Where segment k of a packet stands in it. (The stretch itself, a reference, cannot cross to C.)
+// Where segment k of a packet stands in it, counted from its first byte; place and length 0 where it is refused. (The stretch itself, a
+// reference, cannot cross to C.)
 #[no_mangle]
 pub extern "C" fn sklyapina_segment(kind: u32, transport: u32, packet: &[u8], k: usize) -> Extent
     ensures { λ r. ⌜ PermitsSegmentExtent kind (packetBy transport (now (packet .entry))) k r ⌝ }
@@ -60,7 +61,8 @@ pub extern "C" fn sklyapina_segment(kind: u32, transport: u32, packet: &[u8], k:
     packet::segment_extent(kind, transport, packet, k)
 }
 
-// Takes a packet: delivers the frames that it completes, and holds what it begins; or refuses it, and then nothing has changed.
+// Takes a packet that came by this transport (1 IP, 2 UDP): delivers the frames that it completes, and holds what it begins; or refuses it,
+// and then nothing has changed.
 #[no_mangle]
 pub extern "C" fn sklyapina_receive(
     table: Table,
@@ -77,7 +79,8 @@ pub extern "C" fn sklyapina_receive(
     card::receive(table, transport, holding, packet, output, lengths)
 }
 
-// Writes the next packet of these frames for a flow of a session at the front of the output; or refuses, and then nothing has changed.
+// Writes the next packet of these frames for a flow of a session at the front of the output, as it goes over IP (over UDP 00 03 00 00 is
+// put before it); or refuses, and then nothing has changed.
 #[no_mangle]
 pub extern "C" fn sklyapina_send(
     session: u32,
