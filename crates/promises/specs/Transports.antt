@@ -17,7 +17,7 @@ use Rattle.card.specs.Receive.{received}
 abbrev pub movedOn : Extent → Extent
 movedOn e = record { start = udpLead + e .start; size = e .size }
 
--- one packet over UDP, by its first four bytes and the rest of them
+-- packet p, which came over UDP, is for every call the packet that these bytes are over IP
 pub record SameAs (p : Packet) (bytes : List ℕ) : Type 0 where
   pub same-received : (t : Table) (s : Slices) → received t p s ≡ received t (ip bytes) s
   pub same-check : (kind : ℕ) → check kind p ≡ check kind (ip bytes)
