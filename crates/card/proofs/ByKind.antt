@@ -1,4 +1,4 @@
--- What becomes of a packet, and what refuses it, by the kind of its session. Each law is said of the test first, and then of the terms.
+-- What becomes of a packet, and what refuses it, by the kind of its session and by whether it has a number. Each law is said of the test first, and then of the terms.
 use Prim.Native.Nat.{ℕ, _<_}
 use mathlib.Core.Path.{_≡_, refl, sym, _∙_}
 use mathlib.Core.Bool.{Bool, true, false, cond}
@@ -9,6 +9,7 @@ use Rattle.refusal.proofs.Laws.{numbered}
 use Rattle.octets.specs.Stretch.{part}
 use Rattle.octets.proofs.Stretches.{part-none}
 use Rattle.flow.specs.Flow.{flows}
+use Rattle.packet.specs.Header.{sSet}
 use Rattle.packet.specs.Segments.{segments}
 use Rattle.packet.specs.Psp.{segmentRefusals, pspRefusals}
 use Rattle.packet.specs.Dmpt.{mpegs, dmptRefusals}
@@ -16,7 +17,8 @@ use Rattle.packet.proofs.Passing.{psp-passed, psp-segments, dmpt-passed}
 use Rattle.table.specs.declared.Kind.{Kind}
 use Rattle.table.specs.declared.Terms.{Terms}
 use Rattle.table.specs.Rows.{isDmpt}
-use Rattle.join.specs.Join.{pspFate, dmptFate}
+use Rattle.join.specs.Join.{pspFate}
+use Rattle.pass.specs.Pass.{unnumberedFate, dmptFate}
 use Rattle.card.specs.Hear.{widthIn, flowIn, fateOf}
 use Rattle.card.specs.Receive.{packetRefusals}
 
@@ -24,9 +26,13 @@ pub fate-dmpt : (terms : Terms) (gap place held : ℕ) (hold sub : List ℕ) →
     fateOf terms gap (part hold place held) sub ≡ dmptFate [] (mpegs sub)
 fate-dmpt terms gap place held hold sub d none = rw (d, none, part-none hold place) refl
 
-pub fate-psp : (terms : Terms) (gap : ℕ) (held sub : List ℕ) → isDmpt (terms .kind) ≡ false →
+pub fate-psp : (terms : Terms) (gap : ℕ) (held sub : List ℕ) → isDmpt (terms .kind) ≡ false → sSet sub ≡ true →
     fateOf terms gap held sub ≡ pspFate (terms .longest) gap held (segments (widthIn (terms .kind)) sub)
-fate-psp terms gap held sub d = rw d refl
+fate-psp terms gap held sub d set = rw (d, set) refl
+
+pub fate-unnumbered : (terms : Terms) (gap : ℕ) (held sub : List ℕ) → isDmpt (terms .kind) ≡ false → sSet sub ≡ false →
+    fateOf terms gap held sub ≡ unnumberedFate (terms .longest) held (segments (widthIn (terms .kind)) sub)
+fate-unnumbered terms gap held sub d clear = rw (d, clear) refl
 
 pub refusals-dmpt : (terms : Terms) (sub : List ℕ) → isDmpt (terms .kind) ≡ true → first (packetRefusals terms sub) ≡ first (dmptRefusals sub)
 refusals-dmpt terms sub d = rw d refl

@@ -1,7 +1,8 @@
--- A data call leaves a table that is not broken unbroken; and a D-MPT packet without a number leaves the table as it was.
+-- A data call leaves a table that is not broken unbroken; and a packet without a number leaves its flow as it was, but holding nothing, so
+-- that one for D-MPT leaves the table as it was.
 use Prim.Native.Nat.{ℕ, zero, suc}
 use mathlib.Core.Path.{_≡_, refl, sym, ap, _∙_}
-use mathlib.Core.Bool.{Bool, true, false, not, true≢false}
+use mathlib.Core.Bool.{true, false, not}
 use mathlib.Core.Logic.{⊎-elim}
 use mathlib.Core.List.{List, []}
 use lib.Dec.{eqb}
@@ -9,28 +10,28 @@ use lib.ListN.{length, set}
 use lib.Seq.{set-getD}
 use borrow.Author.Tests.{not-true}
 use Rattle.octets.proofs.Counts.{true-or-false, least-passes}
-use Rattle.refusal.specs.Refusal.{first}
 use Rattle.refusal.proofs.Laws.{and-left}
 use Rattle.flow.specs.declared.Flow.{Flow}
 use Rattle.flow.specs.declared.Judged.{Judged}
-use Rattle.flow.specs.Flow.{flows, heardMark, judge}
+use Rattle.flow.specs.Flow.{flows, heardMark, judge, emptied}
 use Rattle.flow.proofs.Judging.{judge-sound}
 use Rattle.packet.specs.Header.{Packet, sSet, number, sub, sessionId}
-use Rattle.packet.specs.Dmpt.{dmptRefusals}
-use Rattle.packet.proofs.Passing.{psp-passed, dmpt-passed}
+use Rattle.packet.specs.Segments.{segments}
+use Rattle.packet.specs.Dmpt.{mpegs}
+use Rattle.packet.proofs.Passing.{dmpt-passed}
 use Rattle.table.specs.declared.Row.{Row}
 use Rattle.table.specs.declared.Table.{Table}
 use Rattle.table.specs.Rows.{rows, isClosed, isDmpt, noRow, termsAt, rowAt, openIn, withFlow}
 use Rattle.table.specs.Broken.{broken}
-use Rattle.table.proofs.Keeping.{accepted-keeps}
+use Rattle.table.proofs.Keeping.{accepted-keeps, emptied-flow-keeps}
 use Rattle.join.specs.Slices.{Slices}
-use Rattle.join.proofs.Carrying.{dmpt-header, dmpt-holds-none}
+use Rattle.pass.proofs.Carrying.{unnumbered-holds-none, dmpt-holds-none}
 use Rattle.card.specs.Hear.{widthIn, hear, recordAfter}
-use Rattle.card.specs.Receive.{rowOf, flowTo, flowOf, heardBy, carriedOut, refused, received}
-use Rattle.card.proofs.ByKind.{refusals-dmpt, refusals-psp}
+use Rattle.card.specs.Receive.{rowOf, flowTo, flowOf, heldBy, heardBy, carriedOut, refused, received}
+use Rattle.card.proofs.ByKind.{refusals-dmpt}
 use Rattle.card.proofs.Taking.{dmpt-bare}
 use Rattle.card.proofs.Accepted.{Accepted, accepted, flow-there, received-accepted, received-refused}
-use Rattle.card.proofs.Limits.{accepted-bounded, held-none}
+use Rattle.card.proofs.Limits.{accepted-bounded}
 
 module _ (t : Table) (p : Packet) (s : Slices) (a : Accepted t p s) where
   abbrev row : ℕ
@@ -55,28 +56,31 @@ module _ (t : Table) (p : Packet) (s : Slices) (a : Accepted t p s) where
 
   dmpt-after : isDmpt (termsAt t row .kind) ≡ true → heardBy t row after s .fate .held ≡ []
   unfolding hear
-  dmpt-after d =
-      let passed : first (dmptRefusals after) ≡ 0 = sym (refusals-dmpt (termsAt t row) after d) ∙ a .passed in
-      rw (d, held-none t p s a d) (dmpt-holds-none after (dmpt-header after passed))
+  dmpt-after d = rw d (dmpt-holds-none (heldBy t row after s) (mpegs after))
 
-  -- S is clear on D-MPT alone, and there the record stays as it was
-  clear-dmpt : sSet after ≡ false → isDmpt (termsAt t row .kind) ≡ true
-  clear-dmpt c = by-kind (isDmpt (termsAt t row .kind)) refl
-    where
-      by-kind : (d : Bool) → isDmpt (termsAt t row .kind) ≡ d → isDmpt (termsAt t row .kind) ≡ true
-      by-kind true e = e
-      by-kind false e =
-          absurd (true≢false (sym (psp-passed (widthIn (termsAt t row .kind)) after (sym (refusals-psp (termsAt t row) after e) ∙ a .passed) .counted) ∙ c))
+  -- with S clear nothing is held afterwards, whatever the kind, and the record is else as it was
+  clear-after : sSet after ≡ false → heardBy t row after s .fate .held ≡ []
+  unfolding hear
+  clear-after c =
+      ⊎-elim
+      (λ (d : isDmpt (termsAt t row .kind) ≡ true). dmpt-after d)
+      (λ (d : isDmpt (termsAt t row .kind) ≡ false).
+      rw (d, c)
+      (unnumbered-holds-none (termsAt t row .longest) (heldBy t row after s) (segments (widthIn (termsAt t row .kind)) after)))
+      (true-or-false (isDmpt (termsAt t row .kind)))
 
-  clear-record : sSet after ≡ false → recordAfter (heardBy t row after s) ≡ flow
+  clear-record : sSet after ≡ false → recordAfter (heardBy t row after s) ≡ emptied flow
   unfolding hear
   clear-record c =
-      let d = clear-dmpt c in
-      let none : length (heardBy t row after s .fate .held) ≡ flow .held =
-      ap (λ (l : List ℕ). length l) (dmpt-after d) ∙ sym (dmpt-bare t row (flowTo t row after) (a .whole) (a .found) (flow-there t p s a) d) in
+      let none : length (heardBy t row after s .fate .held) ≡ 0 = ap (λ (l : List ℕ). length l) (clear-after c) in
       rw (none, c) refl
 
-  -- so nothing of the table changes
+  -- so of D-MPT nothing of the table changes
+  same-flow : isDmpt (termsAt t row .kind) ≡ true → emptied flow ≡ flow
+  same-flow d =
+      ap (λ (n : ℕ). record { heard = flow .heard; expected = flow .expected; held = n })
+      (sym (dmpt-bare t row (flowTo t row after) (a .whole) (a .found) (flow-there t p s a) d))
+
   same-table : recordAfter (heardBy t row after s) ≡ flow → withFlow t row (flowTo t row after) (recordAfter (heardBy t row after s)) ≡ t
   same-table e =
       rw (e, set-getD (rowAt t row .flows) (flowTo t row after))
@@ -95,7 +99,8 @@ module _ (t : Table) (p : Packet) (s : Slices) (a : Accepted t p s) where
       (λ (set : sSet after ≡ true).
       accepted-keeps t row (flowTo t row after) (recordAfter (heardBy t row after s)) (a .whole) (a .found) row-open
       (set-heard set) (accepted-bounded t p s a .held-few) (λ d. (dmpt-flow d, ap (λ (l : List ℕ). length l) (dmpt-after d))))
-      (λ (clear : sSet after ≡ false). rw (same-table (clear-record clear)) (a .whole))
+      (λ (clear : sSet after ≡ false).
+      rw (clear-record clear) (emptied-flow-keeps t row (flowTo t row after) (a .whole) (a .found) (flow-there t p s a)))
       (true-or-false (sSet after))
 
 -- No data call breaks a table.
@@ -108,10 +113,19 @@ keeps-by (suc c) t p s e whole = rw (received-refused t p s c e) whole
 pub received-keeps : (t : Table) (p : Packet) (s : Slices) → broken t ≡ false → broken (received t p s .answer .table) ≡ false
 received-keeps t p s whole = keeps-by (received t p s .answer .code) t p s refl whole
 
--- A packet with S clear that is not refused leaves the table as it was: a fresh flow stays fresh.
-pub clear-leaves : (t : Table) (p : Packet) (s : Slices) → received t p s .answer .code ≡ 0 → sSet (sub p) ≡ false →
-    received t p s .answer .table ≡ t
+-- A packet with S clear that is not refused leaves its flow's record as it was, but holding nothing: a fresh flow stays fresh ..
+pub clear-empties : (t : Table) (p : Packet) (s : Slices) → received t p s .answer .code ≡ 0 → sSet (sub p) ≡ false →
+    received t p s .answer .table
+    ≡ withFlow t (rowOf t p) (flowTo t (rowOf t p) (sub p)) (emptied (flowOf t (rowOf t p) (sub p)))
 unfolding carriedOut
-clear-leaves t p s z clear =
+clear-empties t p s z clear =
     let a = accepted t p s z in
-    rw (received-accepted t p s z) (same-table t p s a (clear-record t p s a clear))
+    rw (received-accepted t p s z, clear-record t p s a clear) refl
+
+-- .. and for D-MPT the whole table as it was
+pub clear-leaves : (t : Table) (p : Packet) (s : Slices) → received t p s .answer .code ≡ 0 → sSet (sub p) ≡ false →
+    isDmpt (termsAt t (rowOf t p) .kind) ≡ true → received t p s .answer .table ≡ t
+unfolding carriedOut
+clear-leaves t p s z clear d =
+    let a = accepted t p s z in
+    rw (received-accepted t p s z) (same-table t p s a (clear-record t p s a clear ∙ same-flow t p s a d))

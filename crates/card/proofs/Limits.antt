@@ -9,8 +9,8 @@ use lib.ListN.{length}
 use Rattle.refusal.specs.Refusal.{first}
 use Rattle.octets.specs.Bytes.{byteAt}
 use Rattle.octets.specs.Stretch.{part, put, lengths}
-use Rattle.octets.specs.Count.{sumTo}
-use Rattle.octets.proofs.Counts.{sum-none}
+use Rattle.octets.specs.Count.{sumTo, upTo}
+use Rattle.octets.proofs.Counts.{sum-none, sum-same}
 use Rattle.octets.proofs.Stretches.{length-part, part-none, length-put, part-put, length-lengths, total, total-part, total-lengths}
 use Rattle.flow.specs.declared.Flow.{Flow}
 use Rattle.flow.specs.Flow.{longest, half, accepted}
@@ -18,18 +18,20 @@ use Rattle.flow.proofs.Judging.{judge-sound}
 use Rattle.packet.specs.Header.{Packet, idLength, sSet, number, segmentCount, longestPacket, sub}
 use Rattle.packet.specs.Segments.{lengthAt, segments}
 use Rattle.packet.specs.Psp.{pspRefusals}
-use Rattle.packet.specs.Dmpt.{carried, mpegCount, mpegs, dmptRefusals}
+use Rattle.packet.specs.Dmpt.{mpegLength, carried, mpegCount, mpegs, dmptRefusals}
 use Rattle.packet.proofs.Passing.{SegmentsPassed, psp-passed, dmpt-passed, mpegs-fill}
 use Rattle.table.specs.declared.Kind.{Kind}
 use Rattle.table.specs.declared.Table.{Table}
 use Rattle.table.specs.declared.Terms.{Terms}
 use Rattle.table.specs.Rows.{isDmpt, termsAt, rowAt}
-use Rattle.join.specs.Join.{Fate, pspFate, dmptFate}
+use Rattle.join.specs.Join.{Fate, pspFate}
 use Rattle.join.specs.Slices.{mostFrames, mostBytes, Slices}
 use Rattle.join.proofs.Account.{told}
 use Rattle.join.proofs.Walking.{so-far-accounts, all-few}
-use Rattle.join.proofs.Carrying as carrying
-use Rattle.card.specs.Hear.{widthIn, judgedBy, judgedOf, fateOf, hear}
+use Rattle.pass.specs.Pass.{passAll, unnumberedFate, dmptFate}
+use Rattle.pass.proofs.Carrying.{Load, Fitting, fate-accounts}
+use Rattle.pass.proofs.Loads.{dmpt-header, mpegLoad, mpegs-fit, segmentLoad, segments-fit}
+use Rattle.card.specs.Hear.{widthIn, judgedBy, judgedOf, segmentsFate, fateOf, hear}
 use Rattle.card.specs.Receive.{placeOf, rowOf, flowTo, flowOf, heldBy, heardBy, packetRefusals, carriedOut, refused, received}
 use Rattle.card.proofs.Taking.{large-enough, place-roomy, held-fits, dmpt-bare}
 use Rattle.card.proofs.Accepted as call
@@ -58,32 +60,54 @@ psp-bounded most width gap held sub p few small short =
       held-few = a .held-few;
     }
 
+pass-bounded : {X : Type 0} (most : ℕ) (l : Load X) → Fitting l →
+    Bounded most (length (l .held) + sumTo (l .size) (l .count)) (passAll (l .goes) (l .body) (l .held) (upTo (l .piece) (l .count)))
+unfolding passAll
+pass-bounded most l fitting =
+    let a = fate-accounts l fitting (l .count) (omega arith) in
+    record {
+      all = a .all;
+      bytes-few = fitting .bytes-few;
+      frames-few = omega (arith, a .frames-few, fitting .frames-few);
+      held-few = omega (arith, a .held-few);
+    }
+
+unnumbered-bounded : (most width : ℕ) (held sub : List ℕ) → SegmentsPassed width sub → length held ≤ longest →
+    idLength + length sub ≤ longestPacket →
+    Bounded most (length held + sumTo (lengthAt width sub) (segmentCount sub)) (unnumberedFate most held (segments width sub))
+unfolding unnumberedFate segments
+unnumbered-bounded most width held sub p few short =
+    pass-bounded most (segmentLoad most width held sub) (segments-fit most width held sub p few short)
+
 dmpt-bounded : (most : ℕ) (sub : List ℕ) → first (dmptRefusals sub) ≡ 0 → idLength + length sub ≤ longestPacket →
     Bounded most (0 + carried sub) (dmptFate [] (mpegs sub))
 unfolding dmptFate mpegs
 dmpt-bounded most sub z short =
-    let header = carrying.dmpt-header sub z in
-    let a = carrying.so-far-accounts sub header (mpegCount sub) (omega arith) in
+    let header = dmpt-header sub z in
+    let b = pass-bounded most (mpegLoad sub) (mpegs-fit sub header short) in
     let fills = mpegs-fill sub header (dmpt-passed sub z) in
     record {
-      all = omega (arith, a .all, fills);
+      all = omega (arith, b .all, fills, sum-same mpegLength (mpegCount sub));
       bytes-few = omega arith;
-      frames-few = omega (arith, a .frames-few);
-      held-few = omega (arith, a .held-few);
+      frames-few = b .frames-few;
+      held-few = b .held-few;
     }
 
-bounded-by : (d : Bool) (most width gap : ℕ) (held sub : List ℕ) → first (cond d (dmptRefusals sub) (pspRefusals width sub)) ≡ 0 →
+bounded-by : (d set : Bool) (most width gap : ℕ) (held sub : List ℕ) → first (cond d (dmptRefusals sub) (pspRefusals width sub)) ≡ 0 →
     length held ≤ most → most ≤ longest → (d ≡ true → held ≡ []) → idLength + length sub ≤ longestPacket →
     Bounded most (length held + cond d (carried sub) (sumTo (lengthAt width sub) (segmentCount sub)))
-    (cond d (dmptFate held (mpegs sub)) (pspFate most gap held (segments width sub)))
-bounded-by true most width gap held sub z few small bare short = rw (bare refl) (dmpt-bounded most sub z short)
-bounded-by false most width gap held sub z few small bare short = psp-bounded most width gap held sub (psp-passed width sub z .segments) few small short
+    (cond d (dmptFate held (mpegs sub)) (segmentsFate set most gap held (segments width sub)))
+bounded-by true set most width gap held sub z few small bare short = rw (bare refl) (dmpt-bounded most sub z short)
+bounded-by false true most width gap held sub z few small bare short =
+    psp-bounded most width gap held sub (psp-passed width sub z .segments) few small short
+bounded-by false false most width gap held sub z few small bare short =
+    unnumbered-bounded most width held sub (psp-passed width sub z .segments) (omega arith) short
 
 pub fate-bounded : (terms : Terms) (gap : ℕ) (held sub : List ℕ) → first (packetRefusals terms sub) ≡ 0 → length held ≤ terms .longest →
     terms .longest ≤ longest → (isDmpt (terms .kind) ≡ true → held ≡ []) → idLength + length sub ≤ longestPacket →
     Bounded (terms .longest) (length held + bodyBytes (terms .kind) sub) (fateOf terms gap held sub)
 fate-bounded terms gap held sub z few small bare short =
-    bounded-by (isDmpt (terms .kind)) (terms .longest) (widthIn (terms .kind)) gap held sub z few small bare short
+    bounded-by (isDmpt (terms .kind)) (sSet sub) (terms .longest) (widthIn (terms .kind)) gap held sub z few small bare short
 
 -- An accepted call: its flow's bytes and the packet's.
 module _ (t : Table) (p : Packet) (s : Slices) (a : call.Accepted t p s) where

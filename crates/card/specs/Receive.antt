@@ -1,4 +1,4 @@
--- The data call, whole (document 01, "The card in numbers", "Opening, closing, listening" and "Refusal numbers"; document 02, W1). It is
+-- The data call, whole (document 01, "The card in numbers", "Opening, closing, listening" and "Refusal numbers"; document 02, W1 and W2). It is
 -- given the table, a packet with its transport, and three slices: the holding slice, and two for what comes out, the frames back to back
 -- and their lengths. Either it is refused, with the first number of the order that applies, all counts 0 and everything as it was; or the
 -- packet's flow hears it, and that flow's record, its place and what is delivered are all that changes.
@@ -67,7 +67,8 @@ heldBy t r sub s = heldFor (rowAt t r) r sub s
 abbrev pub heardBy : Table → ℕ → List ℕ → Slices → Heard
 heardBy t r sub s = heardIn (rowAt t r) r sub s
 
--- The refusals, in order: 1, 13, 24 for the transport, 2, 3, 15, 4, 5, 6 to 11 by the kind of the session, 12.
+-- The refusals, in order: 1, 13, 24 for the transport, 2, 3, 15, 4, 5, then 6, 7 and 9 to 11 by the kind of the session, and 12 where the
+-- packet has a number.
 abbrev pub tooSmall : Slices → Bool
 tooSmall s = ltb (length (s .holding)) holdingSize || ltb (length (s .output)) mostBytes || ltb (length (s .lengths)) mostFrames
 

@@ -1,5 +1,6 @@
-// The data call: a packet comes in, whole frames go out, and what is left of a frame waits in its flow's place. Crate `join` has the join
-// rule of PSP and the rule of D-MPT; this one has the order of refusals, and what the answer and the next table are.
+// The data call: a packet comes in, whole frames go out, and what is left of a frame waits in its flow's place. Crate `join` has the rule of
+// PSP packets with a number, and `pass` that of packets whose pieces are never joined; this one has the order of refusals, and what the
+// answer and the next table are.
 //
 // All of a packet is judged before anything is written. Each segment entry is read when it is needed, so no copy of the segment table is
 // made, and the call keeps nothing from one packet to the next but what stands in the table and in the holding slice.
@@ -20,10 +21,11 @@ use flow::FLOWS;
 use flow::Flow;
 use flow::Judged;
 use join::Tally;
-use join::mpegs;
 use packet::dmpt;
 use packet::header;
 use packet::psp;
+use pass::mpegs;
+use pass::unnumbered;
 use table::ROWS;
 use table::Row;
 use table::Table;
@@ -316,7 +318,7 @@ pub fn place_of(row: usize, k: usize) -> usize
     (FLOWS * row + k) * Flow::LONGEST as usize
 }
 
-// Carries out what becomes of the bytes of an accepted packet.
+// Carries out what becomes of the bytes of an accepted packet, by the kind of its session and, for PSP, by whether it has a number.
 fn place_packet(
     terms: Terms,
     holding: &mut [u8],
@@ -337,6 +339,9 @@ fn place_packet(
     let kind = terms.kind;
     if table::is_dmpt(kind) {
         return mpegs::walk(output, lengths, sub);
+    }
+    if !header::s_set(sub) {
+        return unnumbered::walk(output, lengths, sub, psp::ENTRY_WIDTH, terms.longest, held);
     }
     join::walk(
         holding,

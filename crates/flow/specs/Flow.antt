@@ -54,9 +54,13 @@ judge f number =
     (cond (ltb (ahead number (f .expected)) half) (accepted f number (ahead number (f .expected)))
     (tooLate f))
 
--- a packet without a number (D-MPT with S clear): nothing to judge, gap 0, the record as it was
+-- a packet without a number, S clear: nothing to judge, gap 0, the record as it was
 abbrev pub unnumbered : Flow → Judged
 unnumbered f = record { flow = f; gap = 0; late = false }
+
+-- the record of a flow that holds nothing any more, and expects what it expected
+abbrev pub emptied : Flow → Flow
+emptied f = record { heard = f .heard; expected = f .expected; held = 0 }
 
 -- What the two calls on a record permit, whole.
 abbrev pub PermitsFresh : Flow → Type 0

@@ -16,7 +16,8 @@ use Rattle.table.specs.declared.Kind.the-variants as kind
 use Rattle.table.specs.Rows.{empty}
 use Rattle.table.specs.Broken.{broken}
 use Rattle.table.specs.Calls.{asking, opened, closed}
-use Rattle.join.specs.Join.{settledBy, settled, fateBy, fate, atGap, mpegFate, inOrder, pspFate, dmptFate}
+use Rattle.join.specs.Join.{settledBy, settled, fateBy, fate, atGap, inOrder, pspFate}
+use Rattle.pass.specs.Pass.{passAll, dmptFate}
 use Rattle.card.specs.Hear.{hear}
 use Rattle.card.specs.Receive.{carriedOut, refused, receivedBy, received}
 use Rattle.card.specs.History.{Call, opens, closes, answer, after, afterAll, emptyCard, hands}
@@ -80,7 +81,7 @@ closes-counted : (countedBy bytesTaken empty and-closes ≡ 394)
     × (countedBy bytesDelivered empty and-closes ≡ 203)
     × (countedBy bytesDropped empty and-closes ≡ 191)
     × (heldInAll (tableAfterAll empty and-closes) ≡ 0)
-unfolding part rest put joined lengths cutBy any least sumTo upTo ahead next bodyAt segmentAt segments wanted mpegAt mpegs broken opened closed settledBy settled fateBy fate atGap mpegFate inOrder pspFate dmptFate hear carriedOut refused receivedBy received answer after countedBy tableAfterAll
+unfolding part rest put joined lengths cutBy any least sumTo upTo ahead next bodyAt segmentAt segments wanted mpegAt mpegs broken opened closed settledBy settled fateBy fate atGap inOrder pspFate passAll dmptFate hear carriedOut refused receivedBy received answer after countedBy tableAfterAll
 closes-counted = (refl, refl, refl, refl)
 
 never-broken-instance : (broken (tableAfterAll empty slices-change) ≡ false) × (length (tableAfterAll empty slices-change .rows) ≡ 6)

@@ -16,10 +16,12 @@ use Rattle.table.specs.declared.Kind.the-variants as kind
 use Rattle.table.specs.Rows.{isDmpt, termsAt, closedRow}
 use Rattle.table.specs.Broken.{broken}
 use Rattle.table.specs.Calls.{asking, opened}
-use Rattle.join.specs.Join.{settledBy, settled, fateBy, fate, atGap, mpegFate, inOrder, pspFate, dmptFate}
+use Rattle.join.specs.Join.{settledBy, settled, fateBy, fate, atGap, inOrder, pspFate}
+use Rattle.pass.specs.Pass.{passAll, dmptFate}
 use Rattle.card.specs.Hear.{hear}
 use Rattle.card.specs.Receive.{rowOf, carriedOut, refused, receivedBy, received}
 use Rattle.card.specs.History.{Card, Call, opens, hands, framesOf, answer, after, afterAll, emptyCard}
+use Rattle.promises.specs.Words.{chosen}
 use Rattle.promises.specs.Dmpt.{carrying, nulls}
 use Rattle.promises.specs.Marked.{hand}
 
@@ -73,9 +75,9 @@ pub dmpt-instance : ((answer dmpt-card (hand dmpt-packet)) .code ≡ 0)
     × (after dmpt-card (hand dmpt-packet) ≡ dmpt-told)
     × (framesOf (answer dmpt-card (hand-udp dmpt-packet)) ≡ mpeg-some ∷ [])
     × (after dmpt-card (hand-udp dmpt-packet) ≡ dmpt-told)
-unfolding part rest put joined lengths cutBy any least sumTo upTo ahead next bodyAt segmentAt segments wanted mpegAt mpegs broken opened settledBy settled fateBy fate atGap mpegFate inOrder pspFate dmptFate hear carriedOut refused receivedBy received answer after afterAll
+unfolding part rest put joined lengths cutBy any least sumTo upTo ahead next bodyAt segmentAt segments wanted mpegAt mpegs broken opened settledBy settled fateBy fate atGap inOrder pspFate passAll dmptFate hear carriedOut refused receivedBy received answer after afterAll
 dmpt-instance = (refl, refl, refl, refl, refl, refl, refl)
 
 pub dmpt-carries : (carrying (mpegs (sub (ip dmpt-packet))) ≡ mpeg-some ∷ []) × (nulls (mpegs (sub (ip dmpt-packet))) ≡ mpeg-null ∷ [])
-unfolding part rest upTo mpegAt mpegs carrying nulls
+unfolding part rest upTo mpegAt mpegs chosen
 dmpt-carries = (refl, refl)

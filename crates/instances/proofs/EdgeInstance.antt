@@ -18,7 +18,8 @@ use Rattle.table.specs.Rows.{find}
 use Rattle.table.specs.Broken.{broken}
 use Rattle.table.specs.Calls.{asking, opened, closed}
 use Rattle.join.specs.Slices.{mostBytes, mostFrames}
-use Rattle.join.specs.Join.{settledBy, settled, fateBy, fate, atGap, mpegFate, inOrder, pspFate, dmptFate}
+use Rattle.join.specs.Join.{settledBy, settled, fateBy, fate, atGap, inOrder, pspFate}
+use Rattle.pass.specs.Pass.{passAll, dmptFate}
 use Rattle.card.specs.Hear.{hear}
 use Rattle.card.specs.Receive.{carriedOut, refused, receivedBy, received}
 use Rattle.card.specs.History.{Card, Call, opens, closes, hands, answer, after, afterAll}
@@ -141,7 +142,7 @@ too-late = record { code = 12; frames = 0; bytes = 0; dropped = 0; gap = 0; outp
 
 dmpt-numbered : told 0x103 (after (cardAfter (replicate 49152 0) []) (opens (asking kind.Dmpt 0x103))) (hand (numbered 0x34) ∷ hand (numbered 0x39) ∷ hand (numbered 0x39) ∷ [])
     ≡ one-frame 188 0 0 mpeg ∷ one-frame 188 0 4 mpeg ∷ too-late ∷ []
-unfolding part rest put joined lengths any least sumTo upTo ahead next mpegAt mpegs broken opened mpegFate inOrder dmptFate hear carriedOut refused receivedBy received answer after afterAll told
+unfolding part rest put joined lengths any least sumTo upTo ahead next mpegAt mpegs broken opened inOrder passAll dmptFate hear carriedOut refused receivedBy received answer after afterAll told
 dmpt-numbered = refl
 
 -- A frame of 25 bytes with the limit 16, for a session whose ID has four unlike bytes: 10, 10 and 5 bytes, B on the first and E on the last.

@@ -65,6 +65,7 @@ keeps =
     record {
       sizes = ((omega arith, omega arith), ((omega arith, omega arith), ((omega arith, omega arith), tt)));
       passing = (refl, (refl, (refl, tt)));
+      counted = (refl, (refl, (refl, tt)));
       addressed = ((refl, refl), ((refl, refl), ((refl, refl), tt)));
       numbered = counts;
       in-order = refl;

@@ -2,7 +2,7 @@
 -- before and what came. All bounds of the data call follow from it.
 use Prim.Native.Nat.{ℕ, zero, suc, _+_, _<_, _≤_}
 use mathlib.Core.Path.{_≡_, refl}
-use mathlib.Core.Bool.{Bool, true, false, cond}
+use mathlib.Core.Bool.{Bool, true, false}
 use mathlib.Core.List.{List, [], _∷_, _++_, append-nil}
 use native.Mathlib.Omega.{arith}
 use lib.Dec.{eqb, ltb}
@@ -12,8 +12,7 @@ use Rattle.octets.specs.Stretch.{joined}
 use Rattle.octets.specs.Count.{sumTo, upTo}
 use Rattle.octets.proofs.Stretches.{joined-append}
 use Rattle.packet.specs.Segments.{Segment}
-use Rattle.packet.specs.Dmpt.{pid, nullPid}
-use Rattle.join.specs.Join.{Fate, delivering, dropping, andThen, settledBy, settled, fateBy, fate, atGap, mpegFate, inOrder}
+use Rattle.join.specs.Join.{Fate, andThen, settledBy, settled, fateBy, fate, atGap, inOrder}
 
 -- how many bytes a fate tells of
 abbrev pub told : Fate → ℕ
@@ -58,15 +57,6 @@ pub gap-accounts : (longest gap : ℕ) (held : List ℕ) → length held ≤ lon
 unfolding atGap joined
 gap-accounts longest zero held h = record { all = omega arith; frames-few = omega arith; held-few = h }
 gap-accounts longest (suc gap) held h = record { all = omega arith; frames-few = omega arith; held-few = omega arith }
-
-mpeg-by : (none : Bool) (mpeg : List ℕ) → Accounts (length mpeg) 1 0 (cond none (dropping mpeg) (delivering mpeg))
-unfolding joined
-mpeg-by true mpeg = record { all = omega arith; frames-few = omega arith; held-few = omega arith }
-mpeg-by false mpeg = record { all = rw (append-nil mpeg) (omega arith); frames-few = omega arith; held-few = omega arith }
-
-pub mpeg-accounts : (held mpeg : List ℕ) → Accounts (length mpeg) 1 0 (mpegFate held mpeg)
-unfolding mpegFate
-mpeg-accounts held mpeg = mpeg-by (eqb (pid mpeg) nullPid) mpeg
 
 -- a segment with E leaves nothing held
 settled-ends : (long : Bool) (bytes : List ℕ) → settledBy long true bytes .held ≡ []

@@ -5,7 +5,7 @@ use mathlib.Core.Bool.{Bool, true, false}
 use mathlib.Core.List.{List, [], _∷_, _++_}
 use lib.ListN.{replicate}
 use Rattle.packet.specs.Segments.{Segment}
-use Rattle.join.specs.Join.{delivering, dropping, keeping, settledBy, settled, fateBy, fate, atGap, mpegFate, inOrder, pspFate}
+use Rattle.join.specs.Join.{delivering, dropping, keeping, settledBy, settled, fateBy, fate, atGap, inOrder, pspFate}
 
 -- The join rule at its limits: 2,047, 2,048 and 2,049 joined bytes, with E and without.
 abbrev segment : Bool → Bool → ℕ → Segment
@@ -49,11 +49,3 @@ in-order : (pspFate 2048 0 (1 ∷ 2 ∷ []) (segment false true 3 ∷ []) ≡ de
     × (pspFate 4 0 [] (frame (1 ∷ 2 ∷ 3 ∷ 4 ∷ 5 ∷ []) ∷ []) ≡ dropping (1 ∷ 2 ∷ 3 ∷ 4 ∷ 5 ∷ []))
 unfolding pspFate inOrder atGap fate fateBy settled settledBy
 in-order = (refl, refl, refl, refl, refl, refl, refl, refl)
-
--- MPEG packets are told apart by all 13 bits of the PID, and by no other
-mpegs-by-pid : (mpegFate [] (0x47 ∷ 0x1F ∷ 0xFF ∷ []) ≡ dropping (0x47 ∷ 0x1F ∷ 0xFF ∷ []))
-    × (mpegFate [] (0x47 ∷ 0xFF ∷ 0xFF ∷ []) ≡ dropping (0x47 ∷ 0xFF ∷ 0xFF ∷ []))
-    × (mpegFate [] (0x47 ∷ 0x0F ∷ 0xFF ∷ []) ≡ delivering (0x47 ∷ 0x0F ∷ 0xFF ∷ []))
-    × (mpegFate [] (0x47 ∷ 0x1F ∷ 0x7F ∷ []) ≡ delivering (0x47 ∷ 0x1F ∷ 0x7F ∷ []))
-unfolding mpegFate
-mpegs-by-pid = (refl, refl, refl, refl)

@@ -2,5 +2,4 @@ pub mod Placing
 pub mod Account
 pub mod Running
 pub mod Walking
-pub mod Carrying
 pub mod Examples

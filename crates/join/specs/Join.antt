@@ -1,15 +1,15 @@
--- What becomes of bytes (document 01, "Opening, closing, listening"): the join rule of PSP, and the rule for the MPEG packets of D-MPT.
--- Each rule says of every byte that it is given, held or new, whether it is delivered in a frame, dropped, or held from now on. Applied
--- to one packet after another this tells each body byte's fate over any history of calls, and no count is found by taking one from another.
+-- What becomes of bytes (document 01, "Opening, closing, listening"), and the join rule of PSP packets with a number. (The rule for packets
+-- whose pieces are never joined, D-MPT's and those without a number, is crate `pass`'s.) Each rule says of every byte that it is given,
+-- held or new, whether it is delivered in a frame, dropped, or held from now on. Applied to one packet after another this tells each body
+-- byte's fate over any history of calls, and no count is found by taking one from another.
 --
 -- The longest frame is a parameter, `longest`: 2,048 bytes for every session so far.
 use Prim.Native.Nat.{ℕ, zero, suc}
-use mathlib.Core.Bool.{Bool, true, false, cond}
+use mathlib.Core.Bool.{Bool, true, false}
 use mathlib.Core.List.{List, [], _∷_, _++_}
 use lib.Dec.{eqb, ltb}
 use lib.ListN.{length}
 use Rattle.packet.specs.Segments.{Segment}
-use Rattle.packet.specs.Dmpt.{pid, nullPid}
 
 -- what became of some bytes: the frames delivered, the bytes dropped, and the bytes held now
 pub record Fate : Type 0 where
@@ -55,20 +55,11 @@ unfoldable pub atGap : ℕ → List ℕ → Fate
 atGap zero held = keeping held
 atGap (suc gap) held = dropping held
 
--- One MPEG packet: dropped where its PID is 0x1FFF, and else delivered. A D-MPT flow never holds anything (a table in which one does is
--- broken, 13), so there is nothing here that could join it.
-unfoldable pub mpegFate : List ℕ → List ℕ → Fate
-mpegFate held mpeg = cond (eqb (pid mpeg) nullPid) (dropping mpeg) (delivering mpeg)
-
--- Segments, or MPEG packets, in order: what became of the bytes so far, then of each further piece, by what is held when it comes.
+-- Segments, or other pieces of a packet, in order: what became of the bytes so far, then of each further piece, by what is held when it comes.
 unfoldable pub inOrder : {X : Type 0} → (List ℕ → X → Fate) → Fate → List X → Fate
 inOrder rule so-far [] = so-far
 inOrder rule so-far (x ∷ more) = inOrder rule (andThen so-far (rule (so-far .held) x)) more
 
--- an accepted PSP packet: the gap first, then its segments in order
+-- an accepted PSP packet with a number: the gap first, then its segments in order
 unfoldable pub pspFate : ℕ → ℕ → List ℕ → List Segment → Fate
 pspFate longest gap held segs = inOrder (fate longest) (atGap gap held) segs
-
--- an accepted D-MPT packet: its MPEG packets in order
-unfoldable pub dmptFate : List ℕ → List (List ℕ) → Fate
-dmptFate held packets = inOrder mpegFate (keeping held) packets

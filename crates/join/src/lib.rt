@@ -1,11 +1,8 @@
-// The join rule (document 01, "Opening, closing, listening"): what becomes of the segments of an accepted PSP packet. Frames go to the
-// output, their lengths to a slice of their own, and what is left without its end to the start of the flow's place. `mpegs` has the rule
-// of D-MPT.
+// The join rule (document 01, "Opening, closing, listening"): what becomes of the segments of an accepted PSP packet with a number. Frames
+// go to the output, their lengths to a slice of their own, and what is left without its end to the start of the flow's place.
 //
 // The place is written at most once a call, by the last segment: every segment before it has E, or the packet would have been refused
 // (11). A frame that is delivered or dropped leaves the holding slice as it was.
-pub mod mpegs;
-
 ghost use mathlib.Core.Bool.{true, cond};
 ghost use mathlib.Core.List.{_++_};
 ghost use mathlib.Core.Path.{_≡_};

@@ -68,20 +68,21 @@ ids-judged : (checkIp 1 (set (set A 2 0) 3 0) ≡ 4) × (checkIp 1 (set (set (se
 unfolding check checkRefusals rest wanted bodyAt any sumTo
 ids-judged = (refl, refl, refl, refl, refl)
 
--- V set; H 01, 10, 11; flow 3, 4 and 7; S clear; X and the reserved bit, which nobody reads; 6 before 7 before 8
+-- V set; H 01, 10, 11; flow 3, 4 and 7; S clear, which is no fault (W2); X and the reserved bit, which nobody reads; 6 before 7
 header-judged : (checkIp 1 (set A 4 0xC1) ≡ 6) × (checkIp 1 (set A 4 0x51) ≡ 6) × (checkIp 1 (set A 4 0x61) ≡ 6)
     × (checkIp 1 (set A 4 0x71) ≡ 6) × (checkIp 1 (set A 4 0x43) ≡ 0) × (checkIp 1 (set A 4 0x44) ≡ 7) × (checkIp 1 (set A 4 0x47) ≡ 7)
-    × (checkIp 1 (set A 4 0x01) ≡ 8) × (checkIp 1 (set (set A 4 0x49) 5 0x82) ≡ 0) × (checkIp 1 (set A 4 0x97) ≡ 6)
+    × (checkIp 1 (set A 4 0x01) ≡ 0) × (checkIp 1 (set (set A 4 0x49) 5 0x82) ≡ 0) × (checkIp 1 (set A 4 0x97) ≡ 6)
     × (checkIp 1 (set A 4 0x07) ≡ 7)
 unfolding check checkRefusals rest wanted bodyAt any sumTo
 header-judged = (refl, refl, refl, refl, refl, refl, refl, refl, refl, refl, refl)
 
--- M10: count 0, with the reserved bit too. M11: the last byte cut; one byte too many; entries cut, whole and in the middle; 8 before 9
+-- M10: count 0, with the reserved bit too. M11: the last byte cut; one byte too many; entries cut, whole and in the middle; all of
+-- it with S clear too
 segments-judged : (checkIp 1 (set A 5 0) ≡ 9) × (checkIp 1 (set A 5 0x80) ≡ 9) × (checkIp 1 (take 19 A) ≡ 10)
     × (checkIp 1 (A ++ (0 ∷ [])) ≡ 10) × (checkIp 1 (take 10 A) ≡ 10) × (checkIp 1 (take 11 A) ≡ 10)
-    × (checkIp 1 (set (set A 4 0x01) 5 0) ≡ 8)
+    × (checkIp 1 (set (set A 4 0x01) 5 0) ≡ 9) × (checkIp 1 (set (take 19 A) 4 0x01) ≡ 10)
 unfolding check checkRefusals rest wanted bodyAt any sumTo
-segments-judged = (refl, refl, refl, refl, refl, refl, refl)
+segments-judged = (refl, refl, refl, refl, refl, refl, refl, refl)
 
 -- An empty segment, where the lengths add up and where they do not. B may be missing on the first only, E on the last only.
 marks-judged : (checkIp 1 (set (set A 9 8) 11 0) ≡ 11) × (checkIp 1 (set A 11 0) ≡ 10) × (checkIp 1 B ≡ 0)
@@ -206,8 +207,8 @@ unfolding check checkRefusals rest wanted bodyAt any sumTo
 longest-passes = (refl, refl, refl)
 
 -- A packet over IP given as one over UDP has no version 3 where it should be. One over UDP given as one over IP has the ID 0x30000, and its
--- own ID is read as the header: here S is clear in it.
-mistaken : (checkUdp 1 A ≡ 15) × (checkIp 1 (udpFront ++ A) ≡ 8) × (sessionId (ip (udpFront ++ A)) ≡ 0x30000)
+-- own ID is read as the header: here it announces no segment.
+mistaken : (checkUdp 1 A ≡ 15) × (checkIp 1 (udpFront ++ A) ≡ 9) × (sessionId (ip (udpFront ++ A)) ≡ 0x30000)
 unfolding check checkRefusals rest wanted bodyAt any sumTo
 mistaken = (refl, refl, refl)
 

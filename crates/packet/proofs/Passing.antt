@@ -16,7 +16,7 @@ use Rattle.octets.specs.Count.{any}
 use Rattle.octets.proofs.Counts.{none-at, or-false-left, or-false-right, sum-within}
 use Rattle.octets.proofs.Stretches.{length-rest}
 use Rattle.flow.specs.Flow.{topFlow}
-use Rattle.packet.specs.Header.{Packet, transportUnknown, lead, notVersion3, idLength, sessionId, sub, headerLength, sSet}
+use Rattle.packet.specs.Header.{Packet, transportUnknown, lead, notVersion3, idLength, sessionId, sub, headerLength}
 use Rattle.packet.specs.Header.{flowId}
 use Rattle.packet.specs.Header.{segmentCount, notPlain, shortestPacket, longestPacket, beforeSession}
 use Rattle.packet.specs.Segments.{entryWidth, entryAt, beginsIn, endsIn, lengthIn, lengthAt, bodyAt}
@@ -73,7 +73,6 @@ segments-passed width sub z = segments-of width sub (none-applies (segmentRefusa
 pub record PspPassed (width : ℕ) (sub : List ℕ) : Type 0 where
   pub plain : notPlain sub ≡ false
   pub in-row : flowId sub ≤ topFlow
-  pub counted : sSet sub ≡ true
   pub segments : SegmentsPassed width sub
 
 psp-of : (width : ℕ) (sub : List ℕ) → NoneApplies (pspRefusals width sub) → PspPassed width sub
@@ -81,8 +80,7 @@ psp-of width sub n =
     record {
       plain = n .0;
       in-row = ltb-false _ _ (n .1 .0);
-      counted = not-false _ (n .1 .1 .0);
-      segments = segments-of width sub (n .1 .1 .1);
+      segments = segments-of width sub (n .1 .1);
     }
 
 pub psp-passed : (width : ℕ) (sub : List ℕ) → first (pspRefusals width sub) ≡ 0 → PspPassed width sub
@@ -90,7 +88,7 @@ psp-passed width sub z = psp-of width sub (none-applies (pspRefusals width sub) 
 
 -- 9 to 11 are the last stretch of the order, so what passes it passes them
 pub psp-segments : (width : ℕ) (sub : List ℕ) → first (pspRefusals width sub) ≡ 0 → first (segmentRefusals width sub) ≡ 0
-psp-segments width sub z = none-first (segmentRefusals width sub) (none-applies (pspRefusals width sub) refl z .1 .1 .1)
+psp-segments width sub z = none-first (segmentRefusals width sub) (none-applies (pspRefusals width sub) refl z .1 .1)
 
 module _ (width : ℕ) (sub : List ℕ) (p : SegmentsPassed width sub) where
   -- the entries lie in the packet

@@ -1,5 +1,5 @@
 -- D-MPT packets (document 01, "Packet layout"; DEPI I05, section 8.2): behind the sub-layer header come whole MPEG packets of 188
--- bytes, each starting 0x47; byte 1 of `sub` is read by nobody. And refusals 6 to 11 of such a packet (8 is PSP's alone).
+-- bytes, each starting 0x47; byte 1 of `sub` is read by nobody. And refusals 6, 7 and 9 to 11 of such a packet.
 use Prim.Native.Nat.{ℕ, _+_, _-_, _*_, _/_, _%_}
 use mathlib.Core.Bool.{not}
 use mathlib.Core.List.{List, [], _∷_}

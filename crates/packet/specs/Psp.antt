@@ -1,5 +1,5 @@
--- Refusals 6 to 11 of a PSP packet (document 01, "Refusal numbers"). Only the first segment of a packet may lack B, and only the last
--- may lack E.
+-- Refusals 6, 7 and 9 to 11 of a PSP packet (document 01, "Refusal numbers"; document 02, W2: a packet without a number is no bad one, so
+-- 8 is given no more). Only the first segment of a packet may lack B, and only the last may lack E.
 use Prim.Native.Nat.{ℕ, _+_}
 use mathlib.Core.Bool.{Bool, not, _&&_, _||_}
 use mathlib.Core.List.{List, [], _∷_}
@@ -8,7 +8,7 @@ use lib.ListN.{length}
 use Rattle.refusal.specs.Refusal.{Refusal, _when_}
 use Rattle.octets.specs.Count.{any}
 use Rattle.flow.specs.Flow.{topFlow}
-use Rattle.packet.specs.Header.{flowId, sSet, segmentCount, notPlain}
+use Rattle.packet.specs.Header.{flowId, segmentCount, notPlain}
 use Rattle.packet.specs.Segments.{entryAt, beginsIn, endsIn, lengthIn, bodyAt}
 
 -- The length that header, entries and bodies add up to: where one more body would start. Of a cut segment table the header and the
@@ -35,5 +35,4 @@ abbrev pub pspRefusals : ℕ → List ℕ → List Refusal
 pspRefusals width sub =
     6 when notPlain sub
     ∷ 7 when ltb topFlow (flowId sub)
-    ∷ 8 when not (sSet sub)
     ∷ segmentRefusals width sub

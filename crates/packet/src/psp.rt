@@ -141,7 +141,7 @@ fn refuse_segments(sub: &[u8], width: usize) -> u32
     refusal::NONE
 }
 
-// Refusals 6 to 11 of a PSP packet, or 0.
+// Refusals 6, 7 and 9 to 11 of a PSP packet, or 0. Whether it has a number is not asked here (document 02, W2).
 pub fn refuse(sub: &[u8], width: usize) -> u32
     requires { ⌜ (2 ≤ width) × (width ≤ 4) × (headerLength ≤ length (now sub)) ⌝ }
     ensures { λ r. ⌜ r ≡ first (pspRefusals width (now (sub .entry))) ⌝ }
@@ -151,9 +151,6 @@ pub fn refuse(sub: &[u8], width: usize) -> u32
     }
     if Flow::TOP < header::flow_id(sub) {
         return refusal::FLOW_OUTSIDE;
-    }
-    if !header::s_set(sub) {
-        return refusal::NO_NUMBER;
     }
     refuse_segments(sub, width)
 }

@@ -16,7 +16,7 @@ use Rattle.flow.specs.Numbers.{next, numberAt}
 use Rattle.flow.specs.Flow.{fresh, judge, heardMark}
 use Rattle.flow.proofs.Numbers.{numberAt-next}
 use Rattle.flow.proofs.Judging.{judge-forward, judge-behind}
-use Rattle.packet.specs.Header.{Packet, ip, sub}
+use Rattle.packet.specs.Header.{Packet, ip, sub, sSet}
 use Rattle.packet.specs.Segments.{Segment, entryWidth}
 use Rattle.card.specs.Hear.{judgedOf}
 use Rattle.sender.specs.Rules.{segmentsOf, packetAt}
@@ -87,7 +87,8 @@ ahead packets n x held xs from there =
 pub next-place : (start x : ℕ) → next (numberAt start x) ≡ numberAt start (suc x)
 next-place start x = numberAt-next start x ∙ ap (numberAt start) (add-one x)
 
-module _ (start : ℕ) (packets : List Packet) (by-place : (f : Flow) (x : ℕ) → x < length packets → judgedOf f (sub (packetAt packets x)) ≡ judge f (numberAt start x)) where
+module _ (start : ℕ) (packets : List Packet) (counts : (x : ℕ) → x < length packets → sSet (sub (packetAt packets x)) ≡ true)
+    (by-place : (f : Flow) (x : ℕ) → x < length packets → judgedOf f (sub (packetAt packets x)) ≡ judge f (numberAt start x)) where
   abbrev those : List ℕ → List Packet
   those xs = map (packetAt packets) xs
 
@@ -109,7 +110,7 @@ module _ (start : ℕ) (packets : List Packet) (by-place : (f : Flow) (x : ℕ) 
           let l : expected ≤ x = leb-true expected x e in
           let m : max expected (suc x) ≡ suc x = omega arith in
           let rest : List ℕ = left (behind (x - expected) held) (segmentsOf entryWidth (packetAt packets x)) in
-          frames-heard f held (packetAt packets x) (those xs) (numberAt start x) (x - expected)
+          frames-heard f held (packetAt packets x) (those xs) (numberAt start x) (x - expected) (counts x (sent .0))
           (by-place f x (sent .0) ∙ judge-forward f start expected hears waits x l (within .0))
           ∙ ap (λ r. given (behind (x - expected) held) (segmentsOf entryWidth (packetAt packets x)) ++ r)
           (on (listening (numberAt start x) rest) rest refl (next-place start x) (rw m at (within .2)))
@@ -127,7 +128,7 @@ module _ (start : ℕ) (packets : List Packet) (by-place : (f : Flow) (x : ℕ) 
   window-along [] sent window = sym (none-from (inTime []) 0 [] packets in-time-none)
   window-along (x ∷ xs) sent window =
       let rest : List ℕ = left [] (segmentsOf entryWidth (packetAt packets x)) in
-      frames-heard fresh [] (packetAt packets x) (those xs) (numberAt start x) 0 (by-place fresh x (sent .0))
+      frames-heard fresh [] (packetAt packets x) (those xs) (numberAt start x) 0 (counts x (sent .0)) (by-place fresh x (sent .0))
       ∙ ap (λ r. given [] (segmentsOf entryWidth (packetAt packets x)) ++ r)
       (arrivals-along (listening (numberAt start x) rest) (suc x) rest xs refl (next-place start x) (sent .1) window)
       ∙ sym (rw (behind-nothing (x - 0)) at (ahead packets 0 x [] xs (omega arith) (sent .0)))

@@ -11,11 +11,13 @@ use borrow.Author.Tests.{eqb-true}
 use Rattle.octets.specs.Stretch.{joined}
 use Rattle.flow.specs.declared.Flow.{Flow}
 use Rattle.packet.specs.Segments.{Segment, segments}
-use Rattle.packet.specs.Dmpt.{pid, nullPid, mpegs}
+use Rattle.packet.specs.Header.{sSet}
+use Rattle.packet.specs.Dmpt.{mpegs}
 use Rattle.table.specs.declared.Terms.{Terms}
 use Rattle.table.specs.Rows.{isDmpt}
-use Rattle.join.specs.Join.{Fate, delivering, dropping, keeping, andThen, settledBy, settled, fateBy, fate, atGap, mpegFate, inOrder, pspFate, dmptFate}
-use Rattle.card.specs.Hear.{widthIn, judgedOf, hear}
+use Rattle.join.specs.Join.{Fate, dropping, andThen, settledBy, settled, fateBy, fate, atGap, inOrder, pspFate}
+use Rattle.pass.specs.Pass.{passedOn, passAll, wholeWithin, bodyOf, unnumberedFate, carriesSome, asItIs, dmptFate}
+use Rattle.card.specs.Hear.{widthIn, judgedOf, segmentsFate, hear}
 use Rattle.promises.specs.Account.{packetBody}
 use Rattle.promises.proofs.Measures.{Measure, measure-joined}
 
@@ -58,11 +60,10 @@ module _ (m : List ℕ → ℕ) (is : Measure m) where
   gap-tells zero held = omega (arith, is .none)
   gap-tells (suc gap) held = omega (arith, is .none)
 
-  mpeg-by : (none : Bool) (mpeg : List ℕ) →
-      (tells m (cond none (dropping mpeg) (delivering mpeg)) ≡ m mpeg) × (cond none (dropping mpeg) (delivering mpeg) .held ≡ [])
+  passed-tells : (goes : Bool) (bytes : List ℕ) → (tells m (passedOn goes bytes) ≡ m bytes) × (passedOn goes bytes .held ≡ [])
   unfolding joined
-  mpeg-by true mpeg = (omega (arith, is .none), refl)
-  mpeg-by false mpeg = (rw (append-nil mpeg) (omega (arith, is .none)), refl)
+  passed-tells true bytes = (rw (append-nil bytes) (omega (arith, is .none)), refl)
+  passed-tells false bytes = (omega (arith, is .none), refl)
 
   -- Pieces in order. `Fine` is what the rule asks of what is held, and leaves so.
   module _ {X : Type 0} (rule : List ℕ → X → Fate) (body : X → List ℕ) (Fine : List ℕ → Type 0)
@@ -89,26 +90,41 @@ module _ (m : List ℕ → ℕ) (is : Measure m) where
       in-order-tells (fate most) (λ (s : Segment). s .body) (λ held. Unit {0}) (λ held s fine. (fate-tells most held s, tt)) (atGap gap held) segs tt
       ∙ ap (λ (n : ℕ). n + m (joined (map (λ (s : Segment). s .body) segs))) (gap-tells gap held)
 
-  -- a D-MPT flow holds nothing, before or after
-  dmpt-tells : (packets : List (List ℕ)) → tells m (dmptFate [] packets) ≡ m [] + m (joined packets)
-  unfolding dmptFate mpegFate joined
-  dmpt-tells packets =
-      let all = in-order-tells mpegFate (λ (x : List ℕ). x) (λ held. held ≡ []) each (keeping []) packets refl in
-      omega (arith, all, is .none, ap (λ (l : List (List ℕ)). m (joined l)) (map-id packets))
-    where
-      each : (held mpeg : List ℕ) → held ≡ [] → (tells m (mpegFate held mpeg) ≡ m held + m mpeg) × (mpegFate held mpeg .held ≡ [])
-      each held mpeg none =
-          let one = mpeg-by (eqb (pid mpeg) nullPid) mpeg in
-          (omega (arith, one .0, is .none, ap m none), one .1)
+  -- pieces that are passed on or dropped: nothing is held behind what was held, and that is dropped
+  module _ {X : Type 0} (goes : X → Bool) (body : X → List ℕ) where
+    pass-tells : (held : List ℕ) (xs : List X) → tells m (passAll goes body held xs) ≡ m held + m (joined (map body xs))
+    unfolding passAll joined
+    pass-tells held xs =
+        let all = in-order-tells (λ before x. passedOn (goes x) (body x)) body (λ before. before ≡ []) each (dropping held) xs refl in
+        omega (arith, all, is .none)
+      where
+        each : (before : List ℕ) (x : X) → before ≡ [] →
+            (tells m (passedOn (goes x) (body x)) ≡ m before + m (body x)) × (passedOn (goes x) (body x) .held ≡ [])
+        each before x none =
+            let one = passed-tells (goes x) (body x) in
+            (omega (arith, one .0, is .none, ap m none), one .1)
+
+  dmpt-tells : (held : List ℕ) (packets : List (List ℕ)) → tells m (dmptFate held packets) ≡ m held + m (joined packets)
+  unfolding dmptFate
+  dmpt-tells held packets =
+      pass-tells carriesSome asItIs held packets ∙ ap (λ (l : List (List ℕ)). m held + m (joined l)) (map-id packets)
+
+  -- a PSP packet, with a number and without
+  segments-tell : (set : Bool) (most gap : ℕ) (held : List ℕ) (segs : List Segment) →
+      tells m (segmentsFate set most gap held segs) ≡ m held + m (joined (map (λ (s : Segment). s .body) segs))
+  unfolding unnumberedFate
+  segments-tell true most gap held segs = psp-tells most gap held segs
+  segments-tell false most gap held segs = pass-tells (wholeWithin most) bodyOf held segs
 
   -- The packet.
-  told-by : (d : Bool) (most width gap : ℕ) (held sub : List ℕ) → (d ≡ true → held ≡ []) →
-      tells m (cond d (dmptFate held (mpegs sub)) (pspFate most gap held (segments width sub)))
+  told-by : (d set : Bool) (most width gap : ℕ) (held sub : List ℕ) →
+      tells m (cond d (dmptFate held (mpegs sub)) (segmentsFate set most gap held (segments width sub)))
       ≡ m held + m (cond d (joined (mpegs sub)) (joined (map (λ (s : Segment). s .body) (segments width sub))))
-  told-by true most width gap held sub bare = rw (bare refl) (dmpt-tells (mpegs sub))
-  told-by false most width gap held sub bare = psp-tells most gap held (segments width sub)
+  told-by true set most width gap held sub = dmpt-tells held (mpegs sub)
+  told-by false set most width gap held sub = segments-tell set most gap held (segments width sub)
 
-  pub heard-tells : (terms : Terms) (f : Flow) (held sub : List ℕ) → (isDmpt (terms .kind) ≡ true → held ≡ []) →
+  pub heard-tells : (terms : Terms) (f : Flow) (held sub : List ℕ) →
       tells m (hear terms f held sub .fate) ≡ m held + m (packetBody (terms .kind) sub)
   unfolding hear
-  heard-tells terms f held sub bare = told-by (isDmpt (terms .kind)) (terms .longest) (widthIn (terms .kind)) (judgedOf f sub .gap) held sub bare
+  heard-tells terms f held sub =
+      told-by (isDmpt (terms .kind)) (sSet sub) (terms .longest) (widthIn (terms .kind)) (judgedOf f sub .gap) held sub

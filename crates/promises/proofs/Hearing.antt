@@ -9,7 +9,7 @@ use Rattle.flow.specs.declared.Flow.{Flow}
 use Rattle.flow.specs.declared.Judged.{Judged}
 use Rattle.flow.specs.Numbers.{next}
 use Rattle.flow.specs.Flow.{heardMark, accepted, tooLate}
-use Rattle.packet.specs.Header.{Packet, sub}
+use Rattle.packet.specs.Header.{Packet, sub, sSet}
 use Rattle.packet.specs.Segments.{entryWidth}
 use Rattle.card.specs.Hear.{Heard, judgedOf, fateOf, hear, recordAfter}
 use Rattle.sender.specs.Rules.{segmentsOf}
@@ -41,10 +41,12 @@ module _ {A : Type 0} (w : Reading A) (f : Flow) (held : List ℕ) (packet : Pac
   unfolding readAlone hear
   alone-heard n gap e = ap by e
 
--- the frames of one that is accepted
-pub frames-heard : (f : Flow) (held : List ℕ) (packet : Packet) (more : List Packet) (n gap : ℕ) → judgedOf f (sub packet) ≡ accepted f n gap →
+-- the frames of one that has a number and is accepted
+pub frames-heard : (f : Flow) (held : List ℕ) (packet : Packet) (more : List Packet) (n gap : ℕ) → sSet (sub packet) ≡ true →
+    judgedOf f (sub packet) ≡ accepted f n gap →
     framesAlone f held (packet ∷ more)
     ≡ given (behind gap held) (segmentsOf entryWidth packet)
     ++ framesAlone (listening n (left (behind gap held) (segmentsOf entryWidth packet))) (left (behind gap held) (segmentsOf entryWidth packet)) more
-frames-heard f held packet more n gap e =
-    alone-heard framesRead f held packet more n gap e ∙ rw (packet-gives gap held (segmentsOf entryWidth packet), packet-leaves gap held (segmentsOf entryWidth packet))
+frames-heard f held packet more n gap set e =
+    alone-heard framesRead f held packet more n gap e
+    ∙ rw (set, packet-gives gap held (segmentsOf entryWidth packet), packet-leaves gap held (segmentsOf entryWidth packet))

@@ -13,7 +13,7 @@ use Rattle.packet.specs.Header.{Packet}
 use Rattle.sender.specs.Rules.{Pieces, inTurn, begunFrame, Line, packetAt, KeepsRules}
 use Rattle.promises.specs.Arrivals.{Window, Whole, Kept, inTime, placesFrom}
 use Rattle.promises.proofs.Alone.{framesAlone}
-use Rattle.promises.proofs.Passed.{all-some, pieces-filled, judged-by-place}
+use Rattle.promises.proofs.Passed.{all-some, pieces-filled, counts-at, judged-by-place}
 use Rattle.promises.proofs.Walk.{walk, survivors}
 use Rattle.promises.proofs.Frames.{frames-survive}
 use Rattle.promises.proofs.Arrivals.{window-along}
@@ -28,7 +28,8 @@ module _ (line : Line) (frames : List Pieces) (unfinished : Pieces) (packets : L
   flow-survivors : Each (λ x. x < length packets) arrivals → Window arrivals →
       framesAlone fresh [] (map (packetAt packets) arrivals) ≡ survivors (inTime arrivals) frames (placesFrom 0 packets)
   flow-survivors sent window =
-      window-along (line .start) packets (judged-by-place line frames unfinished packets rules) arrivals sent window
+      window-along (line .start) packets (counts-at line frames unfinished packets rules) (judged-by-place line frames unfinished packets rules)
+      arrivals sent window
       ∙ along-segments (inTime arrivals) 0 [] packets (all-some packets (rules .passing))
       ∙ ap (walk (inTime arrivals) [] (placesFrom 0 packets)) (rules .in-order)
       ∙ frames-survive (inTime arrivals) frames unfinished (placesFrom 0 packets) (rules .sizes)

@@ -109,7 +109,6 @@ module _ {m : List ℕ → ℕ} {kept : List ℕ → ℕ → Flow → ℕ} (w : 
     told : tells m (heard .fate) ≡ m held + m (packetBody (termsAt (c .table) row .kind) behind)
     told =
         heard-tells m (w .measure) (termsAt (c .table) row) (flowOf (c .table) row behind) held behind
-        (held-none (c .table) packet slices passed)
 
     pub packet-balances : m (packetBody (termsAt (c .table) row .kind) behind) + keptInAll kept c
         ≡ m (joined (framesIn outcome)) + m (heard .fate .dropped) + keptInAll kept afterwards

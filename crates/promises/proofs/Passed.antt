@@ -1,5 +1,5 @@
--- What a sender's packets have because each passes the PSP check: some segment, none of them empty, and a number that counts. So no piece
--- of a frame is empty either.
+-- What a sender's packets have because each passes the PSP check, some segment and none of them empty, and because each has a number. So no
+-- piece of a frame is empty either, and each packet is judged by the number of its place.
 use Prim.Native.Nat.{ℕ, zero, suc, _≤_, _<_}
 use mathlib.Core.Path.{_≡_, refl, ap, _∙_, subst}
 use mathlib.Core.Bool.{Bool, true, false}
@@ -13,7 +13,7 @@ use Rattle.octets.proofs.Stretches.{length-part}
 use Rattle.flow.specs.declared.Flow.{Flow}
 use Rattle.flow.specs.Numbers.{numberAt}
 use Rattle.flow.specs.Flow.{judge}
-use Rattle.packet.specs.Header.{Packet, ip, sub, segmentCount, number}
+use Rattle.packet.specs.Header.{Packet, ip, sub, sSet, segmentCount, number}
 use Rattle.packet.specs.Segments.{Segment, entryWidth, lengthAt, bodyAt, segmentAt, segments}
 use Rattle.packet.specs.Check.{kindPsp, check}
 use Rattle.packet.proofs.Passing.{PspPassed, check-passed, body-inside, body-some}
@@ -48,9 +48,6 @@ module _ (packet : Packet) (passes : check kindPsp packet ≡ 0) where
   unfolding segments
   segments-filled = each-up-to HasBytes (segmentAt entryWidth (sub packet)) (segmentCount (sub packet)) body-filled
 
-  pub its-number-counts : (f : Flow) → judgedOf f (sub packet) ≡ judge f (number (sub packet))
-  its-number-counts f = ap (λ (s : Bool). judgedBy s f (number (sub packet))) (passed .counted)
-
 all-filled : (packets : List Packet) → Each (λ p. check kindPsp p ≡ 0) packets → Each HasBytes (allSegments entryWidth packets)
 unfolding allSegments
 all-filled [] passing = tt
@@ -82,8 +79,11 @@ module _ (line : Line) (frames : List Pieces) (unfinished : Pieces) (packets : L
       (each-front HasBytes (inTurn frames) (begunFrame true unfinished)
       (subst (Each HasBytes) (rules .in-order) (all-filled packets (rules .passing))))
 
-  -- the packet at place x is judged by the number of its place
+  -- the packet at place x has a number, and is judged by that of its place
+  pub counts-at : (x : ℕ) → x < length packets → sSet (sub (packetAt packets x)) ≡ true
+  counts-at x l = each-at (λ p. sSet (sub p) ≡ true) packets x (ip []) (rules .counted) l
+
   pub judged-by-place : (f : Flow) (x : ℕ) → x < length packets → judgedOf f (sub (packetAt packets x)) ≡ judge f (numberAt (line .start) x)
   judged-by-place f x l =
-      its-number-counts (packetAt packets x) (each-at (λ p. check kindPsp p ≡ 0) packets x (ip []) (rules .passing) l) f
+      ap (λ (s : Bool). judgedBy s f (number (sub (packetAt packets x)))) (counts-at x l)
       ∙ ap (judge f) (rules .numbered x l)

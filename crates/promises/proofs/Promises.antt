@@ -7,6 +7,7 @@ use Rattle.promises.specs.Demand.{Demand3, FewerLost}
 use Rattle.promises.specs.Gaps.{GapsAreTold}
 use Rattle.promises.specs.Account.{ByteAccount, EachByte}
 use Rattle.promises.specs.Dmpt.{DmptDelivers}
+use Rattle.promises.specs.Unnumbered.{UnnumberedDelivers, NeverGiven}
 use Rattle.promises.specs.Isolation.{Isolation, OpenByIds}
 use Rattle.promises.specs.Limits.{WithinLimits, NeverBroken}
 use Rattle.promises.specs.Refusals.{RefusalsChangeNothing}
@@ -26,6 +27,7 @@ use Rattle.promises.proofs.Gaps as gaps
 use Rattle.promises.proofs.Bytes as bytes
 use Rattle.promises.proofs.Account as account
 use Rattle.promises.proofs.Mpegs as mpegs
+use Rattle.promises.proofs.Unnumbered as unnumbered
 use Rattle.promises.proofs.Isolation as isolated
 use Rattle.promises.proofs.Limits as limits
 use Rattle.promises.proofs.Refusals as refusals
@@ -48,7 +50,7 @@ gaps-are-told = gaps.gaps-are-told
 pub in-time-is-meant : InTimeIsMeant
 in-time-is-meant = in-time.in-time-is-meant
 
--- The byte account: specs/Account.antt. What D-MPT delivers: specs/Dmpt.antt.
+-- The byte account: specs/Account.antt. What D-MPT delivers: specs/Dmpt.antt. What a PSP packet without a number does: specs/Unnumbered.antt.
 pub byte-account : ByteAccount
 byte-account = account.byte-account
 
@@ -57,6 +59,12 @@ each-byte = bytes.each-byte
 
 pub dmpt-delivers : DmptDelivers
 dmpt-delivers = mpegs.dmpt-delivers
+
+pub unnumbered-delivers : UnnumberedDelivers
+unnumbered-delivers = unnumbered.unnumbered-delivers
+
+pub never-given : NeverGiven
+never-given = unnumbered.never-given
 
 -- Session against session: specs/Isolation.antt.
 pub isolation : Isolation

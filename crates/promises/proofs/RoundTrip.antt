@@ -13,7 +13,7 @@ use borrow.Author.Tests.{eqb-true, ltb-true, ltb-false}
 use Rattle.octets.proofs.Elements.{each-both}
 use Rattle.flow.specs.Numbers.{modulus, numberAt}
 use Rattle.flow.proofs.Numbers.{next-below, numberAt-first, numberAt-from-next, numberAt-on}
-use Rattle.packet.specs.Header.{Packet, ip, sub, number}
+use Rattle.packet.specs.Header.{Packet, ip, sub, sSet, number}
 use Rattle.packet.specs.Segments.{entryWidth}
 use Rattle.packet.specs.Check.{kindPsp, check}
 use Rattle.sender.specs.declared.Position.{Position}
@@ -81,6 +81,7 @@ both-keep line frames more unfinished packets behind first then =
     record {
       sizes = each-both FrameSized frames more (first .sizes) (then .sizes);
       passing = each-both (λ p. check kindPsp p ≡ 0) packets behind (first .passing) (then .passing);
+      counted = each-both (λ p. sSet (sub p) ≡ true) packets behind (first .counted) (then .counted);
       addressed = each-both (Addressed line) packets behind (first .addressed) (then .addressed);
       numbered = numbered-both (line .start) packets behind (first .numbered) (then .numbered);
       in-order =

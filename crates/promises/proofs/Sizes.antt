@@ -1,30 +1,32 @@
--- Every frame that an accepted packet has delivered has 1 to 2,048 bytes: the join rule drops what is longer, no segment of an accepted packet is
+-- Every frame that an accepted packet has delivered has 1 to 2,048 bytes: both rules of PSP drop what is longer, no segment of an accepted packet is
 -- empty, and an MPEG packet has 188 bytes. The flow, what it holds and its table may be any.
 use Prim.Native.Nat.{ℕ, zero, suc, _≤_, _<_}
 use mathlib.Core.Path.{_≡_, refl}
-use mathlib.Core.Bool.{Bool, true, false, cond}
+use mathlib.Core.Bool.{Bool, true, false, cond, _&&_}
 use mathlib.Core.List.{List, _++_}
 use native.Mathlib.Omega.{arith}
-use lib.Dec.{eqb, ltb}
+use lib.Dec.{eqb, ltb, leb}
 use lib.ListN.{length, length-append}
-use borrow.Author.Tests.{ltb-false}
+use borrow.Author.Tests.{ltb-false, leb-true}
 use Rattle.refusal.specs.Refusal.{first}
+use Rattle.refusal.proofs.Laws.{and-right}
 use Rattle.octets.specs.Each.{Each}
 use Rattle.octets.specs.Count.{upTo}
 use Rattle.octets.proofs.Stretches.{length-part}
 use Rattle.octets.proofs.Elements.{each-both}
 use Rattle.flow.specs.Flow.{longest}
 use Rattle.packet.specs.Segments.{Segment, lengthAt, bodyAt, segmentAt, segments}
-use Rattle.packet.specs.Header.{segmentCount}
+use Rattle.packet.specs.Header.{sSet, segmentCount}
 use Rattle.packet.specs.Psp.{pspRefusals}
-use Rattle.packet.specs.Dmpt.{mpegLength, mpegCount, mpegAt, mpegs, pid, nullPid, dmptRefusals}
+use Rattle.packet.specs.Dmpt.{mpegCount, mpegAt, mpegs, dmptRefusals}
 use Rattle.packet.proofs.Passing.{SegmentsPassed, psp-passed, body-inside, body-some, mpeg-inside}
 use Rattle.table.specs.declared.Terms.{Terms}
 use Rattle.table.specs.Rows.{isDmpt}
-use Rattle.join.specs.Join.{Fate, delivering, dropping, keeping, settledBy, settled, fateBy, fate, atGap, mpegFate, inOrder, pspFate, dmptFate}
+use Rattle.join.specs.Join.{Fate, dropping, settledBy, settled, fateBy, fate, atGap, inOrder, pspFate}
 use Rattle.join.proofs.Account.{in-order-next}
-use Rattle.join.proofs.Carrying.{mpeg-length, dmpt-header}
-use Rattle.card.specs.Hear.{widthIn, fateOf}
+use Rattle.pass.specs.Pass.{passedOn, passAll, wholeWithin, bodyOf, unnumberedFate, carriesSome, asItIs, dmptFate}
+use Rattle.pass.proofs.Loads.{mpeg-length, dmpt-header}
+use Rattle.card.specs.Hear.{widthIn, segmentsFate, fateOf}
 use Rattle.card.specs.Receive.{packetRefusals}
 
 -- 1 to 2,048 bytes
@@ -61,13 +63,9 @@ unfolding atGap
 gap-sized zero held = tt
 gap-sized (suc gap) held = tt
 
-mpeg-by : (none : Bool) (mpeg : List ℕ) → length mpeg ≡ mpegLength → FramesSized (cond none (dropping mpeg) (delivering mpeg))
-mpeg-by true mpeg whole = tt
-mpeg-by false mpeg whole = ((omega arith, omega arith), tt)
-
-pub mpeg-sized : (held mpeg : List ℕ) → length mpeg ≡ mpegLength → FramesSized (mpegFate held mpeg)
-unfolding mpegFate
-mpeg-sized held mpeg whole = mpeg-by (eqb (pid mpeg) nullPid) mpeg whole
+pub passed-sized : (goes : Bool) (bytes : List ℕ) → (goes ≡ true → Sized bytes) → FramesSized (passedOn goes bytes)
+passed-sized true bytes sized = (sized refl, tt)
+passed-sized false bytes sized = tt
 
 -- Pieces in order: where each rule's frames are, all are.
 module _ {X : Type 0} (rule : List ℕ → X → Fate) (f : Fate) (piece : ℕ → X) (n : ℕ) (begin : FramesSized f)
@@ -97,18 +95,41 @@ psp-sized most width gap held sub small p =
     (λ before k there. fate-sized most small before (segmentAt width sub k) (body-sized width sub p k there))
     (segmentCount sub) (omega arith)
 
+-- where each piece that goes on is, all are
+pass-sized : {X : Type 0} (goes : X → Bool) (body : X → List ℕ) (held : List ℕ) (piece : ℕ → X) (n : ℕ) →
+    ((k : ℕ) → k < n → goes (piece k) ≡ true → Sized (body (piece k))) → FramesSized (passAll goes body held (upTo piece n))
+unfolding passAll
+pass-sized goes body held piece n each =
+    in-order-sized (λ before x. passedOn (goes x) (body x)) (dropping held) piece n tt
+    (λ before k there. passed-sized (goes (piece k)) (body (piece k)) (each k there)) n (omega arith)
+
+-- a whole frame is not too long
+whole-short : (most : ℕ) (s : Segment) → wholeWithin most s ≡ true → length (s .body) ≤ most
+whole-short most s goes = leb-true (length (s .body)) most (and-right (s .begins && s .ends) (leb (length (s .body)) most) goes)
+
+unnumbered-sized : (most width : ℕ) (held sub : List ℕ) → most ≤ longest → SegmentsPassed width sub →
+    FramesSized (unnumberedFate most held (segments width sub))
+unfolding unnumberedFate segments
+unnumbered-sized most width held sub small p =
+    pass-sized (wholeWithin most) bodyOf held (segmentAt width sub) (segmentCount sub)
+    (λ k there goes. (body-sized width sub p k there, omega (arith, whole-short most (segmentAt width sub k) goes)))
+
 dmpt-sized : (held sub : List ℕ) → first (dmptRefusals sub) ≡ 0 → FramesSized (dmptFate held (mpegs sub))
 unfolding dmptFate mpegs
 dmpt-sized held sub z =
-    in-order-sized mpegFate (keeping held) (mpegAt sub) (mpegCount sub) tt
-    (λ before k there. mpeg-sized before (mpegAt sub k) (mpeg-length sub k (mpeg-inside sub k (dmpt-header sub z) there)))
-    (mpegCount sub) (omega arith)
+    pass-sized carriesSome asItIs held (mpegAt sub) (mpegCount sub)
+    (λ k there goes.
+    let whole = mpeg-length sub k (mpeg-inside sub k (dmpt-header sub z) there) in
+    (omega arith, omega arith))
 
-sized-by : (d : Bool) (most width gap : ℕ) (held sub : List ℕ) → most ≤ longest → first (cond d (dmptRefusals sub) (pspRefusals width sub)) ≡ 0 →
-    FramesSized (cond d (dmptFate held (mpegs sub)) (pspFate most gap held (segments width sub)))
-sized-by true most width gap held sub small z = dmpt-sized held sub z
-sized-by false most width gap held sub small z = psp-sized most width gap held sub small (psp-passed width sub z .segments)
+sized-by : (d set : Bool) (most width gap : ℕ) (held sub : List ℕ) → most ≤ longest →
+    first (cond d (dmptRefusals sub) (pspRefusals width sub)) ≡ 0 →
+    FramesSized (cond d (dmptFate held (mpegs sub)) (segmentsFate set most gap held (segments width sub)))
+sized-by true set most width gap held sub small z = dmpt-sized held sub z
+sized-by false true most width gap held sub small z = psp-sized most width gap held sub small (psp-passed width sub z .segments)
+sized-by false false most width gap held sub small z = unnumbered-sized most width held sub small (psp-passed width sub z .segments)
 
 pub packet-sized : (terms : Terms) (gap : ℕ) (held sub : List ℕ) → terms .longest ≤ longest → first (packetRefusals terms sub) ≡ 0 →
     FramesSized (fateOf terms gap held sub)
-packet-sized terms gap held sub small z = sized-by (isDmpt (terms .kind)) (terms .longest) (widthIn (terms .kind)) gap held sub small z
+packet-sized terms gap held sub small z =
+    sized-by (isDmpt (terms .kind)) (sSet sub) (terms .longest) (widthIn (terms .kind)) gap held sub small z

@@ -2,8 +2,8 @@
 -- is 0x1FFF, which are dropped. It holds nothing, so the holding slice stays as it was; and with S clear its number is nobody's, so the table stays too.
 use Prim.Native.Nat.{ℕ, _*_}
 use mathlib.Core.Path.{_≡_}
-use mathlib.Core.Bool.{true, false, cond}
-use mathlib.Core.List.{List, [], _∷_}
+use mathlib.Core.Bool.{Bool, true, false, not}
+use mathlib.Core.List.{List}
 use lib.Dec.{eqb}
 use lib.ListN.{length}
 use Rattle.packet.specs.Header.{sub, sSet}
@@ -11,15 +11,17 @@ use Rattle.packet.specs.Dmpt.{mpegLength, mpegs, pid, nullPid}
 use Rattle.table.specs.Rows.{isDmpt, rowAt, termsAt}
 use Rattle.card.specs.Receive.{rowOf}
 use Rattle.card.specs.History.{Card, Arrival, hands, framesOf, answer, after}
+use Rattle.promises.specs.Words.{chosen}
 
 -- those that carry something, and those that carry nothing
-unfoldable pub carrying : List (List ℕ) → List (List ℕ)
-carrying [] = []
-carrying (m ∷ more) = cond (eqb (pid m) nullPid) (carrying more) (m ∷ carrying more)
+abbrev pub isNull : List ℕ → Bool
+isNull mpeg = eqb (pid mpeg) nullPid
 
-unfoldable pub nulls : List (List ℕ) → List (List ℕ)
-nulls [] = []
-nulls (m ∷ more) = cond (eqb (pid m) nullPid) (m ∷ nulls more) (nulls more)
+abbrev pub carrying : List (List ℕ) → List (List ℕ)
+carrying mpegs = chosen (λ m. not (isNull m)) mpegs
+
+abbrev pub nulls : List (List ℕ) → List (List ℕ)
+nulls mpegs = chosen isNull mpegs
 
 -- `dmpt-delivers`, for every table and slices
 pub record Delivers (c : Card) (a : Arrival) : Type 0 where

@@ -4,6 +4,7 @@ pub mod Demand
 pub mod Gaps
 pub mod Account
 pub mod Dmpt
+pub mod Unnumbered
 pub mod Isolation
 pub mod Limits
 pub mod Refusals

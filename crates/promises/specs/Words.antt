@@ -62,6 +62,11 @@ abbrev pub LongEnough : Kind → ℕ → ℕ → List ℕ → List Call → Type
 LongEnough kind session flow holding calls =
     (holdingSize ≤ length holding) × Each (λ x. handsTo kind session flow x ≡ true → Room x) calls
 
+-- those that pass a test, in order
+unfoldable pub chosen : {X : Type 0} → (X → Bool) → List X → List X
+chosen test [] = []
+chosen test (x ∷ more) = cond (test x) (x ∷ chosen test more) (chosen test more)
+
 -- none of the calls closes the session
 abbrev pub StaysOpen : ℕ → List Call → Type 0
 StaysOpen session calls = Each (λ x. closesIt session x ≡ false) calls

@@ -1,12 +1,12 @@
 -- What an order of refusals says: it gives 0 exactly where no condition holds; and of an order in two stretches, one behind the other,
 -- the second decides exactly where the first refuses nothing. A function that judges stretch after stretch is right by these laws.
 use Prim.Native.Nat.{ℕ}
-use mathlib.Core.Path.{_≡_, refl, sym, _∙_}
+use mathlib.Core.Path.{_≡_, refl, sym, ap, _∙_}
 use mathlib.Core.Bool.{Bool, true, false, cond, not, _&&_, true≢false}
 use mathlib.Core.List.{List, [], _∷_, _++_}
 use lib.Dec.{eqb}
 use borrow.Author.Tests.{eq-eqb}
-use Rattle.refusal.specs.Refusal.{Refusal, first}
+use Rattle.refusal.specs.Refusal.{Refusal, _when_, first}
 
 -- No line gives 0, which would say that nothing was refused. Of a list that is written out this is `refl`.
 abbrev pub numbered : List Refusal → Bool
@@ -71,3 +71,29 @@ none-first (r ∷ xs) n = simp (n .0) (none-first xs (n .1))
 pub none-apart : (xs ys : List Refusal) → NoneApplies (xs ++ ys) → NoneApplies xs × NoneApplies ys
 none-apart [] ys n = (tt, n)
 none-apart (r ∷ xs) ys n = let both = none-apart xs ys (n .1) in ((n .0, both .0), both .1)
+
+-- A number that no line gives is not given. Of a list that is written out `lacks n` is `refl`.
+abbrev pub lacks : ℕ → List Refusal → Bool
+lacks n [] = true
+lacks n (r ∷ rest) = not (eqb (r .number) n) && lacks n rest
+
+pub lacks-both : (n : ℕ) (xs ys : List Refusal) → lacks n xs ≡ true → lacks n ys ≡ true → lacks n (xs ++ ys) ≡ true
+lacks-both n [] ys l m = m
+lacks-both n (r ∷ xs) ys l m =
+    let head = not (eqb (r .number) n) in
+    rw (and-left head (lacks n xs) l) (lacks-both n xs ys (and-right head (lacks n xs) l) m)
+
+pub first-lacks : (n : ℕ) (xs : List Refusal) → eqb 0 n ≡ false → lacks n xs ≡ true → first xs ≡ n → ⊥
+first-lacks n [] some l e = true≢false (sym (eq-eqb 0 n e) ∙ some)
+first-lacks n (r ∷ xs) some l e =
+    let head = not (eqb (r .number) n) in
+    by (r .applies) (and-left head (lacks n xs) l) (first-lacks n xs some (and-right head (lacks n xs) l)) e
+  where
+    by : (b : Bool) → not (eqb (r .number) n) ≡ true → (first xs ≡ n → ⊥) → cond b (r .number) (first xs) ≡ n → ⊥
+    by true other later z = let same : not (eqb (r .number) n) ≡ false = simp (eq-eqb (r .number) n z) in true≢false (sym other ∙ same)
+    by false other later z = later z
+
+-- A last line whose condition does not hold says nothing.
+pub first-idle : (n : ℕ) (xs : List Refusal) → first (xs ++ (n when false ∷ [])) ≡ first xs
+first-idle n [] = refl
+first-idle n (r ∷ xs) = ap (λ (behind : ℕ). cond (r .applies) (r .number) behind) (first-idle n xs)

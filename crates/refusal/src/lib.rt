@@ -21,8 +21,7 @@ pub const HEADER_NOT_PLAIN: u32 = 6;
 
 pub const FLOW_OUTSIDE: u32 = 7;
 
-pub const NO_NUMBER: u32 = 8;
-
+// 8 is given no more: document 01 refused a PSP packet with S clear, and document 02, W2, takes it.
 pub const NOTHING_CARRIED: u32 = 9;
 
 pub const LENGTHS_DISAGREE: u32 = 10;

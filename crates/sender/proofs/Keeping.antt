@@ -13,7 +13,7 @@ use Rattle.refusal.specs.Refusal.{first}
 use Rattle.octets.specs.Stretch.{joined}
 use Rattle.octets.proofs.Stretches.{part-put}
 use Rattle.flow.specs.Numbers.{next}
-use Rattle.packet.specs.Header.{ip, sub, sessionId, flowId, headerLength, number as number-in}
+use Rattle.packet.specs.Header.{ip, sub, sSet, sessionId, flowId, headerLength, number as number-in}
 use Rattle.packet.specs.Segments.{Segment, entryWidth, segments}
 use Rattle.packet.specs.Check.{kindPsp, check}
 use Rattle.sender.specs.Cut.{indexOf, goesOn, leastRoom}
@@ -22,7 +22,7 @@ use Rattle.sender.specs.Send.{mostSegments, Asked, SendOutcome, sendRefu
 use Rattle.sender.specs.Carried.{Carried}
 use Rattle.sender.specs.Series.{packetLeft}
 use Rattle.sender.specs.Rules.{segmentsOf, Addressed}
-use Rattle.sender.proofs.Reading.{nth, Sendable, length-packet, written-passes, written-session, written-flow, written-number, written-segments}
+use Rattle.sender.proofs.Reading.{nth, Sendable, length-packet, written-passes, written-counts, written-session, written-flow, written-number, written-segments}
 use Rattle.sender.proofs.Positions.{Framed, framed, Inside, inside, carried-place}
 use Rattle.sender.proofs.Cutting.{Cutting, cutting-start, cut-keeps, cut-counts, cut-some}
 use Rattle.sender.proofs.Judging.{has-session, has-flow}
@@ -123,6 +123,9 @@ module _ (a : Asked) (z : first (sendRefusals a) ≡ 0) where
 
     pub sent-passes : check kindPsp (ip (packetLeft (sent a))) ≡ 0
     sent-passes = ap (λ (p : List ℕ). check kindPsp (ip p)) sent-packet ∙ written-passes (a .session) (a .flow) (a .number) ((cutFor a) .segments) sendable
+
+    pub sent-counts : sSet (sub (ip (packetLeft (sent a)))) ≡ true
+    sent-counts = ap (λ (p : List ℕ). sSet (sub (ip p))) sent-packet ∙ written-counts (a .session) (a .flow) (a .number) ((cutFor a) .segments) sendable
 
     pub sent-addressed : Addressed (record { session = a .session; flow = a .flow; start = a .number }) (ip (packetLeft (sent a)))
     sent-addressed = (

@@ -243,13 +243,10 @@ module _ (session flow number : ℕ) (segs : List Segment) where
       (
         rw reads-flow (le-ltb topFlow flow (w .to-flow)),
         (
-          rw numbered refl,
+          rw reads-count (ne-eqb count 0 (λ z. omega (arith, w .some))),
           (
-            rw reads-count (ne-eqb count 0 (λ z. omega (arith, w .some))),
-            (
-              rw (eq-eqb (wanted entryWidth behindId) (length behindId) reads-wanted) refl,
-              (rw reads-count (none-all (badAt entryWidth behindId) count good-entry), tt),
-            ),
+            rw (eq-eqb (wanted entryWidth behindId) (length behindId) reads-wanted) refl,
+            (rw reads-count (none-all (badAt entryWidth behindId) count good-entry), tt),
           ),
         ),
       ),
@@ -269,6 +266,10 @@ module _ (session flow number : ℕ) (segs : List Segment) where
         first-passed (beforeSession (ip (packetOf session flow number segs))) (pspRefusals entryWidth (sub (ip (packetOf session flow number segs)))) refl (none-first (beforeSession (ip (packetOf session flow number segs))) early-passes)
         ∙ ap (λ (s : List ℕ). first (pspRefusals entryWidth s)) sub-is
         ∙ none-first (pspRefusals entryWidth behindId) psp-passes
+
+    -- .. has a number ..
+    pub written-counts : sSet (sub (ip (packetOf session flow number segs))) ≡ true
+    written-counts = ap sSet sub-is ∙ numbered
 
     -- .. and reads as what it was written from.
     pub written-session : sessionId (ip (packetOf session flow number segs)) ≡ session

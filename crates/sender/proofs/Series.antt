@@ -19,7 +19,7 @@ use Rattle.octets.proofs.Stretches.{part-none}
 use Rattle.octets.proofs.Counts.{sum-within}
 use Rattle.flow.specs.Numbers.{numberAt}
 use Rattle.flow.proofs.Numbers.{next-below, numberAt-first, numberAt-from-next}
-use Rattle.packet.specs.Header.{Packet, ip, idLength, sub, number as number-in}
+use Rattle.packet.specs.Header.{Packet, ip, idLength, sub, sSet, number as number-in}
 use Rattle.packet.specs.Segments.{entryWidth}
 use Rattle.packet.specs.Check.{kindPsp, check}
 use Rattle.sender.specs.declared.Position.{Position}
@@ -32,7 +32,7 @@ use Rattle.octets.specs.Each.{Each}
 use Rattle.sender.specs.Rules.{Pieces, Line, Addressed, segmentsOf, allSegments, packetAt, KeepsRules}
 use Rattle.sender.proofs.Positions.{Framed, framed, Inside, place-within, carried-append, carried-place, carried-bytes}
 use Rattle.sender.proofs.Frames.{Filled, Apart, carried-apart, framesFrom, all-frames}
-use Rattle.sender.proofs.Keeping.{Typed, sent-number, sent-inside, sent-farther, sent-passes, sent-addressed, sent-numbered, sent-carries}
+use Rattle.sender.proofs.Keeping.{Typed, sent-number, sent-inside, sent-farther, sent-passes, sent-counts, sent-addressed, sent-numbered, sent-carries}
 
 never : (n : ℕ) → n < n → ⊥
 never n h = omega arith
@@ -68,6 +68,7 @@ line job number = record { session = job .session; flow = job .flow; start = num
 -- what is known of the packets of a series, and of where it ends
 pub record Kept (job : Job) (number : ℕ) (at : Position) (packets : List (List ℕ)) (end : Position) (turns : ℕ) : Type 0 where
   pub passing : Each (λ p. check kindPsp p ≡ 0) (map ip packets)
+  pub counted : Each (λ p. sSet (sub p) ≡ true) (map ip packets)
   pub addressed : Each (Addressed (line job number)) (map ip packets)
   pub numbered : (i : ℕ) → i < length packets → number-in (sub (packetAt (map ip packets) i)) ≡ numberAt number i
   pub carried : Carried (job .bytes) (job .lens) at (allSegments entryWidth (map ip packets)) end
@@ -90,6 +91,7 @@ module _ (job : Job) (sound : Sound job) where
   kept-none number at turns i d =
       record {
         passing = tt;
+        counted = tt;
         addressed = tt;
         numbered = λ k l. absurd (not-suc-le-zero l);
         carried = refl;
@@ -116,6 +118,7 @@ module _ (job : Job) (sound : Sound job) where
     kept-more z packets end turns k =
         record {
           passing = (sent-passes asked z typed, k .passing);
+          counted = (sent-counts asked z typed, k .counted);
           addressed = (sent-addressed asked z typed, k .addressed);
           numbered = counts;
           carried = carried-append (job .bytes) (job .lens) at ((sent asked) .answer .position) end (segmentsOf entryWidth (ip (packetLeft (sent asked)))) (allSegments entryWidth (map ip packets)) (sent-carries asked z typed) (k .carried);
@@ -165,7 +168,15 @@ module _ (job : Job) (sound : Sound job) where
       (allSegments entryWidth (map ip (seriesPackets job number (startOfFrame i) turns))) (k .carried) in
       record {
         apart = a;
-        keeps = record { sizes = a .sizes; passing = k .passing; addressed = k .addressed; numbered = λ j m. k .numbered j (rw (length-map (seriesPackets job number (startOfFrame i) turns) ip) at m); in-order = a .in-order };
+        keeps =
+            record {
+              sizes = a .sizes;
+              passing = k .passing;
+              counted = k .counted;
+              addressed = k .addressed;
+              numbered = λ j m. k .numbered j (rw (length-map (seriesPackets job number (startOfFrame i) turns) ip) at m);
+              in-order = a .in-order;
+            };
       }
 
   -- With as many calls as there are bytes left the series is at the end of the frames.

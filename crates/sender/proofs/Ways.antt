@@ -7,7 +7,7 @@ use mathlib.Core.List.{List, [], _∷_, _++_, map}
 use lib.ListN.{length}
 use Rattle.octets.specs.Each.{Each}
 use Rattle.flow.specs.Numbers.{numberAt}
-use Rattle.packet.specs.Header.{Packet, ip, inUdp, sub, flowId, number}
+use Rattle.packet.specs.Header.{Packet, ip, inUdp, sub, sSet, flowId, number}
 use Rattle.packet.specs.Segments.{Segment, entryWidth, segments}
 use Rattle.packet.specs.Check.{kindPsp, check}
 use Rattle.packet.proofs.Transports.{same-session, same-sub, same-check}
@@ -60,6 +60,7 @@ keeps-ways line frames unfinished ways packets k =
     record {
       sizes = k .sizes;
       passing = each-way (λ p. check kindPsp p ≡ 0) (λ bytes h. same-check 0 3 0 0 bytes refl kindPsp ∙ h) ways packets (k .passing);
+      counted = each-way (λ p. sSet (sub p) ≡ true) (λ bytes h. ap sSet (same-sub 0 3 0 0 bytes) ∙ h) ways packets (k .counted);
       addressed =
           each-way (Addressed line) (λ bytes h. (same-session 0 3 0 0 bytes ∙ h .0, ap flowId (same-sub 0 3 0 0 bytes) ∙ h .1))
           ways packets (k .addressed);

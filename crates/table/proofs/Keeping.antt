@@ -16,7 +16,7 @@ use Rattle.octets.proofs.Counts.{least-none, least-at, least-below, least-passe
 use Rattle.refusal.specs.Refusal.{first}
 use Rattle.refusal.proofs.Laws.{none-applies}
 use Rattle.flow.specs.declared.Flow.{Flow}
-use Rattle.flow.specs.Flow.{fresh, flows, longest, heardMark, isFresh}
+use Rattle.flow.specs.Flow.{fresh, flows, longest, heardMark, isFresh, emptied}
 use Rattle.packet.specs.Check.{kindUnknown}
 use Rattle.table.specs.declared.Kind.{Kind}
 use Rattle.table.specs.declared.Kind.the-variants as kind
@@ -214,6 +214,20 @@ flow-keeps t i k f whole l good =
     row-keeps t i (rowWith (rowAt t i) k f) whole
     (flow-sound (rowAt t i) k f (rows-sound t whole i l) good) (λ j m other. rows-apart t whole i j l m other)
 
+-- the clauses of rule 13 for a flow, none of which holds
+none-of-five : (a b c d e : Bool) → (a || b || c || d || e) ≡ false →
+    (a ≡ false) × (b ≡ false) × (c ≡ false) × (d ≡ false) × (e ≡ false)
+none-of-five a b c d e h =
+    let abcd = or-false-left (a || b || c || d) e h in
+    let abc = or-false-left (a || b || c) d abcd in
+    let ab = or-false-left (a || b) c abc in (
+      or-false-left a b ab,
+      or-false-right a b ab,
+      or-false-right (a || b) c abc,
+      or-false-right (a || b || c) d abcd,
+      or-false-right (a || b || c || d) e h,
+    )
+
 accepted-sound : (dmpt : Bool) (k : ℕ) (f : Flow) → f .heard ≡ heardMark → f .held ≤ longest →
     (dmpt ≡ true → (k ≡ 0) × (f .held ≡ 0)) → flowBroken false dmpt k f ≡ false
 accepted-sound false k f heard fits bare = simp (heard, le-ltb longest (f .held) fits)
@@ -226,6 +240,36 @@ pub accepted-keeps : (t : Table) (i k : ℕ) (f : Flow) → broken t ≡ false �
     broken (withFlow t i k f) ≡ false
 accepted-keeps t i k f whole l live heard fits bare =
     flow-keeps t i k f whole l (rw live (accepted-sound (isDmpt (kindIn (rowAt t i .kind))) k f heard fits bare))
+
+-- what a flow that heard a packet without a number is put back as: it holds nothing, and is else as it was
+and-less : (a b c : Bool) → (a && (b || c)) ≡ false → (a && (false || c)) ≡ false
+and-less true b c h = or-false-right b c h
+and-less false b c h = refl
+
+and-less-last : (a b c : Bool) → (a && (b || c)) ≡ false → (a && (b || false)) ≡ false
+and-less-last true b c h = rw (or-false-left b c h) refl
+and-less-last false b c h = refl
+
+emptied-sound : (closed dmpt : Bool) (k : ℕ) (f : Flow) → flowBroken closed dmpt k f ≡ false → flowBroken closed dmpt k (emptied f) ≡ false
+emptied-sound closed dmpt k f whole =
+    let kept = notZero (f .heard) || notZero (f .expected) in
+    let astray = notZero k && not (isFresh f) in
+    let lines = none-of-five (ltb heardMark (f .heard)) (closed && (kept || notZero (f .held))) (ltb longest (f .held))
+    (isFresh f && (notZero (f .held) || notZero (f .expected))) (dmpt && (notZero (f .held) || astray)) whole in
+    simp (
+      lines .0,
+      and-less-last closed kept (notZero (f .held)) (lines .1),
+      and-less (isFresh f) (notZero (f .held)) (notZero (f .expected)) (lines .3),
+      and-less dmpt (notZero (f .held)) astray (lines .4),
+    )
+
+pub emptied-flow-keeps : (t : Table) (i k : ℕ) → broken t ≡ false → i < rows → k < flows →
+    broken (withFlow t i k (emptied (flowAt (rowAt t i) k))) ≡ false
+emptied-flow-keeps t i k whole l m =
+    let row = rowAt t i in
+    flow-keeps t i k (emptied (flowAt row k)) whole l
+    (emptied-sound (isClosed (row .kind)) (isDmpt (kindIn (row .kind))) k (flowAt row k)
+    (none-at (flowBrokenIn row) flows k (row-flows row (rows-sound t whole i l)) m))
 
 -- A call that is refused leaves the table as it was, and drops nothing.
 opened-by-refused : (c : ℕ) (t : Table) (q : Request) → (openedBy c t q .code ≡ 0 → ⊥) →
@@ -407,19 +451,6 @@ bare-of f h =
       is-zero (f .heard) (or-false-left (notZero (f .heard)) (notZero (f .expected)) two),
       is-zero (f .expected) (or-false-right (notZero (f .heard)) (notZero (f .expected)) two),
       is-zero (f .held) (or-false-right (notZero (f .heard) || notZero (f .expected)) (notZero (f .held)) h),
-    )
-
-none-of-five : (a b c d e : Bool) → (a || b || c || d || e) ≡ false →
-    (a ≡ false) × (b ≡ false) × (c ≡ false) × (d ≡ false) × (e ≡ false)
-none-of-five a b c d e h =
-    let abcd = or-false-left (a || b || c || d) e h in
-    let abc = or-false-left (a || b || c) d abcd in
-    let ab = or-false-left (a || b) c abc in (
-      or-false-left a b ab,
-      or-false-right a b ab,
-      or-false-right (a || b) c abc,
-      or-false-right (a || b || c) d abcd,
-      or-false-right (a || b || c || d) e h,
     )
 
 module _ (closed dmpt : Bool) (k : ℕ) (f : Flow) (whole : flowBroken closed dmpt k f ≡ false) where

@@ -1,4 +1,4 @@
--- `packet::psp::refuse` asks 6, 7 and 8 in order, and then about the segments.
+-- `packet::psp::refuse` asks 6 and 7 in order, and then about the segments.
 use borrow.Author.Tests.{lt-ltb, le-ltb}
 use borrow.Author.Needs.{needs}
 use Rattle.packet.proofs.psp.refuse.Statement.{statement}
@@ -22,32 +22,16 @@ returns-2 c =
       lt-ltb _ _ (c .if2 .taken),
     )
 
-s-set-requires : tie.Need-s-set-requires
-s-set-requires c κs = search needs
+refuse-segments-requires : tie.Need-refuse-segments-requires
+refuse-segments-requires c κs = search needs
 
 returns-3 : tie.Need-returns-3
 returns-3 c =
     simp (
-      ← c .before .before .before .before .before .not-plain .ensures,
-      c .before .before .before .before .if1 .left,
-      ← c .before .before .before .flow-id .ensures .0,
-      le-ltb _ _ (c .before .before .if2 .left),
-      ← c .before .s-set .ensures,
-      c .if3 .taken,
-    )
-
-refuse-segments-requires : tie.Need-refuse-segments-requires
-refuse-segments-requires c κs = search needs
-
-returns-4 : tie.Need-returns-4
-returns-4 c =
-    simp (
-      ← c .before .before .before .before .before .before .not-plain .ensures,
-      c .before .before .before .before .before .if1 .left,
-      ← c .before .before .before .before .flow-id .ensures .0,
-      le-ltb _ _ (c .before .before .before .if2 .left),
-      ← c .before .before .s-set .ensures,
-      c .before .if3 .left,
+      ← c .before .before .before .before .not-plain .ensures,
+      c .before .before .before .if1 .left,
+      ← c .before .before .flow-id .ensures .0,
+      le-ltb _ _ (c .before .if2 .left),
     )
     (c .refuse-segments .ensures)
 
@@ -59,7 +43,5 @@ refuse-spec =
     returns
     flow-id-requires
     returns-2
-    s-set-requires
-    returns-3
     refuse-segments-requires
-    returns-4)
+    returns-3)
