@@ -183,7 +183,7 @@ abbrev clear : List ℕ → List ℕ
 clear packet = set packet 4 0x01
 
 abbrev sized : ℕ → ℕ → List ℕ
-sized high low = 0x00 ∷ 0x00 ∷ 0x01 ∷ 0x01 ∷ 0x01 ∷ 0x01 ∷ 0x00 ∷ 0x00 ∷ 0xC0 + high ∷ low ∷ replicate (256 * high + low) 0x55
+sized high low = 0x00 ∷ 0x00 ∷ 0x01 ∷ 0x01 ∷ 0x01 ∷ 0x01 ∷ 0x00 ∷ 0x00 ∷ (0xC0 + high) ∷ low ∷ replicate (256 * high + low) 0x55
 
 without-number : (received (card fresh) (ip (clear A)) (lent before) ≡ accepts 1 6 2 0 (card fresh) before (0x11 ∷ 0x12 ∷ 0x13 ∷ 0x14 ∷ 0x15 ∷ 0x16 ∷ []) (6 ∷ []))
     × (received (card (at 0 2)) (ip (clear B)) (lent afterA) ≡ accepts 0 0 9 0 (card (at 0 0)) afterA [] [])
