@@ -1,6 +1,6 @@
 /* The card's library, for its host program in C or C++: the packet check, the table of sessions, receiving
  * packets and sending them, as document 01 defines it; and, as document 02 asks for them, MPEG packets for the
- * modulator (W3), and packets that come over UDP (W1).
+ * modulator (W3), packets that come over UDP (W1), and PSP packets without a sequence number (W2).
  *
  * The library is target/staticlib/libsklyapina.a, made by `rt staticlib sklyapina`. It is for x86-64, and needs no
  * other library but the C library's memcpy, memmove and memset.
@@ -29,7 +29,8 @@
  *
  * With W1 the four calls that take a packet gained the parameter transport, and the two of them that ask for a
  * segment the parameter kind, so that a program from before does not compile. That change is made once: what document
- * 02 asks for after W1 comes with calls of its own, and these four keep their parameters.
+ * 02 asks for after W1 comes with calls of its own, and these four keep their parameters. With W2 the name of refusal
+ * 8 went, so that a program that acts on it does not compile: the packets that it was given to are accepted now.
  *
  * Nothing compares this file with the library's source, crates/sklyapina/src and the structs of the crates
  * below it: each declaration here is a copy by hand. tests/calls and host/run link the two and compare what
@@ -110,7 +111,8 @@ enum sklyapina_refusal {
     /* What follows the session ID. */
     SKLYAPINA_HEADER_NOT_PLAIN = 6, /* the V bit is set, or either of the two H bits */
     SKLYAPINA_FLOW_OUTSIDE = 7,     /* PSP: a flow ID of 4 to 7; D-MPT: any flow ID but 0 */
-    SKLYAPINA_NO_NUMBER = 8,        /* PSP: the S bit is clear, so the packet has no sequence number */
+    /* 8 is given by no call. Before W2 it refused a PSP packet with the S bit clear, one without a sequence number;
+     * sklyapina_receive says what becomes of such a packet now. */
     SKLYAPINA_NOTHING_CARRIED = 9,  /* PSP: no segment is announced; D-MPT: the packet ends with its header */
     /* PSP: header, segment table and the lengths in it do not add up to the packet's length, or the packet ends
      * inside the segment table; D-MPT: what follows the header is no multiple of 188 bytes */
@@ -118,7 +120,8 @@ enum sklyapina_refusal {
     /* PSP: a segment of no bytes, one after the first that does not begin a frame (B clear), or one before
      * the last that does not end one (E clear); D-MPT: an MPEG packet that does not start with 0x47 */
     SKLYAPINA_CONTENT_SPOILT = 11,
-    SKLYAPINA_LATE = 12, /* the sequence number lies 32,768 or more ahead of the expected one, modulo 65,536 */
+    /* the S bit is set, and the sequence number lies 32,768 or more ahead of the expected one, modulo 65,536 */
+    SKLYAPINA_LATE = 12,
 
     /* The table is broken: see struct sklyapina_table. */
     SKLYAPINA_TABLE_BROKEN = 13,
@@ -190,8 +193,8 @@ struct sklyapina_table {
  * transport  SKLYAPINA_IP or SKLYAPINA_UDP: what the packet came by
  * packet     the packet: over IP from the first byte of its session ID, over UDP from the four bytes before that
  *
- * Answers 24 for any other kind or transport, else the first of 2, 3, 15 (over UDP alone), 4 and 6 to 11 that
- * applies, else 0. It writes nothing. */
+ * Answers 24 for any other kind or transport, else the first of 2, 3, 15 (over UDP alone), 4, 6, 7 and 9 to 11 that
+ * applies, else 0. Whether the S bit is set makes no difference to it. It writes nothing. */
 uint32_t sklyapina_check(uint32_t kind, uint32_t transport, const uint8_t *packet, size_t packet_length);
 
 /* Why segment k of a packet, counted from 0, cannot be had. Only PSP packets have segments.
@@ -212,8 +215,8 @@ struct sklyapina_stretch {
 struct sklyapina_stretch sklyapina_segment(uint32_t kind, uint32_t transport,
                                            const uint8_t *packet, size_t packet_length, size_t k);
 
-/* Opens a session in the lowest closed row, with all its flows fresh: the first packet of each is accepted
- * whatever its number.
+/* Opens a session in the lowest closed row, with all its flows fresh: the first packet of each that has a number is
+ * accepted whatever that number is.
  *
  * Answers the first of 24, 13, 21, 22 and 23 that applies, or 0, and the table afterwards. It is not given
  * the holding places, so they stay as they are. */
@@ -247,16 +250,23 @@ struct sklyapina_closing sklyapina_close(struct sklyapina_table table, uint32_t 
  * output     6,144 bytes or more. The frames are written to its front, back to back
  * lengths    127 elements or more. The lengths of the frames are written to its front
  *
- * Answers the first of 1, 13, 24, 2, 3, 15 (over UDP alone), 4, 5, 6 to 11 and 12 that applies, or 0. Then
+ * Answers the first of 1, 13, 24, 2, 3, 15 (over UDP alone), 4, 5, 6, 7, 9 to 11, and 12 (with the S bit set alone)
+ * that applies, or 0. Then
  *
  * frames   how many frames were delivered: so many elements of lengths were written
  * bytes    how long they are together: so many bytes of output were written
  * dropped  how many bytes, of this packet or held from earlier ones, will never be delivered
- * gap      how many packets are missing before this one, by its sequence number
- * table    the table afterwards: at most the packet's flow has changed (nothing, for D-MPT with the S bit clear)
+ * gap      how many packets are missing before this one, by its sequence number; 0 with the S bit clear
+ * table    the table afterwards: at most the packet's flow has changed; with the S bit clear at most its held, which
+ *          is then 0
  *
  * and in holding at most the first bytes of that flow's place have changed, as many as the flow holds now. Refused:
- * all counts are 0, and table and arrays are as they were. */
+ * all counts are 0, and table and arrays are as they were.
+ *
+ * A PSP packet with the S bit clear has no number (W2), so nothing tells what it follows, and nothing is joined: what
+ * its flow held is dropped first; then each segment that is a whole frame, with B and E, of at most 2,048 bytes is
+ * delivered, in order; every other segment is dropped, and nothing is held. The expected number, and whether there is
+ * one, stays as it was: the next packet with a number is judged as if this one had not come. */
 struct sklyapina_received {
     uint32_t code;
     uint32_t frames;
