@@ -1,7 +1,8 @@
 /* Asks the library, from C, for its verdict on packet A of document 01: as PSP, as D-MPT, as a kind that there is not,
- * and as PSP with the last byte cut off; then on the same packet over UDP, by a transport that there is not, and by
- * the wrong one of the two. Prints the answers, and where the packet's second segment stands by either transport, and
- * ends with status 0 only where they are the right ones. host/run builds and runs it. */
+ * as PSP with the last byte cut off, and as PSP with S clear, so without a number (document 02, W2); then on the same
+ * packet over UDP, by a transport that there is not, and by the wrong one of the two. Prints the answers, and where
+ * the packet's second segment stands by either transport, and ends with status 0 only where they are the right ones.
+ * host/run builds and runs it. */
 #include "sklyapina.h"
 #include "standard.h"
 
@@ -16,20 +17,27 @@ static const uint8_t udp_packet[OVER_UDP] = {
 };
 static const uint8_t *const ip_packet = udp_packet + BEFORE_SESSION;
 
+/* The same over IP with S clear: byte 4 is 0x01, and the number says nothing. */
+static const uint8_t unnumbered_packet[OVER_IP] = {
+    0x00, 0x00, 0x01, 0x01, 0x01, 0x02, 0xFF, 0xFF, 0xC0, 0x06,
+    0x80, 0x02, 0x11, 0x12, 0x13, 0x14, 0x15, 0x16, 0x21, 0x22
+};
+
 static bool kinds_are_told(void)
 {
     unsigned int psp = sklyapina_check(SKLYAPINA_KIND_PSP, SKLYAPINA_IP, ip_packet, OVER_IP);
     unsigned int dmpt = sklyapina_check(SKLYAPINA_KIND_DMPT, SKLYAPINA_IP, ip_packet, OVER_IP);
     unsigned int other = sklyapina_check(3, SKLYAPINA_IP, ip_packet, OVER_IP);
     unsigned int cut = sklyapina_check(SKLYAPINA_KIND_PSP, SKLYAPINA_IP, ip_packet, OVER_IP - 1);
+    unsigned int unnumbered = sklyapina_check(SKLYAPINA_KIND_PSP, SKLYAPINA_IP, unnumbered_packet, OVER_IP);
 
-    printf("psp %u, dmpt %u, other %u, cut %u\n", psp, dmpt, other, cut);
-    return psp == SKLYAPINA_NONE && dmpt == SKLYAPINA_FLOW_OUTSIDE
-        && other == SKLYAPINA_KIND_UNKNOWN && cut == SKLYAPINA_LENGTHS_DISAGREE;
+    printf("psp %u, dmpt %u, other %u, cut %u, unnumbered %u\n", psp, dmpt, other, cut, unnumbered);
+    return psp == SKLYAPINA_NONE && dmpt == SKLYAPINA_FLOW_OUTSIDE && other == SKLYAPINA_KIND_UNKNOWN
+        && cut == SKLYAPINA_LENGTHS_DISAGREE && unnumbered == SKLYAPINA_NONE;
 }
 
 /* Given as UDP, the session ID 00 00 01 01 has version 0. Given as IP, 00 03 00 00 is the session ID and what was the
- * session ID is the header, in which S is clear. */
+ * session ID is the header, which announces no segment. */
 static bool transports_are_told(void)
 {
     unsigned int udp = sklyapina_check(SKLYAPINA_KIND_PSP, SKLYAPINA_UDP, udp_packet, OVER_UDP);
@@ -39,7 +47,7 @@ static bool transports_are_told(void)
 
     printf("udp %u, other %u, ip as udp %u, udp as ip %u\n", udp, other, ip_as_udp, udp_as_ip);
     return udp == SKLYAPINA_NONE && other == SKLYAPINA_KIND_UNKNOWN
-        && ip_as_udp == SKLYAPINA_NOT_VERSION_3 && udp_as_ip == SKLYAPINA_NO_NUMBER;
+        && ip_as_udp == SKLYAPINA_NOT_VERSION_3 && udp_as_ip == SKLYAPINA_NOTHING_CARRIED;
 }
 
 static bool places_are_told(void)

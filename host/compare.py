@@ -7,7 +7,7 @@ two. One more capture is made here, since none of the others fills a queue to it
 
 Prints how much was compared. Status 1 where anything differs, and where the captures do not have in them what is to be
 compared: every refusal that a capture can bring about, every state in which a session can end, queues that are full,
-sessions that get packets over IP, over UDP and by both.
+sessions that get packets over IP, over UDP and by both, PSP packets without a number.
 """
 
 import collections
@@ -21,14 +21,16 @@ ROOT = pathlib.Path(__file__).resolve().parent.parent
 RUN = str(ROOT / "bin/run-x86-64")
 DATA_LINE = summary.CALLS.index("data")  # in a summary's lines of calls
 OPEN_PSP, DATA = 1, 4  # kinds of entries
+NUMBERED = 0x40  # S, in the byte behind a packet's session ID
 
 # What the summaries have to show at least once: refusals of files, then of calls, kinds and states of sessions, and
 # what else can come up.
 WANTED = [f"refused {code}" for code in range(41, 46)]
-WANTED += [f"code {code}" for code in [*range(2, 13), 15, 21, 22, 23, 25]]
+WANTED += [f"code {code}" for code in [*range(2, 8), *range(9, 13), 15, 21, 22, 23, 25]]
 WANTED += [f"{kind} {state}" for kind in ("PSP", "D-MPT") for state in ("open", "closed")]
 WANTED += ["six sessions open", "bytes held at the end", "two frames waiting", "frames lost to a full queue"]
 WANTED += ["a session over IP", "a session over UDP", "a session by both"]
+WANTED += ["frames without a number", "drops without a number"]
 
 
 def number_bytes(number, width):
@@ -108,6 +110,28 @@ def transports_in(capture, listing):
     return collections.Counter({what: len(sessions) for what, sessions in found.items()})
 
 
+def is_numbered(kind, packet):
+    """Whether S is set in an accepted packet."""
+    lead = summary.BEFORE_SESSION_OVER_UDP if kind == summary.DATA_OVER_UDP else 0
+    return packet[lead + 4] & NUMBERED != 0
+
+
+def without_number_in(capture, listing):
+    """How many PSP packets without a number delivered frames, and how many dropped bytes (document 02, W2)."""
+    found, opened_as = collections.Counter(), {}
+    if listing.startswith("refused "):
+        return found
+    for (kind, body), line in zip(summary.entries_of(capture), listing.splitlines()[1:]):
+        _, what, code, frames, _, dropped, _ = line.split()
+        session = summary.session_of(kind, body)
+        if code == "0" and what == "open":
+            opened_as[session] = kind
+        elif code == "0" and what == "data" and opened_as[session] == OPEN_PSP and not is_numbered(kind, body):
+            found["frames without a number"] += frames != "0"
+            found["drops without a number"] += dropped != "0"
+    return found
+
+
 def differences(node, name, capture, expected):
     """What is wrong with what node prints for a capture."""
     for words, wanted in ((["frames"], expected), ([], summary.without_frames(expected))):
@@ -125,7 +149,7 @@ def main():
     for name, capture in captures.items():
         listing, trace = (printed(ROOT / "target/bin" / program, capture) for program in ("psplist", "psptrace"))
         expected = summary.summary(capture, listing, trace)
-        seen += seen_in(expected) + transports_in(capture, listing)
+        seen += seen_in(expected) + transports_in(capture, listing) + without_number_in(capture, listing)
         for difference in differences(node, name, capture, expected):
             print(difference)
             wrong += 1

@@ -9,7 +9,8 @@
  * What it prints, in this order:
  *
  * - a line for each session: when it closes, and for those that are still open at the end, by channel. 'missing' is
- *   the sum of its gaps; 'dropped' has what its close dropped; held0 to held3 are the bytes that its flows still hold
+ *   the sum of its gaps, so packets that the core sent without a number and the network lost are not in it; 'dropped'
+ *   has what its close dropped; held0 to held3 are the bytes that its flows still hold
  * - a line for each channel: frames that the modulator took, the most that waited, those lost to a full queue
  * - how many calls were made and refused, and how often each refusal number was given
  *
@@ -63,7 +64,7 @@ struct card {
     bool shows_frames;
 };
 
-/* Words for the refusals that the three calls can give, those of the header. */
+/* Words for the refusals that the three calls can give, those of the header. None gives 8 or 14. */
 static const char *const words[REFUSALS] = {
     [SKLYAPINA_SLICE_TOO_SMALL] = "slice too small",
     [SKLYAPINA_PACKET_TOO_SHORT] = "packet too short",
@@ -72,7 +73,6 @@ static const char *const words[REFUSALS] = {
     [SKLYAPINA_SESSION_NOT_OPEN] = "session not open",
     [SKLYAPINA_HEADER_NOT_PLAIN] = "header not plain",
     [SKLYAPINA_FLOW_OUTSIDE] = "flow outside",
-    [SKLYAPINA_NO_NUMBER] = "no number",
     [SKLYAPINA_NOTHING_CARRIED] = "nothing carried",
     [SKLYAPINA_LENGTHS_DISAGREE] = "lengths disagree",
     [SKLYAPINA_CONTENT_SPOILT] = "content spoilt",

@@ -89,7 +89,7 @@ def calls_of(capture, listing, trace):
 
 
 def refusal_words():
-    """The header's names of the refusals, by number: SKLYAPINA_NO_NUMBER = 8 gives 'no number' for 8."""
+    """The header's names of the refusals, by number: SKLYAPINA_FLOW_OUTSIDE = 7 gives 'flow outside' for 7."""
     header = HEADER.read_text(encoding="utf-8")
     enumeration = re.search(r"enum sklyapina_refusal \{(.*?)\n\};", header, re.DOTALL).group(1)
     names = re.findall(r"^\s*SKLYAPINA_(\w+) = (\d+)", enumeration, re.MULTILINE)
