@@ -1,13 +1,13 @@
-/* The data call of document 01, by either transport (document 02, W1), in plain C, without proof: memcpy,
- * early exits, the table changed in place. It is written for speed and to be read, as one would write it for
- * the card if nothing had to be proved; bench/run counts what it executes. Once the transport is judged, a
- * packet is handed on from its session ID, so that all else is the same by either. */
+/* The data call of document 01, by either transport and with packets without a number (document 02, W1 and W2),
+ * in plain C, without proof: memcpy, early exits, the table changed in place. It is written for speed and to be
+ * read, as one would write it for the card if nothing had to be proved; bench/run counts what it executes. Once
+ * the transport is judged, a packet is handed on from its session ID, so that all else is the same by either. */
 #include "plain.h"
 
 #include <stdbool.h>
 #include <string.h>
 
-/* The refusal numbers of the data call. */
+/* The refusal numbers of the data call; 8 is none of them any more (document 02, W2). */
 enum {
     ACCEPTED = 0,
     SLICES_TOO_SHORT = 1,
@@ -17,7 +17,6 @@ enum {
     SESSION_NOT_OPEN = 5,
     HEADER_NOT_PLAIN = 6,
     FLOW_OUTSIDE = 7,
-    NO_NUMBER = 8,
     NOTHING_CARRIED = 9,
     LENGTHS_DISAGREE = 10,
     CONTENT_SPOILT = 11,
@@ -136,10 +135,10 @@ static void expect_next(struct sklyapina_flow *flow, unsigned number)
 
 /* --- PSP --- */
 
-/* Refusals 6 to 11 of a packet for a PSP session. At each joint of two segments the one before must end a
- * frame and the one behind must begin one: every entry but the first has B, every entry but the last has E.
- * */
-static uint32_t check_psp(const uint8_t *packet, size_t length)
+/* Refusals 6 to 11 of a packet for a PSP session, with a number or without. At each joint of two segments the one
+ * before must end a frame and the one behind must begin one: every entry but the first has B, every entry but the
+ * last has E. */
+static inline uint32_t check_psp(const uint8_t *packet, size_t length)
 {
     const uint8_t *entries = packet + HEADER_SIZE;
     size_t count = packet[5] & COUNT;
@@ -151,8 +150,6 @@ static uint32_t check_psp(const uint8_t *packet, size_t length)
         return HEADER_NOT_PLAIN;
     if ((packet[4] & FLOW) >= SKLYAPINA_FLOWS)
         return FLOW_OUTSIDE;
-    if (!(packet[4] & S))
-        return NO_NUMBER;
     if (count == 0)
         return NOTHING_CARRIED;
     if (total > length)
@@ -209,7 +206,7 @@ static void join_rest(struct joining *joining, struct plain_counts *counts, stru
 }
 
 /* Whole frames: they lie back to back in the packet as they must in the output, and are copied together. */
-static void join_whole(struct joining *joining, struct plain_counts *counts, struct delivery to)
+static inline void join_whole(struct joining *joining, struct plain_counts *counts, struct delivery to)
 {
     const uint8_t *entry = joining->entry;
     const uint8_t *first = joining->body;
@@ -247,8 +244,8 @@ static void join_start(struct joining *joining, struct plain_counts *counts)
     }
 }
 
-/* The join rule, for a packet that was accepted. Only its first segment may lack B and only its last may
- * lack E. */
+/* The join rule of document 01, for a packet with a number that was accepted. Only its first segment may lack B and
+ * only its last may lack E. */
 static struct plain_counts join(struct sklyapina_flow *flow, uint8_t *place, const uint8_t *packet,
                                 uint32_t gap, struct delivery to)
 {
@@ -271,6 +268,7 @@ static struct plain_counts join(struct sklyapina_flow *flow, uint8_t *place, con
     return counts;
 }
 
+/* A packet with a number for a PSP session. */
 static struct plain_counts receive_psp(struct sklyapina_flow *flows, uint8_t *places, const uint8_t *packet,
                                        size_t length, struct delivery to)
 {
@@ -288,6 +286,48 @@ static struct plain_counts receive_psp(struct sklyapina_flow *flows, uint8_t *pl
         return refused(LATE);
     expect_next(flow, number);
     return join(flow, places + number_of_flow * SKLYAPINA_LONGEST_FRAME, packet, gap, to);
+}
+
+/* --- PSP without a number --- */
+
+static void drop_next(struct joining *joining, struct plain_counts *counts)
+{
+    size_t length = big_endian_16(joining->entry) & LENGTH;
+
+    counts->dropped += (uint32_t)length;
+    joining->entry += 2;
+    joining->body += length;
+}
+
+/* The rule of document 02, W2, for a packet without a number that was accepted: held bytes are dropped first, and a
+ * first segment without B and a last one without E are no whole frames, and are dropped. Nothing is held, so nothing
+ * is written to the place. Whether the flow has heard a number and which it expects stays as it was. */
+static struct plain_counts take_whole(struct sklyapina_flow *flow, const uint8_t *packet, struct delivery to)
+{
+    struct plain_counts counts = { .dropped = flow->held };
+    const uint8_t *entries = packet + HEADER_SIZE;
+    const uint8_t *bodies = entries + 2 * (packet[5] & COUNT);
+    struct joining joining = { entries, bodies, bodies, NULL, 0 };
+
+    flow->held = 0;
+    if (!(big_endian_16(entries) & BEGINS))
+        drop_next(&joining, &counts);
+    join_whole(&joining, &counts, to);
+    if (joining.entry < joining.past)
+        drop_next(&joining, &counts);
+    return counts;
+}
+
+/* A packet without a number for a PSP session. It stays a function of its own, and check_psp and join_whole are asked
+ * to be inline, in it and in receive_psp: as a part of receive_psp it took registers from the packets with a number,
+ * which then cost up to 10 instructions more. */
+__attribute__((noinline))
+static struct plain_counts receive_unnumbered(struct sklyapina_flow *flows, const uint8_t *packet, size_t length,
+                                              struct delivery to)
+{
+    uint32_t code = check_psp(packet, length);
+
+    return code == ACCEPTED ? take_whole(&flows[packet[4] & FLOW], packet, to) : refused(code);
 }
 
 /* --- D-MPT --- */
@@ -391,6 +431,8 @@ struct plain_counts plain_receive_in_place(struct sklyapina_table *table, uint32
         return refused(SESSION_NOT_OPEN);
     if (table->rows[row].kind == SKLYAPINA_KIND_DMPT)
         return receive_dmpt(&table->rows[row].flows[0], packet, packet_length, to);
+    if (!(packet[4] & S))
+        return receive_unnumbered(table->rows[row].flows, packet, packet_length, to);
     return receive_psp(table->rows[row].flows, holding + row * SKLYAPINA_FLOWS * SKLYAPINA_LONGEST_FRAME, packet,
                        packet_length, to);
 }

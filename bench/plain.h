@@ -1,5 +1,5 @@
-/* The data call of document 01, by either transport (document 02, W1), in plain C, without proof: what the proved
- * receiver is measured against. */
+/* The data call of document 01, by either transport and with packets without a number (document 02, W1 and W2), in
+ * plain C, without proof: what the proved receiver is measured against. */
 #ifndef PLAIN_H
 #define PLAIN_H
 
