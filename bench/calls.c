@@ -1,7 +1,8 @@
 /* Data calls of all sorts. The card has two PSP sessions, two D-MPT sessions and two free rows. A packet is
- * made well formed, for a number that is mostly the one expected, with segments of lengths about those that
- * matter; then often something is spoilt: a byte, the length, the session, the table or the length of a
- * slice. Every other packet comes over UDP, and the transport is spoilt too. */
+ * made well formed, for a number that is mostly the one expected, or with S clear, so without a number
+ * (document 02, W2), with segments of lengths about those that matter; then often something is spoilt: a byte,
+ * the length, the session, the table or the length of a slice. Every other packet comes over UDP, and the
+ * transport is spoilt too. From time to time a session is opened anew. */
 #include "calls.h"
 
 #include <string.h>
@@ -85,7 +86,7 @@ static size_t make_psp(struct calls *calls)
     uint32_t count = one_in(calls, 16) ? 1 + below(calls, 127) : 1 + below(calls, 3);
     size_t length = HEADER_SIZE + 2 * count;
 
-    put_header(calls, row, flow, true, count);
+    put_header(calls, row, flow, !one_in(calls, 8), count);
     for (uint32_t segment = 0; segment < count; segment++) {
         uint32_t held = segment == 0 ? calls->table.rows[row].flows[flow].held : 0;
         uint32_t part = count > 3 ? 1 + below(calls, 31) : some_length(calls, held);
@@ -200,12 +201,21 @@ struct call plain_call(const struct sklyapina_table *table, struct packet packet
     };
 }
 
+/* What closing a session and opening it again leave, for it goes into the row that it left: fresh flows. */
+static void reopen(struct sklyapina_row *row)
+{
+    memset(row->flows, 0, sizeof row->flows);
+}
+
 struct call calls_next(struct calls *calls)
 {
-    size_t length = one_in(calls, 3) ? make_dmpt(calls) : make_psp(calls);
+    size_t length;
     struct packet packet;
     struct call call;
 
+    if (one_in(calls, 64))
+        reopen(&calls->table.rows[below(calls, PSP_SESSIONS + DMPT_SESSIONS)]);
+    length = one_in(calls, 3) ? make_dmpt(calls) : make_psp(calls);
     if (one_in(calls, 3))
         length = spoil_packet(calls, length);
     packet = one_in(calls, 2) ? over_udp(calls, length) : (struct packet){ SKLYAPINA_IP, calls->packet, length };

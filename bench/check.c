@@ -1,7 +1,7 @@
 /* Runs the receivers side by side: each is given the same calls, on slices of its own, and after every call
  * the answers, the tables and every byte of the slices must be the same. First the streams, over IP, over UDP
- * and by both, whose packets must all be accepted; then calls of all sorts, among which every number must come
- * up, by each transport that can give it. */
+ * and by both, whose packets must all be accepted; then calls of all sorts, among which every number that the data
+ * call gives must come up, by each transport that can give it, and no other. */
 #include "calls.h"
 #include "measure.h"
 #include "receivers.h"
@@ -111,10 +111,17 @@ static void count(struct times *times, uint32_t transport, uint32_t code)
     of_transport[code]++;
 }
 
-/* The numbers of the data call that do not depend on the transport; the other two are 15 and 24. */
+/* The numbers of the data call that do not depend on the transport. 8 was that of a PSP packet without a number, which
+ * is accepted since document 02, W2. */
 static bool is_by_either(size_t code)
 {
-    return code <= SKLYAPINA_TABLE_BROKEN;
+    return code <= SKLYAPINA_TABLE_BROKEN && code != 8;
+}
+
+/* All numbers of the data call. */
+static bool is_given(size_t code)
+{
+    return is_by_either(code) || code == SKLYAPINA_NOT_VERSION_3 || code == SKLYAPINA_KIND_UNKNOWN;
 }
 
 /* Prints how often each number came up; true where each did by every transport that it can come up by. */
@@ -146,8 +153,8 @@ static bool check_spoilt(void)
         struct call call = calls_next(&calls);
         struct sklyapina_received answer;
 
-        if (!all_agree(&call, &answer) || answer.code >= CODES) {
-            printf("check: call %zu: the receivers differ, or the number is unknown\n", place);
+        if (!all_agree(&call, &answer) || !is_given(answer.code)) {
+            printf("check: call %zu: the receivers differ, or give a number that is not the data call's\n", place);
             return false;
         }
         count(&times, call.packet.transport, answer.code);
