@@ -116,18 +116,20 @@ static bool same_row(const struct sklyapina_row *one, const struct sklyapina_row
     return same;
 }
 
-static void compare_tables(const struct sklyapina_table *library, const struct sklyapina_table *second)
+static bool compare_tables(const struct sklyapina_table *library, const struct sklyapina_table *second)
 {
     for (size_t row = 0; row < SKLYAPINA_ROWS; row++) {
         if (same_row(&library->rows[row], &second->rows[row]))
             continue;
-        print_call();
-        printf("the table that comes back differs in row %zu; library:\n", row);
-        print_table(library);
-        printf("second program:\n");
-        print_table(second);
-        exit(DIFFERENT);
+        if (tells("table")) {
+            printf("the table that comes back differs in row %zu; library:\n", row);
+            print_table(library);
+            printf("second program:\n");
+            print_table(second);
+        }
+        return false;
     }
+    return true;
 }
 
 static void read_given(void)
@@ -150,9 +152,9 @@ static void read_back(void)
         next_table(&expected);
 }
 
-static void compare_back(void)
+static bool compare_back(void)
 {
-    compare_tables(&back, &expected);
+    return compare_tables(&back, &expected);
 }
 
 int main(int word_count, char **words)

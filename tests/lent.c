@@ -28,7 +28,8 @@ _Noreturn void unusable(const char *why)
 static uint8_t input[1 << 16];
 static size_t input_end, input_place;
 
-static uint8_t next_byte(void)
+/* Reads on, where nothing that was read is left. */
+static void read_on(void)
 {
     if (input_place == input_end) {
         ptrdiff_t count = read(0, input, sizeof input);
@@ -37,7 +38,24 @@ static uint8_t next_byte(void)
         input_end = (size_t)count;
         input_place = 0;
     }
+}
+
+static uint8_t next_byte(void)
+{
+    read_on();
     return input[input_place++];
+}
+
+static void next_bytes(uint8_t *to, size_t count)
+{
+    while (count > 0) {
+        read_on();
+        size_t here = input_end - input_place < count ? input_end - input_place : count;
+        memcpy(to, input + input_place, here);
+        input_place += here;
+        to += here;
+        count -= here;
+    }
 }
 
 uint64_t next_number(unsigned bytes)
@@ -144,6 +162,10 @@ static size_t change(struct array *array)
     size_t place = next_number(4), count = next_number(4);
     if (place > array->capacity || count > array->capacity - place)
         unusable("a record writes outside an array");
+    if (array->width == 1) {
+        next_bytes(array->copy + place, count);
+        return place + count;
+    }
     for (; count > 0; count--, place++)
         put(array, place, next_number((unsigned)array->width));
     return place;
@@ -190,7 +212,11 @@ static unsigned long calls_made;
 static unsigned asked_call, asked_case;
 static uint64_t inputs[MOST_INPUTS];
 
-void print_call(void)
+/* The fault that the second program's answer to the call in hand has; none where that is the right one. */
+static char fault[LONGEST_NAME];
+static const char *difference; /* what differs */
+
+static void print_call(void)
 {
     const struct call *call = &program->calls[asked_call];
     printf("difference at call %lu, %s (%s)\n", calls_made, call->name, case_names[asked_case]);
@@ -212,11 +238,13 @@ void print_call(void)
     }
 }
 
-static _Noreturn void differs(const char *what, uint64_t library, uint64_t second)
+bool tells(const char *what)
 {
+    difference = what;
+    if (fault[0])
+        return false;
     print_call();
-    printf("%s: library %llu, second program %llu\n", what, (unsigned long long)library, (unsigned long long)second);
-    exit(DIFFERENT);
+    return true;
 }
 
 static _Noreturn void touches_fence(int number)
@@ -225,6 +253,16 @@ static _Noreturn void touches_fence(int number)
     print_call();
     printf("the library touches memory after the end of an array\n");
     exit(DIFFERENT);
+}
+
+static bool compare_number(const char *what, uint64_t library, uint64_t second)
+{
+    if (library == second)
+        return true;
+    if (tells(what))
+        printf("%s: library %llu, second program %llu\n", what, (unsigned long long)library,
+               (unsigned long long)second);
+    return false;
 }
 
 /* Where two stretches of bytes differ first; they do. */
@@ -236,21 +274,23 @@ static size_t first_difference(const uint8_t *one, const uint8_t *other)
     return place;
 }
 
-static void compare_array(const struct array *array)
+static bool compare_array(const struct array *array)
 {
     const uint8_t *first = first_byte(array);
 
     if (memcmp(first - GUARD, guard, GUARD) != 0) {
-        print_call();
-        printf("%s: bytes before the array have changed\n", array->name);
-        exit(DIFFERENT);
+        if (tells(array->name))
+            printf("%s: bytes before the array have changed\n", array->name);
+        return false;
     }
     if (memcmp(first, array->copy, array->lent * array->width) != 0) {
         size_t place = first_difference(first, array->copy);
-        print_call();
-        printf("%s, byte %zu: library %u, second program %u\n", array->name, place, first[place], array->copy[place]);
-        exit(DIFFERENT);
+        if (tells(array->name))
+            printf("%s, byte %zu: library %u, second program %u\n", array->name, place, first[place],
+                   array->copy[place]);
+        return false;
     }
+    return true;
 }
 
 /* What a wrong library would do to an array: the words that this program is given. */
@@ -293,9 +333,12 @@ static void read_asked(void)
         inputs[number] = next_number(8);
 }
 
-/* Reads what the call has to answer, and makes the changes to the copies. */
-static void read_answer(uint64_t *answers)
+/* Reads what the call has to answer, and makes the changes to the copies. Answers whether they are where something was
+ * lent. */
+static bool read_answer(uint64_t *answers)
 {
+    bool fits = true;
+
     for (unsigned number = 0; number < program->calls[asked_call].answer_count; number++)
         answers[number] = next_number(8);
     if (program->calls[asked_call].has_table)
@@ -303,11 +346,12 @@ static void read_answer(uint64_t *answers)
     for (unsigned left = next_byte(); left > 0; left--) {
         struct array *array = next_array();
         if (change(array) > (array->in_use ? array->lent : 0)) {
-            print_call();
-            printf("%s: the second program writes more than was lent\n", array->name);
-            exit(DIFFERENT);
+            if (tells(array->name))
+                printf("%s: the second program writes more than was lent\n", array->name);
+            fits = false;
         }
     }
+    return fits;
 }
 
 static void count_call(const uint64_t *answers)
@@ -318,30 +362,82 @@ static void count_call(const uint64_t *answers)
         times_of_code[asked_call][answers[0]]++;
 }
 
-static void run_call(void)
+/* Compares the call in hand with its answer: the numbers, the table, then the arrays. */
+static bool compare_call(const uint64_t *got, const uint64_t *answers)
+{
+    const struct call *call = &program->calls[asked_call];
+
+    for (unsigned number = 0; number < call->answer_count; number++)
+        if (!compare_number(call->answers[number], got[number], answers[number]))
+            return false;
+    if (call->has_table && !program->compare_back())
+        return false;
+    for (struct array *array = arrays; array < arrays + ARRAYS; array++)
+        if (array->in_use && !compare_array(array))
+            return false;
+    return true;
+}
+
+/* Makes the next call; answers whether nothing differs. */
+static bool run_call(void)
 {
     uint64_t got[MOST_ANSWERS] = {0}, answers[MOST_ANSWERS] = {0};
-    const struct call *call;
 
     calls_made++;
     for (struct array *array = arrays; array < arrays + ARRAYS; array++)
         array->in_use = false;
     read_asked();
-    call = &program->calls[asked_call];
     program->make_call(asked_call, inputs, got);
     for (struct array *array = arrays; array < arrays + ARRAYS; array++)
         if (array->in_use)
             spoil(array);
-    read_answer(answers);
-    for (unsigned number = 0; number < call->answer_count; number++)
-        if (got[number] != answers[number])
-            differs(call->answers[number], got[number], answers[number]);
-    if (call->has_table)
-        program->compare_back();
+    if (!read_answer(answers) || !compare_call(got, answers))
+        return false;
+    if (!fault[0])
+        count_call(got);
+    return true;
+}
+
+/* ---- Deliberate faults ---- */
+
+static unsigned faults_found, faults_missed;
+
+static void read_fault(void)
+{
+    size_t length = next_byte(), place = 0;
+    for (; place < length; place++)
+        fault[place] = (char)next_byte();
+    fault[place] = 0;
+}
+
+/* Makes the next call, whose answer has a fault, and demands that it differs. The library has then written into arrays
+ * whose copies are as before, so they are lent anew; the call itself comes once more, with its right answer. */
+static void run_fault(void)
+{
+    read_fault();
+    if (next_byte() != 3)
+        unusable("a fault is not followed by a call");
+    if (run_call()) {
+        printf("fault %s: NOT FOUND at call %lu\n", fault, calls_made);
+        faults_missed++;
+    } else {
+        printf("fault %s: found, call %lu, %s (%s): %s\n", fault, calls_made, program->calls[asked_call].name,
+               case_names[asked_case], difference);
+        faults_found++;
+    }
+    fault[0] = 0;
+    calls_made--;
     for (struct array *array = arrays; array < arrays + ARRAYS; array++)
-        if (array->in_use)
-            compare_array(array);
-    count_call(got);
+        array->stale = true;
+}
+
+/* A fault that no call shows. */
+static void miss_fault(void)
+{
+    read_fault();
+    printf("fault %s: NOT FOUND in any call\n", fault);
+    fault[0] = 0;
+    faults_missed++;
 }
 
 /* Prints the counts. */
@@ -359,6 +455,8 @@ static void print_counts(void)
     for (unsigned number = 0; number < case_count; number++)
         printf("%s%s: %lu", number == 0 ? "cases: " : "; ", case_names[number], times_of_case[number]);
     printf("\n");
+    if (faults_found + faults_missed > 0)
+        printf("faults: %u found, %u not found\n", faults_found, faults_missed);
 }
 
 /* Prints which codes and cases never came up; answers whether all did. */
@@ -380,6 +478,32 @@ static bool all_came_up(void)
     return missing == 0;
 }
 
+/* Does what a record asks for; answers whether nothing differs. */
+static bool run_record(uint8_t sort)
+{
+    switch (sort) {
+    case 1:
+        fill(next_array());
+        return true;
+    case 2: {
+        struct array *array = next_array();
+        change(array);
+        array->stale = true;
+        return true;
+    }
+    case 3:
+        return run_call();
+    case 4:
+        run_fault();
+        return true;
+    case 5:
+        miss_fault();
+        return true;
+    default:
+        unusable("a record of a sort that there is not");
+    }
+}
+
 int run_records(const struct program *of, int word_count, char **words)
 {
     program = of;
@@ -393,27 +517,11 @@ int run_records(const struct program *of, int word_count, char **words)
     signal(ACCESS_ERROR, touches_fence);
     signal(BUS_ERROR, touches_fence);
     read_case_names();
-    for (;;) {
-        switch (next_byte()) {
-        case 0:
-            if (next_number(4) != calls_made)
-                unusable("there are fewer records than there should be");
-            print_counts();
-            return all_came_up() ? 0 : DIFFERENT;
-        case 1:
-            fill(next_array());
-            break;
-        case 2: {
-            struct array *array = next_array();
-            change(array);
-            array->stale = true;
-            break;
-        }
-        case 3:
-            run_call();
-            break;
-        default:
-            unusable("a record of a sort that there is not");
-        }
-    }
+    for (uint8_t sort = next_byte(); sort != 0; sort = next_byte())
+        if (!run_record(sort))
+            return DIFFERENT;
+    if (next_number(4) != calls_made)
+        unusable("there are fewer records than there should be");
+    print_counts();
+    return all_came_up() && faults_missed == 0 ? 0 : DIFFERENT;
 }

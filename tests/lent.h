@@ -6,8 +6,12 @@
  * made to it. An array stands so that its last byte is followed by memory that cannot be touched, and its first
  * preceded by bytes that must stay.
  *
- * run_records prints how often each code and each case came up. It ends the program with status 1 at the first
- * difference, after saying what it is, and with 2 where the records cannot be read.
+ * run_records prints how often each code and each case came up. It ends with status 1 at the first difference, after
+ * saying what it is, and with 2 where the records cannot be read.
+ *
+ * Among the records there may be calls whose answer is wrong on purpose: a fault of the second program, at the first call
+ * that shows it. There the comparison has to see a difference, and says whether it does; the same call follows with its
+ * right answer. Where one is not seen, or no call shows it, the status is 1 too.
  *
  * With two words, as `holding after`, it does what a wrong library would do to an array each time that it is lent:
  * changes the byte before it, its last one (inside), or the one after it. tests/calls and tests/mpeg demand that this
@@ -60,11 +64,12 @@ struct program {
     void (*read_given)(void);   /* reads the table that the call is given */
     void (*print_given)(void);
     void (*read_back)(void);    /* reads the table that has to come back */
-    void (*compare_back)(void); /* compares it; prints the call with print_call where it differs, and ends */
+    bool (*compare_back)(void); /* whether that is the one that has come back; where it is not, tells it */
 };
 
-/* Prints which call differs and what it was given; what differs is printed after that. */
-void print_call(void);
+/* Says that this differs. Prints which call it is and what it was given, and answers true: what differs in it is to be
+ * printed after that. Where a fault is to be seen nothing is printed. */
+bool tells(const char *what);
 
 /* Makes the calls of all records and answers the status: 0 where nothing differs and every code and case came up. */
 int run_records(const struct program *program, int word_count, char **words);

@@ -767,7 +767,7 @@ mod tests {
     /// The answers to all directed calls, each with its case.
     fn seen() -> Vec<(&'static str, u64)> {
         let mut nowhere = std::io::sink();
-        let mut recorder = Recorder::new(&mut nowhere, usize::MAX, Faults::NONE);
+        let mut recorder = Recorder::new(&mut nowhere, usize::MAX, Vec::new());
         recorder.begin(&crate::records::CASES).unwrap();
         all(&mut recorder).unwrap();
         std::mem::take(&mut recorder.seen)

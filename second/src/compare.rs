@@ -5,22 +5,24 @@
 //! in place. psptrace gets its capture through a pipe, in pieces, psplist as a file, so both ways of reading are met.
 //! The first difference ends the comparison; which one is first does not depend on the threads, because jobs are handed
 //! out in order and those handed out are finished.
+//!
+//! Deliberate faults are looked for in the same run: where a job has shown no difference, what the proved programs have
+//! printed is compared once more, with what this program prints with each fault that no earlier job has shown. So a proved
+//! program is started once for a job, however many faults there are.
 
 use std::collections::BTreeMap;
 use std::fs::{self, File};
 use std::io::{self, Write};
 use std::path::{Path, PathBuf};
 use std::process::{Command, Output, Stdio};
-use std::sync::Mutex;
+use std::sync::{Mutex, MutexGuard};
 use std::thread;
 
-use crate::directed::NamedCapture;
-use crate::faults::Faults;
+use crate::faults::{Fault, Faults, Listed};
 use crate::listing::{self, Detail};
 use crate::packet::Refusal;
 use crate::plan::{Job, Plan};
-use crate::sender;
-use crate::sends::SendCase;
+use crate::sender::{self, Order};
 
 const THREADS: usize = 2;
 /// Refusal numbers that entries and files have to show, and 0.
@@ -28,22 +30,18 @@ const EXPECTED: [u8; 22] = [0, 2, 3, 4, 5, 6, 7, 8, 9, 10, 11, 12, 15, 21, 22, 2
 /// Those that sends have to show.
 const EXPECTED_OF_SENDS: [u8; 7] = [0, 31, 32, 33, 35, 41, 43];
 
-/// What is compared with what: the commands of the proved programs, in words, and the fault in this one.
+/// The commands of the proved programs, in words.
 pub struct Setup {
     pub list: Vec<String>,
     pub trace: Vec<String>,
     pub send: Vec<String>,
-    pub faults: Faults,
 }
 
-/// How a comparison ended.
-pub enum Outcome {
-    /// Nothing differs and every number came up.
-    Equal,
-    /// Something differs; how many captures and sends had been handed out, the one that differs included.
-    Different { captures: usize, sends: usize },
-    /// Nothing differs, but some numbers never came up.
-    Incomplete,
+/// How many captures and sends have been handed out, the one in hand included. Of two, the later one has more of both.
+#[derive(Clone, Copy, Default, PartialEq, Eq, PartialOrd, Ord)]
+struct Turn {
+    captures: usize,
+    sends: usize,
 }
 
 /// What has been compared so far.
@@ -57,19 +55,24 @@ struct Tally {
     send_refusals: BTreeMap<u8, usize>,
 }
 
-/// Two outputs that should be the same.
-struct Difference {
+/// What a proved program has printed, by the program's name.
+struct Printed {
     program: &'static str,
-    proved: Vec<u8>,
-    second: Vec<u8>,
-    /// What the proved program said on standard error, and how it ended if it was stopped.
+    bytes: Vec<u8>,
+    /// Whether it was stopped by a signal, and how it ended with what it said on standard error.
+    stopped: bool,
     remark: String,
 }
 
-/// A difference with the job that showed it, and how many captures and sends had been handed out by then.
+/// An output that is not what it should be.
+struct Difference {
+    proved: Printed,
+    second: Vec<u8>,
+}
+
+/// A difference with the job that showed it.
 struct Finding {
-    captures: usize,
-    sends: usize,
+    turn: Turn,
     job: Job,
     difference: Difference,
 }
@@ -77,23 +80,25 @@ struct Finding {
 /// What the threads share.
 struct Shared {
     plan: Plan,
-    captures: usize,
-    sends: usize,
+    turn: Turn,
     tally: Tally,
     findings: Vec<Finding>,
+    /// Each fault with the first job that showed it.
+    faults: Vec<(Listed, Option<Turn>)>,
     failure: Option<io::Error>,
 }
 
-/// Runs the whole comparison and prints what came of it.
-pub fn compare(setup: &Setup, seed: u64, wanted: usize) -> io::Result<Outcome> {
+/// Runs the whole comparison and prints what came of it; answers whether nothing differs, every number came up, and each
+/// of the faults was found.
+pub fn compare(setup: &Setup, faults: Vec<Listed>, seed: u64, wanted: usize) -> io::Result<bool> {
     let folder = std::env::temp_dir().join(format!("second-compare-{}", std::process::id()));
     fs::create_dir_all(&folder)?;
     let shared = Mutex::new(Shared {
         plan: Plan::new(seed, wanted),
-        captures: 0,
-        sends: 0,
+        turn: Turn::default(),
         tally: Tally::default(),
         findings: Vec::new(),
+        faults: faults.into_iter().map(|listed| (listed, None)).collect(),
         failure: None,
     });
     thread::scope(|scope| {
@@ -111,92 +116,121 @@ pub fn compare(setup: &Setup, seed: u64, wanted: usize) -> io::Result<Outcome> {
         let _ = fs::remove_dir(&folder);
         return Err(failure);
     }
-    if let Some(first) = shared.findings.iter().min_by_key(|finding| finding.captures + finding.sends) {
+    if let Some(first) = shared.findings.iter().min_by_key(|finding| finding.turn) {
         report_difference(first, &folder)?;
-        return Ok(Outcome::Different { captures: first.captures, sends: first.sends });
+        return Ok(false);
     }
     fs::remove_dir(&folder)?;
-    Ok(report_tally(&shared.tally))
+    let complete = report_tally(&shared.tally);
+    Ok(report_faults(&shared.faults) && complete)
 }
 
 /// Takes jobs until there are none, or something differs.
 fn work(setup: &Setup, shared: &Mutex<Shared>, input: &Path) {
-    while let Some((captures, sends, job)) = next_job(shared) {
-        let result = match &job {
-            Job::Capture(capture) => compare_capture(setup, capture, captures, input),
-            Job::Send(case) => compare_send(setup, case, input),
+    while let Some((turn, job)) = next_job(shared) {
+        let compared = run_proved(setup, &job, turn, input).map(|proved| compare_job(&job, proved));
+        let proved = match compared {
+            Ok(Ok(proved)) => proved,
+            Ok(Err(difference)) => {
+                lock(shared).findings.push(Finding { turn, job, difference: *difference });
+                continue;
+            }
+            Err(failure) => {
+                lock(shared).failure = Some(failure);
+                continue;
+            }
         };
-        let mut shared = shared.lock().expect("no thread stopped");
-        match result {
-            Ok((tally, None)) => shared.tally.add(tally),
-            Ok((_, Some(difference))) => shared.findings.push(Finding { captures, sends, job, difference }),
-            Err(failure) => shared.failure = Some(failure),
+        let tally = Tally::of(&job);
+        lock(shared).tally.add(tally);
+        look_for_faults(shared, turn, &job, &proved);
+    }
+}
+
+/// Notes which faults a job shows, of those that none before it has shown.
+fn look_for_faults(shared: &Mutex<Shared>, turn: Turn, job: &Job, proved: &[Printed]) {
+    let is_open = |first: &Option<Turn>| first.is_none_or(|first| turn < first);
+    let open: Vec<Fault> =
+        lock(shared).faults.iter().filter(|(_, first)| is_open(first)).map(|((fault, _, _), _)| *fault).collect();
+    let shown: Vec<Fault> = open.into_iter().filter(|fault| shows(job, proved, Faults::of(*fault))).collect();
+    for ((fault, _, _), first) in &mut lock(shared).faults {
+        if shown.contains(fault) && is_open(first) {
+            *first = Some(turn);
         }
     }
 }
 
-/// The next job, with the number of captures and sends handed out.
-fn next_job(shared: &Mutex<Shared>) -> Option<(usize, usize, Job)> {
-    let mut shared = shared.lock().expect("no thread stopped");
+fn lock(shared: &Mutex<Shared>) -> MutexGuard<'_, Shared> {
+    shared.lock().expect("no thread stopped")
+}
+
+/// The next job, with how many have been handed out.
+fn next_job(shared: &Mutex<Shared>) -> Option<(Turn, Job)> {
+    let mut shared = lock(shared);
     if shared.failure.is_some() || !shared.findings.is_empty() {
         return None;
     }
     let job = shared.plan.next()?;
     match job {
-        Job::Capture(_) => shared.captures += 1,
-        Job::Send(_) => shared.sends += 1,
+        Job::Capture(_) => shared.turn.captures += 1,
+        Job::Send(_) => shared.turn.sends += 1,
     }
-    Some((shared.captures, shared.sends, job))
+    Some((shared.turn, job))
 }
 
-type Compared = io::Result<(Tally, Option<Difference>)>;
-
-/// Compares psptrace and psplist on one capture.
-fn compare_capture(setup: &Setup, capture: &NamedCapture, index: usize, input: &Path) -> Compared {
-    let trace = listing::run(&capture.file, Detail::Trace, setup.faults);
-    let list = listing::run(&capture.file, Detail::List, setup.faults);
-    let tally = Tally::of_listing(&list);
-    let piece = [65_536, 4_096, 999, 60_000][index % 4];
-    let proved = run_with_pipe(&setup.trace, &capture.file, piece)?;
-    if let Some(difference) = difference("psptrace", proved, trace.text.into_bytes()) {
-        return Ok((tally, Some(difference)));
-    }
-    fs::write(input, &capture.file)?;
-    let proved = run_with_file(&setup.list, &[], input)?;
-    Ok((tally, difference("psplist", proved, list.text.into_bytes())))
-}
-
-/// Compares pspsend on one frames file: the capture on standard output, and the line on standard error.
-fn compare_send(setup: &Setup, case: &SendCase, input: &Path) -> Compared {
-    let order = case.order;
-    let words = [order.session.to_string(), order.flow.to_string(), order.number.to_string(), order.limit.to_string()];
-    fs::write(input, &case.file)?;
-    let proved = run_with_file(&setup.send, &words, input)?;
-    let (code, second) = match sender::send_file(order, &case.file, setup.faults) {
-        Ok(capture) => (0, Output { status: proved.status, stdout: capture, stderr: Vec::new() }),
-        Err(Refusal(number)) => {
-            let stderr = format!("refused {number}\n").into_bytes();
-            (number, Output { status: proved.status, stdout: Vec::new(), stderr })
+/// What the proved programs print for a job: psptrace and psplist for a capture; for a frames file pspsend, on standard
+/// error and on standard output.
+fn run_proved(setup: &Setup, job: &Job, turn: Turn, input: &Path) -> io::Result<Vec<Printed>> {
+    match job {
+        Job::Capture(capture) => {
+            let piece = [65_536, 4_096, 999, 60_000][turn.captures % 4];
+            let trace = run_with_pipe(&setup.trace, &capture.file, piece)?;
+            fs::write(input, &capture.file)?;
+            let list = run_with_file(&setup.list, &[], input)?;
+            Ok(vec![printed("psptrace", &trace, &trace.stdout), printed("psplist", &list, &list.stdout)])
         }
-    };
-    let mut tally = Tally { sends: 1, ..Tally::default() };
-    tally.send_refusals.insert(code, 1);
-    if proved.stderr != second.stderr {
-        let remark = ending(&proved);
-        let difference =
-            Difference { program: "pspsend (standard error)", proved: proved.stderr, second: second.stderr, remark };
-        return Ok((tally, Some(difference)));
+        Job::Send(case) => {
+            let Order { session, flow, number, limit } = case.order;
+            let words = [session.to_string(), flow.to_string(), number.to_string(), limit.to_string()];
+            fs::write(input, &case.file)?;
+            let sent = run_with_file(&setup.send, &words, input)?;
+            Ok(vec![printed("pspsend (standard error)", &sent, &sent.stderr), printed("pspsend", &sent, &sent.stdout)])
+        }
     }
-    Ok((tally, difference("pspsend", proved, second.stdout)))
 }
 
-/// None where a program printed what it should and was not stopped by a signal.
-fn difference(program: &'static str, proved: Output, second: Vec<u8>) -> Option<Difference> {
-    if proved.stdout == second && proved.status.code().is_some() {
-        return None;
+fn printed(program: &'static str, output: &Output, bytes: &[u8]) -> Printed {
+    Printed { program, bytes: bytes.to_vec(), stopped: output.status.code().is_none(), remark: ending(output) }
+}
+
+/// What this program has for a job, in the place of each of these.
+fn second_prints(job: &Job, faults: Faults) -> Vec<Vec<u8>> {
+    match job {
+        Job::Capture(capture) => [Detail::Trace, Detail::List]
+            .map(|detail| listing::run(&capture.file, detail, faults).text.into_bytes())
+            .into(),
+        Job::Send(case) => match sender::send_file(case.order, &case.file, faults) {
+            Ok(capture) => vec![Vec::new(), capture],
+            Err(Refusal(number)) => vec![format!("refused {number}\n").into_bytes(), Vec::new()],
+        },
     }
-    let remark = ending(&proved);
-    Some(Difference { program, proved: proved.stdout, second, remark })
+}
+
+/// Gives back what the proved programs have printed, where it is what it should be.
+fn compare_job(job: &Job, proved: Vec<Printed>) -> Result<Vec<Printed>, Box<Difference>> {
+    let second = second_prints(job, Faults::NONE);
+    let differs = |(proved, second): (&Printed, &Vec<u8>)| proved.stopped || proved.bytes != *second;
+    match proved.iter().zip(&second).position(differs) {
+        None => Ok(proved),
+        Some(place) => {
+            let proved = proved.into_iter().nth(place).expect("a place of the list");
+            Err(Box::new(Difference { proved, second: second[place].clone() }))
+        }
+    }
+}
+
+/// Whether this program with the fault prints another thing for a job than the proved programs.
+fn shows(job: &Job, proved: &[Printed], faults: Faults) -> bool {
+    second_prints(job, faults).iter().zip(proved).any(|(second, proved)| *second != proved.bytes)
 }
 
 fn ending(proved: &Output) -> String {
@@ -237,6 +271,17 @@ fn run_with_pipe(words: &[String], input: &[u8], piece: usize) -> io::Result<Out
 }
 
 impl Tally {
+    fn of(job: &Job) -> Tally {
+        match job {
+            Job::Capture(capture) => Tally::of_listing(&listing::run(&capture.file, Detail::List, Faults::NONE)),
+            Job::Send(case) => {
+                let sent = sender::send_file(case.order, &case.file, Faults::NONE);
+                let code = sent.map_or_else(|Refusal(number)| number, |_| 0);
+                Tally { sends: 1, send_refusals: [(code, 1)].into(), ..Tally::default() }
+            }
+        }
+    }
+
     fn of_listing(list: &listing::Listing) -> Tally {
         let mut tally =
             Tally { captures: 1, entries: list.entries.len(), data_entries: list.data_entries(), ..Tally::default() };
@@ -263,8 +308,8 @@ impl Tally {
     }
 }
 
-/// Prints how much was compared and how often each number came up.
-fn report_tally(tally: &Tally) -> Outcome {
+/// Prints how much was compared and how often each number came up; answers whether all did.
+fn report_tally(tally: &Tally) -> bool {
     println!(
         "compared {} captures with {} entries, {} of them data entries, and {} sends: no difference",
         tally.captures, tally.entries, tally.data_entries, tally.sends
@@ -273,9 +318,26 @@ fn report_tally(tally: &Tally) -> Outcome {
         + print_table("send refusal", &tally.send_refusals, &EXPECTED_OF_SENDS);
     if missing > 0 {
         println!("{missing} numbers never came up");
-        return Outcome::Incomplete;
     }
-    Outcome::Equal
+    missing == 0
+}
+
+/// Prints which job was the first to show each fault; answers whether each has one.
+fn report_faults(faults: &[(Listed, Option<Turn>)]) -> bool {
+    for ((_, name, _), first) in faults {
+        match first {
+            Some(Turn { captures, sends: 0 }) => println!("fault {name}: found after {captures} captures"),
+            Some(Turn { captures, sends }) => {
+                println!("fault {name}: found after {captures} captures and {sends} sends");
+            }
+            None => println!("fault {name}: NOT FOUND"),
+        }
+    }
+    let missed = faults.iter().filter(|(_, first)| first.is_none()).count();
+    if !faults.is_empty() {
+        println!("faults: {} found, {missed} not found", faults.len() - missed);
+    }
+    missed == 0
 }
 
 /// Prints a line for each number, expected ones that never came up included; answers how many those are.
@@ -290,14 +352,14 @@ fn print_table(title: &str, seen: &BTreeMap<u8, usize>, expected: &[u8]) -> usiz
 
 /// Prints where a difference is, and keeps the input that shows it.
 fn report_difference(finding: &Finding, folder: &Path) -> io::Result<()> {
-    let Difference { program, proved, second, remark } = &finding.difference;
+    let Difference { proved: Printed { program, bytes, remark, .. }, second } = &finding.difference;
     let (name, file, ending) = match &finding.job {
         Job::Capture(capture) => (format!("capture {}", capture.name), &capture.file, "capture"),
         Job::Send(case) => (format!("send {} {:?}", case.name, case.order), &case.file, "frames"),
     };
-    let (captures, sends) = (finding.captures, finding.sends);
+    let Turn { captures, sends } = finding.turn;
     println!("difference after {captures} captures and {sends} sends: {program}, {name}");
-    print_first_difference(proved, second);
+    print_first_difference(bytes, second);
     println!("{remark}");
     let kept: PathBuf = folder.join(format!("{captures}-{sends}.{ending}"));
     fs::write(&kept, file)?;

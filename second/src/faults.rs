@@ -1,10 +1,10 @@
 //! Deliberate faults: ways to make this program wrong in one place.
 //!
-//! A comparison is worth as much as the faults it finds. Each fault here is asked for by name (`--fault NAME`) and
-//! consulted at the one place in the code that it spoils. `tests/faults` demands that the comparison on captures and
-//! frames files finds every one that these can show, `tests/calls` that the comparison from C finds those that calls can
-//! show, and `tests/mpeg` those of MPEG packets. Several of them are document 01's 'Wrong turns', others are limits off by
-//! one, refusals in a wrong order, and rules left out.
+//! A comparison is worth as much as the faults it finds. Each fault here has a name, and is consulted at the one place in
+//! the code that it spoils. `tests/faults` demands that the comparison on captures and frames files finds every one that
+//! these can show, `tests/calls` that the comparison from C finds those that calls can show, and `tests/mpeg` those of MPEG
+//! packets. Several of them are document 01's 'Wrong turns', others are limits off by one, refusals in a wrong order, and
+//! rules left out.
 
 /// One deliberate fault.
 #[derive(Clone, Copy, Debug, PartialEq, Eq)]
@@ -164,8 +164,11 @@ pub enum Fault {
     MpegByteBehindFramesCleared,
 }
 
-/// The faults that captures and frames files can show, each with its name and a sentence on what it does.
-pub const FILES: [(Fault, &str, &str); 62] = [
+/// A fault with its name and a sentence on what it does.
+pub type Listed = (Fault, &'static str, &'static str);
+
+/// The faults that captures and frames files can show.
+pub const FILES: [Listed; 62] = [
     (Fault::LongestPacketRefused, "longest-packet-refused", "A packet of 4,100 bytes is refused as too long."),
     (
         Fault::SessionZeroLookedUp,
@@ -251,7 +254,7 @@ pub const FILES: [(Fault, &str, &str); 62] = [
 ];
 
 /// The faults that only calls can show, with tables, slices and positions of the caller's.
-pub const CALLS: [(Fault, &str, &str); 32] = [
+pub const CALLS: [Listed; 32] = [
     (Fault::ForeignKindTrusted, "foreign-kind-trusted", "A row of a kind above 2 is taken for an open PSP row."),
     (Fault::KindOfSixteenBits, "kind-of-16-bits", "A row's kind is judged by its lower 16 bits."),
     (Fault::ForeignMarkTrusted, "foreign-mark-trusted", "A flow's mark above 1 is taken for 1."),
@@ -303,7 +306,7 @@ pub const CALLS: [(Fault, &str, &str); 32] = [
 ];
 
 /// The faults that writing and reading frames in MPEG packets shows.
-pub const MPEG: [(Fault, &str, &str); 50] = [
+pub const MPEG: [Listed; 50] = [
     (Fault::MpegPointerOneOff, "mpeg-pointer-one-off", "A pointer is one more than what is left of the frame."),
     (
         Fault::Mpeg183WithoutPointer,
@@ -418,7 +421,7 @@ const NO_CALL_SHOWS: [Fault; 9] = [
 ];
 
 /// The faults that the calls of `tests/calls` can show.
-pub fn shown_by_calls() -> impl Iterator<Item = (Fault, &'static str, &'static str)> {
+pub fn shown_by_calls() -> impl Iterator<Item = Listed> {
     FILES.into_iter().chain(CALLS).filter(|(fault, _, _)| !NO_CALL_SHOWS.contains(fault))
 }
 
@@ -435,15 +438,5 @@ impl Faults {
 
     pub fn has(self, fault: Fault) -> bool {
         self.0 == Some(fault)
-    }
-
-    /// The fault of the name given.
-    pub fn named(name: &str) -> Option<Faults> {
-        FILES
-            .iter()
-            .chain(&CALLS)
-            .chain(&MPEG)
-            .find(|(_, known, _)| *known == name)
-            .map(|(fault, _, _)| Faults(Some(*fault)))
     }
 }

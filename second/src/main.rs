@@ -38,8 +38,8 @@ use std::io::{self, Read, Write};
 use std::path::Path;
 use std::process::ExitCode;
 
-use compare::{Outcome, Setup};
-use faults::{Fault, Faults};
+use compare::Setup;
+use faults::{Faults, Listed};
 use listing::Detail;
 use packet::Refusal;
 use plan::{Job, Plan};
@@ -51,16 +51,17 @@ second list < CAPTURE
 second trace < CAPTURE
 second check KIND TRANSPORT < PACKET
 second send SESSION FLOW NUMBER L < FRAMES > CAPTURE
-second calls [--fault NAME] SEED COUNT > RECORDS
+second calls [--faults] SEED COUNT > RECORDS
 second generate SEED COUNT FOLDER
-second compare [--fault NAME] --list COMMAND --trace COMMAND --send COMMAND SEED COUNT
-second mpeg [--fault NAME] SEED COUNT > RECORDS
+second compare [--faults] --list COMMAND --trace COMMAND --send COMMAND SEED COUNT
+second mpeg [--faults] SEED COUNT > RECORDS
 second stream < FRAMES > PACKETS
 second faults files
 second faults calls
 second faults mpeg";
 
-/// Status for a comparison that found a difference, or missed a refusal number. A refusal alone is an answer: status 0.
+/// Status for a comparison that found a difference, or missed a refusal number or a fault. A refusal alone is an answer:
+/// status 0.
 const DIFFERENT: u8 = 1;
 /// Status for words that make no command, and for files or programs that cannot be used.
 const UNUSABLE: u8 = 2;
@@ -88,8 +89,8 @@ fn run(words: &[String]) -> io::Result<u8> {
             number: number(first)?,
             limit: number(limit)?,
         }),
-        ["calls", rest @ ..] => calls(rest, record_calls),
-        ["mpeg", rest @ ..] => calls(rest, record_mpeg),
+        ["calls", rest @ ..] => calls(rest, faults::shown_by_calls().collect(), record_calls),
+        ["mpeg", rest @ ..] => calls(rest, faults::MPEG.to_vec(), record_mpeg),
         ["stream"] => stream(),
         ["generate", seed, count, folder] => generate(number(seed)?, number(count)?, Path::new(folder)),
         ["compare", rest @ ..] => compare(rest),
@@ -149,10 +150,11 @@ fn stream() -> io::Result<u8> {
     Ok(0)
 }
 
-/// Writes records of calls for `tests/calls.c` or `tests/mpeg.c`: the directed ones, then others by dice.
-fn calls(words: &[&str], record: fn(&mut Recorder, u64) -> Recorded<()>) -> io::Result<u8> {
+/// Writes records of calls for `tests/calls.c` or `tests/mpeg.c`: the directed ones, then others by dice; with `--faults`
+/// the faults too, each at the first call that shows it.
+fn calls(words: &[&str], faults: Vec<Listed>, record: fn(&mut Recorder, u64) -> Recorded<()>) -> io::Result<u8> {
     let mut words = words.to_vec();
-    let faults = faults_named(take_option(&mut words, "--fault"))?;
+    let faults = if take_word(&mut words, "--faults") { faults } else { Vec::new() };
     let [seed, count] = words.as_slice() else {
         return Err(unusable(USAGE));
     };
@@ -180,7 +182,7 @@ fn record_mpeg(recorder: &mut Recorder, seed: u64) -> Recorded<()> {
 fn write_records(
     output: &mut dyn Write,
     count: usize,
-    faults: Faults,
+    faults: Vec<Listed>,
     record: impl FnOnce(&mut Recorder) -> Recorded<()>,
 ) -> io::Result<()> {
     let mut recorder = Recorder::new(output, count, faults);
@@ -213,38 +215,23 @@ fn generate(seed: u64, count: usize, folder: &Path) -> io::Result<u8> {
 
 fn compare(words: &[&str]) -> io::Result<u8> {
     let mut words = words.to_vec();
-    let fault = take_option(&mut words, "--fault");
-    let faults = faults_named(fault)?;
+    let faults = if take_word(&mut words, "--faults") { faults::FILES.to_vec() } else { Vec::new() };
     let mut program = |option: &str| -> io::Result<Vec<String>> {
         let command = take_option(&mut words, option).ok_or_else(|| unusable(USAGE))?;
         Ok(command.split_whitespace().map(str::to_string).collect())
     };
-    let setup = Setup { list: program("--list")?, trace: program("--trace")?, send: program("--send")?, faults };
+    let setup = Setup { list: program("--list")?, trace: program("--trace")?, send: program("--send")? };
     let [seed, count] = words.as_slice() else {
         return Err(unusable(USAGE));
     };
-    let outcome = compare::compare(&setup, number(seed)?, number(count)?)?;
-    if let Some(name) = fault {
-        match outcome {
-            Outcome::Different { captures, sends: 0 } => println!("fault {name}: found after {captures} captures"),
-            Outcome::Different { captures, sends } => {
-                println!("fault {name}: found after {captures} captures and {sends} sends");
-            }
-            Outcome::Equal | Outcome::Incomplete => println!("fault {name}: not found"),
-        }
-    }
-    Ok(match outcome {
-        Outcome::Equal => 0,
-        Outcome::Different { .. } | Outcome::Incomplete => DIFFERENT,
-    })
+    let agrees = compare::compare(&setup, faults, number(seed)?, number(count)?)?;
+    Ok(if agrees { 0 } else { DIFFERENT })
 }
 
-/// The fault of the name given, if one is given.
-fn faults_named(name: Option<&str>) -> io::Result<Faults> {
-    match name {
-        None => Ok(Faults::NONE),
-        Some(name) => Faults::named(name).ok_or_else(|| unusable(&format!("there is no fault {name}"))),
-    }
+/// Takes a word out of the words; answers whether it was there.
+fn take_word(words: &mut Vec<&str>, wanted: &str) -> bool {
+    let place = words.iter().position(|word| *word == wanted);
+    place.map(|place| words.remove(place)).is_some()
 }
 
 /// Takes an option and the word after it out of the words; answers that word.
@@ -257,7 +244,7 @@ fn take_option<'a>(words: &mut Vec<&'a str>, option: &str) -> Option<&'a str> {
     Some(words.remove(place))
 }
 
-fn list_faults(faults: impl Iterator<Item = (Fault, &'static str, &'static str)>) -> io::Result<u8> {
+fn list_faults(faults: impl Iterator<Item = Listed>) -> io::Result<u8> {
     for (_, name, sentence) in faults {
         println!("{name}: {sentence}");
     }

@@ -842,7 +842,7 @@ mod tests {
     #[test]
     fn each_case_but_those_of_the_dice_comes_up_and_answers_what_it_is_there_for() {
         let mut nowhere = std::io::sink();
-        let mut recorder = Recorder::new(&mut nowhere, usize::MAX, Faults::NONE);
+        let mut recorder = Recorder::new(&mut nowhere, usize::MAX, Vec::new());
         recorder.begin(&CASES).unwrap();
         all(&mut recorder).unwrap();
         let seen = std::mem::take(&mut recorder.seen);

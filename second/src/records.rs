@@ -10,7 +10,10 @@
 //!   that was given back last; the numbers that it is given, 8 bytes each; the numbers that it has to answer; where the
 //!   call has a table, 0 for the table as given or 1 and the one that has to come back; how many changes (1 byte), each
 //!   as in a write.
-//! - 0, the end: how many calls there were (4 bytes).
+//! - 4, a fault: its name, after a byte that says how long it is, and then a call whose answer has this fault. The same
+//!   call follows with its right answer, and before it writes that put back what the fault's changes have overwritten.
+//! - 5, a fault that no call shows: its name.
+//! - 0, the end: how many calls there were (4 bytes), those with faults not counted.
 //!
 //! A table is written row by row: ID and kind, 4 bytes each; then for each of its flows the mark, the expected number and
 //! how many bytes it holds, 2 bytes each. Numbers are big-endian. Arrays keep what they have from call to call; between
@@ -18,11 +21,12 @@
 //! anew: what the call before wrote there would hide a call that writes the same though it is refused, or does not write
 //! though it should.
 
+use std::collections::BTreeMap;
 use std::io::{self, Write};
 
 use crate::calls::{self, Answer, Array, Arrival, Change, Lent, MpegWriting, Sending, HOLDING_BYTES};
 use crate::dice::Dice;
-use crate::faults::Faults;
+use crate::faults::{Faults, Listed};
 use crate::packet::MPEG_BYTES;
 use crate::raw::RawTable;
 
@@ -127,6 +131,13 @@ enum Call {
     MpegNull = 9,
 }
 
+impl Change {
+    /// Where its bytes begin in what the array has.
+    fn start(&self) -> usize {
+        self.place * self.array.width()
+    }
+}
+
 impl Array {
     const ALL: [Array; 6] =
         [Array::Holding, Array::Packet, Array::Output, Array::Lengths, Array::Frames, Array::FrameLengths];
@@ -172,18 +183,38 @@ impl From<io::Error> for Stop {
 
 pub type Recorded<T> = Result<T, Stop>;
 
+/// What each array has, big-endian.
+type Arrays = [Vec<u8>; 6];
+
+/// What a call answers, given what the arrays have, with a fault or without.
+type Answering<'a> = &'a dyn Fn(&Arrays, Faults) -> Answer;
+
+/// A call without its answer.
+struct Asked<'a> {
+    case: &'static str,
+    call: Call,
+    table: Option<&'a RawTable>,
+    inputs: &'a [u64],
+}
+
 /// Writes records, and keeps what the arrays and the table have after each.
+///
+/// Faults that are to be shown are tried at each call until one differs from the right answer. So all are tried in one run:
+/// up to there a program with the fault has answered every call as it should, and has been asked the same ones.
 pub struct Recorder<'a> {
     output: &'a mut dyn Write,
-    faults: Faults,
+    /// The faults that no call has shown yet.
+    faults: Vec<Listed>,
     wanted: usize,
     made: usize,
     /// The names of the cases, in the order in which the stream begins with them.
     cases: &'static [&'static str],
-    /// What each array has, big-endian. Output and lengths are only ever written, so what they have does not matter.
-    arrays: [Vec<u8>; 6],
+    /// Output and lengths are only ever written, so no answer depends on what they have.
+    arrays: Arrays,
     /// The table that was given back last; at first it is empty.
     table: RawTable,
+    /// Whether who makes the calls has that table; after a call with a fault it may have another.
+    table_is_known: bool,
     /// For the seeds of what is filled anew before a call.
     dice: Dice,
     #[cfg(test)]
@@ -191,7 +222,7 @@ pub struct Recorder<'a> {
 }
 
 impl<'a> Recorder<'a> {
-    pub fn new(output: &'a mut dyn Write, wanted: usize, faults: Faults) -> Recorder<'a> {
+    pub fn new(output: &'a mut dyn Write, wanted: usize, faults: Vec<Listed>) -> Recorder<'a> {
         Recorder {
             output,
             faults,
@@ -200,6 +231,7 @@ impl<'a> Recorder<'a> {
             cases: &[],
             arrays: Array::ALL.map(|array| vec![0; array.capacity() * array.width()]),
             table: RawTable::default(),
+            table_is_known: true,
             dice: Dice::new(0x5EED),
             #[cfg(test)]
             seen: Vec::new(),
@@ -220,8 +252,11 @@ impl<'a> Recorder<'a> {
         Ok(())
     }
 
-    /// Writes the end.
+    /// Writes the faults that are left, and the end.
     pub fn end(&mut self) -> io::Result<()> {
+        for (_, name, _) in std::mem::take(&mut self.faults) {
+            self.name_fault(5, name)?;
+        }
         self.output.write_all(&[0])?;
         self.output.write_all(&(self.made as u32).to_be_bytes())?;
         self.output.flush()
@@ -260,53 +295,110 @@ impl<'a> Recorder<'a> {
     fn put(&mut self, array: Array, bytes: &[u8]) -> Recorded<()> {
         if self.arrays[array as usize][..bytes.len()] != *bytes {
             self.output.write_all(&[2])?;
-            self.change(&Change { array, place: 0, bytes: bytes.to_vec() })?;
+            let change = Change { array, place: 0, bytes: bytes.to_vec() };
+            self.write_change(&change)?;
+            self.keep(&change);
         }
         Ok(())
     }
 
-    fn change(&mut self, change: &Change) -> Recorded<()> {
-        let width = change.array.width();
+    fn write_change(&mut self, change: &Change) -> Recorded<()> {
         self.output.write_all(&[change.array.number()])?;
         self.output.write_all(&(change.place as u32).to_be_bytes())?;
-        self.output.write_all(&((change.bytes.len() / width) as u32).to_be_bytes())?;
+        self.output.write_all(&((change.bytes.len() / change.array.width()) as u32).to_be_bytes())?;
         self.output.write_all(&change.bytes)?;
-        let start = change.place * width;
-        self.arrays[change.array as usize][start..start + change.bytes.len()].copy_from_slice(&change.bytes);
         Ok(())
     }
 
-    /// Writes a call, and takes over the table and the changes of its answer.
-    fn ask(
-        &mut self,
-        case: &'static str,
-        call: Call,
-        table: Option<&RawTable>,
-        inputs: &[u64],
-        answer: Answer,
-    ) -> Recorded<Answer> {
+    fn keep(&mut self, change: &Change) {
+        self.arrays[change.array as usize][change.start()..][..change.bytes.len()].copy_from_slice(&change.bytes);
+    }
+
+    /// Writes a call with its answer, and takes over the table and the changes. Before that the beginnings of the arrays
+    /// named are filled anew, and each fault that this call shows is written.
+    fn ask(&mut self, asked: Asked, refreshed: &[Array], answering: Answering) -> Recorded<Answer> {
         if self.made == self.wanted {
             return Err(Stop::Enough);
         }
         self.made += 1;
-        let number = self.cases.iter().position(|known| *known == case).expect("a case of the list");
-        self.output.write_all(&[3, (number >> 8) as u8, number as u8, call as u8])?;
-        if let Some(table) = table {
-            self.write_table(*table == self.table, 1, table)?;
+        let answer = answering(&self.arrays, Faults::NONE);
+        for array in refreshed {
+            self.refresh(*array, &answer)?;
         }
-        self.write_numbers(inputs)?;
-        self.write_numbers(&answer.numbers)?;
-        if let (Some(given), Some(back)) = (table, &answer.table) {
-            self.write_table(given == back, 0, back)?;
-            self.table = *back;
-        }
-        self.output.write_all(&[answer.changes.len() as u8])?;
+        self.try_faults(&asked, &answer, answering)?;
+        self.write_call(&asked, &answer)?;
         for change in &answer.changes {
-            self.change(change)?;
+            self.keep(change);
+        }
+        if let Some(back) = &answer.table {
+            self.table = *back;
+            self.table_is_known = true;
         }
         #[cfg(test)]
-        self.seen.push((case, answer.code()));
+        self.seen.push((asked.case, answer.code()));
         Ok(answer)
+    }
+
+    fn write_call(&mut self, asked: &Asked, answer: &Answer) -> Recorded<()> {
+        let number = self.cases.iter().position(|known| *known == asked.case).expect("a case of the list");
+        self.output.write_all(&[3, (number >> 8) as u8, number as u8, asked.call as u8])?;
+        if let Some(table) = asked.table {
+            self.write_table(self.table_is_known && *table == self.table, 1, table)?;
+        }
+        self.write_numbers(asked.inputs)?;
+        self.write_numbers(&answer.numbers)?;
+        if let (Some(given), Some(back)) = (asked.table, &answer.table) {
+            self.write_table(given == back, 0, back)?;
+        }
+        self.output.write_all(&[answer.changes.len() as u8])?;
+        answer.changes.iter().try_for_each(|change| self.write_change(change))
+    }
+
+    /// Writes the call with the answer of each fault that it shows, and puts back what that changes.
+    fn try_faults(&mut self, asked: &Asked, right: &Answer, answering: Answering) -> Recorded<()> {
+        let mut left = Vec::new();
+        for listed in std::mem::take(&mut self.faults) {
+            let wrong = answering(&self.arrays, Faults::of(listed.0));
+            if !self.differ(&wrong, right) {
+                left.push(listed);
+                continue;
+            }
+            self.name_fault(4, listed.1)?;
+            self.write_call(asked, &wrong)?;
+            self.table_is_known = asked.table.is_none() && self.table_is_known;
+            for change in &wrong.changes {
+                self.output.write_all(&[2])?;
+                let bytes = self.arrays[change.array as usize][change.start()..][..change.bytes.len()].to_vec();
+                self.write_change(&Change { bytes, ..*change })?;
+            }
+        }
+        self.faults = left;
+        Ok(())
+    }
+
+    fn name_fault(&mut self, sort: u8, name: &str) -> io::Result<()> {
+        self.output.write_all(&[sort, name.len() as u8])?;
+        self.output.write_all(name.as_bytes())
+    }
+
+    /// Whether two answers differ in a number, in the table, or in what the arrays have afterwards.
+    fn differ(&self, one: &Answer, other: &Answer) -> bool {
+        if (&one.numbers, &one.table) != (&other.numbers, &other.table) {
+            return true;
+        }
+        one.changes != other.changes && self.written(one) != self.written(other)
+    }
+
+    /// Each byte that an answer makes another than it was, by array and place.
+    fn written(&self, answer: &Answer) -> BTreeMap<(u8, usize), u8> {
+        let mut written = BTreeMap::new();
+        for change in &answer.changes {
+            for (place, byte) in (change.start()..).zip(&change.bytes) {
+                written.insert((change.array.number(), place), *byte);
+            }
+        }
+        written.retain(|(array, place), byte| self.arrays[usize::from(*array)][*place] != *byte);
+        written
     }
 
     fn write_numbers(&mut self, numbers: &[u64]) -> Recorded<()> {
@@ -337,19 +429,20 @@ impl<'a> Recorder<'a> {
 
     pub fn check(&mut self, case: &'static str, kind: u32, arrival: &Arrival) -> Recorded<Answer> {
         self.put(Array::Packet, &arrival.bytes)?;
-        let answer = calls::check(kind, arrival, self.faults);
         let inputs = [u64::from(kind), u64::from(arrival.transport), arrival.bytes.len() as u64];
-        self.ask(case, Call::Check, None, &inputs, answer)
+        let asked = Asked { case, call: Call::Check, table: None, inputs: &inputs };
+        self.ask(asked, &[], &|_, faults| calls::check(kind, arrival, faults))
     }
 
     pub fn open(&mut self, case: &'static str, table: &RawTable, id: u32, kind: u32) -> Recorded<Answer> {
-        let answer = calls::open(table, id, kind, self.faults);
-        self.ask(case, Call::Open, Some(table), &[u64::from(id), u64::from(kind)], answer)
+        let inputs = [u64::from(id), u64::from(kind)];
+        let asked = Asked { case, call: Call::Open, table: Some(table), inputs: &inputs };
+        self.ask(asked, &[], &|_, faults| calls::open(table, id, kind, faults))
     }
 
     pub fn close(&mut self, case: &'static str, table: &RawTable, id: u32) -> Recorded<Answer> {
-        let answer = calls::close(table, id, self.faults);
-        self.ask(case, Call::Close, Some(table), &[u64::from(id)], answer)
+        let asked = Asked { case, call: Call::Close, table: Some(table), inputs: &[u64::from(id)] };
+        self.ask(asked, &[], &|_, faults| calls::close(table, id, faults))
     }
 
     /// A data call with slices that are just long enough.
@@ -365,9 +458,6 @@ impl<'a> Recorder<'a> {
         arrival: &Arrival,
     ) -> Recorded<Answer> {
         self.put(Array::Packet, &arrival.bytes)?;
-        let answer = calls::receive(table, &self.arrays[Array::Holding as usize], lent, arrival, self.faults);
-        self.refresh(Array::Output, &answer)?;
-        self.refresh(Array::Lengths, &answer)?;
         let inputs = [
             u64::from(arrival.transport),
             lent.holding as u64,
@@ -375,15 +465,16 @@ impl<'a> Recorder<'a> {
             lent.output as u64,
             lent.lengths as u64,
         ];
-        self.ask(case, Call::Receive, Some(table), &inputs, answer)
+        let asked = Asked { case, call: Call::Receive, table: Some(table), inputs: &inputs };
+        self.ask(asked, &[Array::Output, Array::Lengths], &|arrays, faults| {
+            calls::receive(table, &arrays[Array::Holding as usize], lent, arrival, faults)
+        })
     }
 
     /// A send; the frames' bytes are those that the array of frames begins with.
     pub fn send(&mut self, case: &'static str, sending: &Sending) -> Recorded<Answer> {
         let lengths: Vec<u8> = sending.lengths.iter().flat_map(|length| length.to_be_bytes()).collect();
         self.put(Array::FrameLengths, &lengths)?;
-        let answer = calls::send(sending, &self.arrays[Array::Frames as usize], self.faults);
-        self.refresh(Array::Output, &answer)?;
         let inputs = [
             u64::from(sending.session),
             sending.flow,
@@ -395,17 +486,19 @@ impl<'a> Recorder<'a> {
             sending.offset,
             sending.output as u64,
         ];
-        self.ask(case, Call::Send, None, &inputs, answer)
+        let asked = Asked { case, call: Call::Send, table: None, inputs: &inputs };
+        self.ask(asked, &[Array::Output], &|arrays, faults| {
+            calls::send(sending, &arrays[Array::Frames as usize], faults)
+        })
     }
 
     /// Both calls about segment k.
     pub fn segment(&mut self, case: &'static str, kind: u32, arrival: &Arrival, k: u64) -> Recorded<()> {
         self.put(Array::Packet, &arrival.bytes)?;
         let inputs = [u64::from(kind), u64::from(arrival.transport), arrival.bytes.len() as u64, k];
-        let answer = calls::segment_cause(kind, arrival, k, self.faults);
-        self.ask(case, Call::SegmentCause, None, &inputs, answer)?;
-        let answer = calls::segment(kind, arrival, k, self.faults);
-        self.ask(case, Call::Segment, None, &inputs, answer)?;
+        let asked = |call: Call| Asked { case, call, table: None, inputs: &inputs };
+        self.ask(asked(Call::SegmentCause), &[], &|_, faults| calls::segment_cause(kind, arrival, k, faults))?;
+        self.ask(asked(Call::Segment), &[], &|_, faults| calls::segment(kind, arrival, k, faults))?;
         Ok(())
     }
 
@@ -414,8 +507,6 @@ impl<'a> Recorder<'a> {
         let lengths: Vec<u8> = writing.lengths.iter().flat_map(|length| length.to_be_bytes()).collect();
         self.put(Array::Frames, frames)?;
         self.put(Array::FrameLengths, &lengths)?;
-        let answer = calls::mpeg_write(writing, &self.arrays[Array::Frames as usize], self.faults);
-        self.refresh(Array::Output, &answer)?;
         let inputs = [
             writing.frame_bytes as u64,
             writing.lengths.len() as u64,
@@ -423,24 +514,26 @@ impl<'a> Recorder<'a> {
             u64::from(writing.count),
             writing.output as u64,
         ];
-        self.ask(case, Call::MpegWrite, None, &inputs, answer)
+        let asked = Asked { case, call: Call::MpegWrite, table: None, inputs: &inputs };
+        self.ask(asked, &[Array::Output], &|arrays, faults| {
+            calls::mpeg_write(writing, &arrays[Array::Frames as usize], faults)
+        })
     }
 
     /// Reads the frames of MPEG packets back, with room for so many bytes and so many lengths.
     pub fn mpeg_read(&mut self, case: &'static str, packets: &[u8], room: (usize, usize)) -> Recorded<Answer> {
         self.put(Array::Packet, packets)?;
         let (output, lengths) = room;
-        let answer = calls::mpeg_read(packets, output, lengths, self.faults);
-        self.refresh(Array::Output, &answer)?;
-        self.refresh(Array::Lengths, &answer)?;
         let inputs = [packets.len(), output, lengths].map(|number| number as u64);
-        self.ask(case, Call::MpegRead, None, &inputs, answer)
+        let asked = Asked { case, call: Call::MpegRead, table: None, inputs: &inputs };
+        self.ask(asked, &[Array::Output, Array::Lengths], &|_, faults| {
+            calls::mpeg_read(packets, output, lengths, faults)
+        })
     }
 
     /// Asks for the null packet; who makes the call puts it into an output of its length.
     pub fn mpeg_null(&mut self, case: &'static str) -> Recorded<Answer> {
-        let answer = calls::mpeg_null(self.faults);
-        self.refresh(Array::Output, &answer)?;
-        self.ask(case, Call::MpegNull, None, &[MPEG_BYTES as u64], answer)
+        let asked = Asked { case, call: Call::MpegNull, table: None, inputs: &[MPEG_BYTES as u64] };
+        self.ask(asked, &[Array::Output], &|_, faults| calls::mpeg_null(faults))
     }
 }
