@@ -25,16 +25,16 @@ enum { CHECK, OPEN, CLOSE, RECEIVE, SEND, SEGMENT_CAUSE, SEGMENT, CALLS };
 
 static const struct call calls[CALLS] = {
     {"check", false, 3, {"kind", "transport", "packet length"},
-     1, {"code"}, 12, {0, 2, 3, 4, 6, 7, 8, 9, 10, 11, 15, 24}},
+     1, {"code"}, 11, {0, 2, 3, 4, 6, 7, 9, 10, 11, 15, 24}},
     {"open", true, 2, {"id", "kind"}, 1, {"code"}, 6, {0, 13, 21, 22, 23, 24}},
     {"close", true, 1, {"id"}, 2, {"code", "dropped"}, 3, {0, 13, 25}},
     {"receive", true, 5, {"transport", "holding length", "packet length", "output length", "lengths length"},
-     5, {"code", "frames", "bytes", "dropped", "gap"}, 16, {0, 1, 2, 3, 4, 5, 6, 7, 8, 9, 10, 11, 12, 13, 15, 24}},
+     5, {"code", "frames", "bytes", "dropped", "gap"}, 15, {0, 1, 2, 3, 4, 5, 6, 7, 9, 10, 11, 12, 13, 15, 24}},
     {"send", false, 9,
      {"session", "flow", "number", "limit", "frames length", "lengths length", "frame", "offset", "output length"},
      5, {"code", "number", "length", "frame", "offset"}, 7, {0, 31, 32, 33, 34, 35, 36}},
     {"segment_cause", false, 4, {"kind", "transport", "packet length", "k"},
-     1, {"code"}, 13, {0, 2, 3, 4, 6, 7, 8, 9, 10, 11, 14, 15, 24}},
+     1, {"code"}, 12, {0, 2, 3, 4, 6, 7, 9, 10, 11, 14, 15, 24}},
     {"segment", false, 4, {"kind", "transport", "packet length", "k"}, 2, {"place", "length"}, 0, {0}},
 };
 

@@ -1,5 +1,5 @@
 //! Packets aimed at a table: for its sessions and flows, with numbers around those expected and lengths that bring what
-//! is held close to 2,048 bytes. Most are sound, and come by either transport.
+//! is held close to 2,048 bytes. Most are sound, and come by either transport; one in five for a PSP session has S clear.
 
 use crate::calls::Arrival;
 use crate::card::{FLOWS, LONGEST_FRAME};
@@ -56,9 +56,11 @@ pub fn for_flow(dice: &mut Dice, row: &RawRow, flow: usize, ahead: u16) -> Vec<u
     if row.kind == DMPT {
         return dmpt(dice, row.id, number);
     }
-    let segments = segments(dice, state);
-    let mut byte4 = S | flow as u8;
+    let mut byte4 = flow as u8 | if dice.percent(80) { S } else { 0 };
     byte4 |= if dice.percent(10) { 0x08 } else { 0 };
+    // With S clear nothing joins what is held: lengths are aimed as if it did, or by themselves.
+    let aimed_at = if byte4 & S == 0 { dice.pick(&[state, RawFlow::default()]) } else { state };
+    let segments = segments(dice, aimed_at);
     psp(dice, row.id, byte4, number, &segments)
 }
 

@@ -17,6 +17,7 @@ use crate::records::{Recorded, Recorder};
 use crate::sender::MOST_FRAMES;
 use crate::tables::{self, new_id, FOREIGN_KINDS};
 use crate::transport_cases;
+use crate::unnumbered_cases;
 
 const MOST_SEGMENTS: usize = 127;
 pub const PSP_ID: u32 = 0x0000_0101;
@@ -37,11 +38,14 @@ pub fn all(recorder: &mut Recorder) -> Recorded<()> {
     numbers(recorder)?;
     joined_lengths(recorder)?;
     fullest_packets(recorder)?;
+    unnumbered_cases::all(recorder)?;
     checks(recorder)?;
     broken_tables(recorder)?;
     for transport in Transport::ALL {
-        refusals(recorder, PSP, transport)?;
-        refusals(recorder, DMPT, transport)?;
+        for traits in [Traits { kind: PSP, clear: false, transport }, Traits { kind: PSP, clear: true, transport }] {
+            refusals(recorder, traits)?;
+        }
+        refusals(recorder, Traits { kind: DMPT, clear: false, transport })?;
     }
     segments(recorder)?;
     packets_received(recorder)?;
@@ -256,7 +260,8 @@ fn slices(recorder: &mut Recorder) -> Recorded<()> {
 
 /// Each set of slices one short, beside each other refusal.
 fn short_slices(recorder: &mut Recorder, transport: Transport) -> Recorded<()> {
-    let names = refusals_of(PSP, transport);
+    let traits = Traits { kind: PSP, clear: false, transport };
+    let names = traits.refusals();
     for set in 0..8 {
         let lent = Lent {
             holding: HOLDING_BYTES - (set & 1),
@@ -264,7 +269,7 @@ fn short_slices(recorder: &mut Recorder, transport: Transport) -> Recorded<()> {
             lengths: MOST_FRAMES - (set >> 2 & 1),
         };
         for defect in 1..names.len() {
-            let defects = Defects { set: 1 << defect, names: &names, kind: PSP, transport };
+            let defects = Defects { set: 1 << defect, names: &names, traits };
             let case = "slices of each length, together with other refusals";
             recorder.receive_with(case, &defects.table(), lent, &defects.arrival())?;
         }
@@ -272,23 +277,32 @@ fn short_slices(recorder: &mut Recorder, transport: Transport) -> Recorded<()> {
     Ok(())
 }
 
-/// The refusals of the data call in their order: for a packet of that kind, by that transport.
-fn refusals_of(kind: u32, transport: Transport) -> Vec<u32> {
-    let mut all = vec![1, 13, 24, 2, 3, 15, 4, 5, 6, 7, 8, 9, 10, 11, 12];
-    all.retain(|refusal| match refusal {
-        8 => kind == PSP,
-        15 => transport == Transport::Udp,
-        _ => true,
-    });
-    all
+/// What a packet is beside its defects: its kind, whether S is clear, and how it came.
+#[derive(Clone, Copy)]
+struct Traits {
+    kind: u32,
+    clear: bool,
+    transport: Transport,
+}
+
+impl Traits {
+    /// The refusals of the data call that such a packet can earn, in their order.
+    fn refusals(self) -> Vec<u32> {
+        let mut all = vec![1, 13, 24, 2, 3, 15, 4, 5, 6, 7, 9, 10, 11, 12];
+        all.retain(|refusal| match refusal {
+            12 => !self.clear,
+            15 => self.transport == Transport::Udp,
+            _ => true,
+        });
+        all
+    }
 }
 
 /// A set of refusals that are to apply at once, as bits in the order of `names`.
 struct Defects<'a> {
     set: usize,
     names: &'a [u32],
-    kind: u32,
-    transport: Transport,
+    traits: Traits,
 }
 
 impl Defects<'_> {
@@ -300,6 +314,9 @@ impl Defects<'_> {
     /// The first of the set, and the second where there is no third.
     fn case(&self) -> &'static str {
         let has: Vec<u32> = self.names.iter().copied().filter(|name| self.has(*name)).collect();
+        if self.traits.clear {
+            return if has.is_empty() { "S clear and no refusal" } else { "S clear: sets of refusals" };
+        }
         match has.as_slice() {
             [1, 13] => "refusals 1 and 13",
             [1, 24] => "refusals 1 and 24",
@@ -319,9 +336,7 @@ impl Defects<'_> {
             [4, 5] => "refusals 4 and 5",
             [5, 6] => "refusals 5 and 6",
             [6, 7] => "refusals 6 and 7",
-            [7, 8] => "refusals 7 and 8",
             [7, 9] => "refusals 7 and 9",
-            [8, 9] => "refusals 8 and 9",
             [9, 10] => "refusals 9 and 10",
             [9, 12] => "refusals 9 and 12",
             [10, 11] => "refusals 10 and 11",
@@ -360,8 +375,9 @@ impl Defects<'_> {
         }
     }
 
+    /// The number that is expected is 100. With S clear what stands there is now that, now the number before it.
     fn number(&self) -> u16 {
-        if self.has(12) {
+        if self.has(12) || (self.traits.clear && self.set.count_ones() % 2 == 0) {
             99
         } else {
             100
@@ -372,13 +388,13 @@ impl Defects<'_> {
     /// wrongly.
     fn can_be(&self) -> bool {
         let short_and_long = self.has(2) && self.has(3);
-        let empty_and_spoilt = self.kind == DMPT && self.has(9) && (self.has(10) || self.has(11));
+        let empty_and_spoilt = self.traits.kind == DMPT && self.has(9) && (self.has(10) || self.has(11));
         !short_and_long && !empty_and_spoilt
     }
 
     /// The packet, by another transport for refusal 24. Leads and transports differ from set to set.
     fn arrival(&self) -> Arrival {
-        let mut bytes = if self.kind == PSP { self.psp_packet() } else { self.dmpt_packet() };
+        let mut bytes = if self.traits.kind == PSP { self.psp_packet() } else { self.dmpt_packet() };
         if self.has(2) {
             bytes.truncate(HEADER_BYTES - 1);
         }
@@ -388,7 +404,7 @@ impl Defects<'_> {
         let packet = if self.has(15) {
             over_udp(WRONG_LEADS[self.set % WRONG_LEADS.len()], &bytes)
         } else {
-            carried(self.transport, self.set % SOUND_LEADS.len(), &bytes)
+            carried(self.traits.transport, self.set % SOUND_LEADS.len(), &bytes)
         };
         let other = OTHER_TRANSPORTS[self.set % OTHER_TRANSPORTS.len()];
         let arrival = Arrival::from(packet);
@@ -400,7 +416,7 @@ impl Defects<'_> {
     fn psp_packet(&self) -> Vec<u8> {
         let version = if self.has(6) { [0x80, 0x10, 0x20][self.set % 3] } else { 0 };
         let flow = if self.has(7) { 5 } else { 1 };
-        let byte4 = version | flow | if self.has(8) { 0 } else { S };
+        let byte4 = version | flow | if self.traits.clear { 0 } else { S };
         let second = if self.has(11) { END } else { WHOLE };
         let mut packet = match (self.has(9), self.has(10)) {
             (true, false) => header(self.session(PSP_ID), byte4, 0, self.number()),
@@ -432,11 +448,11 @@ impl Defects<'_> {
     }
 }
 
-/// Every set of refusals that can apply at once to one packet of that kind, by that transport.
-fn refusals(recorder: &mut Recorder, kind: u32, transport: Transport) -> Recorded<()> {
-    let names = refusals_of(kind, transport);
+/// Every set of refusals that can apply at once to one such packet.
+fn refusals(recorder: &mut Recorder, traits: Traits) -> Recorded<()> {
+    let names = traits.refusals();
     for set in 0..1 << names.len() {
-        let defects = Defects { set, names: &names, kind, transport };
+        let defects = Defects { set, names: &names, traits };
         if defects.can_be() {
             recorder.receive_with(defects.case(), &defects.table(), defects.lent(), &defects.arrival())?;
         }
@@ -464,7 +480,7 @@ fn packets_received(recorder: &mut Recorder) -> Recorded<()> {
 }
 
 /// A sound table in which that flow of that row, a PSP one, is as given.
-fn table_with_flow(dice: &mut Dice, row: usize, flow: usize, state: RawFlow) -> RawTable {
+pub fn table_with_flow(dice: &mut Dice, row: usize, flow: usize, state: RawFlow) -> RawTable {
     let mut table = tables::sound_open(dice);
     table.rows[row].kind = PSP;
     table.rows[row].flows[flow] = state;
@@ -785,9 +801,15 @@ mod tests {
             if let Some(pair) = case.strip_prefix("refusals ") {
                 assert_eq!(code.to_string(), pair.split(' ').next().unwrap());
             }
-            if case == "most bytes that a call delivers" {
-                assert_eq!(code, 0);
+            match case {
+                "most bytes that a call delivers" => assert_eq!(code, 0),
+                "S clear: sets of refusals" => assert!(![0, 12].contains(&code), "{code}"),
+                "S clear, then a packet with a number" => assert!([0, 12].contains(&code), "{code}"),
+                _ if case.starts_with("S clear") => assert_eq!(code, 0, "{case}"),
+                _ => {}
             }
+            // Where a segment's place stands first, that is 0 or at least 10.
+            assert_ne!(code, 8, "{case}");
             let unknown = case.starts_with("packets checked ") || case == "data by a transport that there is not";
             if unknown || case == "open as a kind that there is not" {
                 assert_eq!(code, 24);

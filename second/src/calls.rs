@@ -173,8 +173,36 @@ pub fn receive(table: &RawTable, holding: &[u8], lent: Lent, arrival: &Arrival, 
         }
         Err(refusal) => answer.numbers[0] = code(refusal),
     }
-    spoil(&mut answer, table, &arrival.bytes[transport.lead().min(arrival.bytes.len())..], faults);
+    let from_session = &arrival.bytes[transport.lead().min(arrival.bytes.len())..];
+    spoil(&mut answer, table, from_session, faults);
+    if answer.code() == 0 && from_session[4] & 0x40 == 0 {
+        answer.changes.extend(clear_changes(table, holding, transport, &arrival.bytes, faults));
+    }
     answer
+}
+
+/// Faults `ClearWipesPlace` and `ClearWritesPlace`: what an accepted PSP packet with S clear writes to the place of its
+/// flow, which it is to leave as it was.
+fn clear_changes(table: &RawTable, holding: &[u8], transport: Transport, bytes: &[u8], faults: Faults) -> Vec<Change> {
+    let after = |fault: Fault| {
+        let mut card = table.card(holding, Faults::of(fault));
+        card.data(transport, bytes).map(|_| card)
+    };
+    if faults.has(Fault::ClearWritesPlace) {
+        return after(Fault::ClearHoldsLast).map_or(Vec::new(), |card| held_changes(&card, holding, faults));
+    }
+    if !faults.has(Fault::ClearWipesPlace) {
+        return Vec::new();
+    }
+    let left = after(Fault::ClearWipesPlace).map_or(*table, |card| RawTable::of(&card));
+    let mut changes = Vec::new();
+    for (row, (given, left)) in table.rows.iter().zip(&left.rows).enumerate() {
+        for flow in (0..FLOWS).filter(|flow| given.flows[*flow].held > left.flows[*flow].held) {
+            let bytes = vec![0; usize::from(given.flows[flow].held)];
+            changes.push(Change { array: Array::Holding, place: place(row, flow, faults), bytes });
+        }
+    }
+    changes
 }
 
 /// Refusals 1, 13 and 24, in this order.

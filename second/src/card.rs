@@ -4,13 +4,14 @@
 //! flows and the held bytes in a slice of places. Here a session is found by its ID in a map, knows its row, and each
 //! flow owns the bytes that it holds, so places cannot overlap; the row is only there to be printed. Each packet says by
 //! which transport it came, and nothing of that is kept: a session and its flows take packets by either (document 02,
-//! W1). Refusals 1, 13 and 24 do not exist here: the slices are always long enough, the table cannot be broken, and there
-//! is no third transport. `raw` and `calls` have them.
+//! W1). A packet with S clear has no number: it moves none, and what it brings stands by itself (W2). Refusals 1, 13 and 24
+//! do not exist here: the slices are always long enough, the table cannot be broken, and there is no third transport. `raw`
+//! and `calls` have them.
 
 use std::collections::BTreeMap;
 
 use crate::faults::{Fault, Faults};
-use crate::packet::{self, Body, Kind, Refusal, Segment, Transport, NULL_PID};
+use crate::packet::{self, Body, Header, Kind, Refusal, Segment, Transport, NULL_PID};
 
 pub const ROWS: usize = 6;
 pub const FLOWS: usize = 4;
@@ -132,37 +133,53 @@ impl Card {
         let faults = self.faults;
         let header = packet::read_header(transport, bytes, faults)?;
         let session = self.sessions.get_mut(&header.session).ok_or(Refusal(5))?;
-        if faults.has(Fault::LateBeforeLayout) && header.sequenced {
+        if let (true, Some(number)) = (faults.has(Fault::LateBeforeLayout), header.number()) {
             if let Some(flow) = session.flows.get(usize::from(header.flow)) {
-                flow.judge(header.number, faults)?;
+                flow.judge(number, faults)?;
             }
         }
         let body = packet::read_body(session.kind, transport, &header, bytes, faults);
-        if body.is_err() && faults.has(Fault::RefusedMovesNumber) {
-            if let Some(flow) = session.flows.get_mut(usize::from(header.flow)) {
-                flow.expected = Some(header.number.wrapping_add(1));
-            }
+        if body.is_err() {
+            session.spoil_refused(&header, faults);
         }
         let body = body?;
+        packet::refuse_clear(session.kind, &header, faults.has(Fault::ClearRefusedByData))?;
         let flow = &mut session.flows[usize::from(header.flow)];
-        let answer = match body {
+        let ahead = flow.hear(session.kind, &header, faults)?;
+        let mut answer = match body {
             Body::Segments(segments) => {
-                let gap = flow.accept(header.number, faults)?;
                 if faults.has(Fault::UdpForgetsHeld) && transport == Transport::Udp {
                     flow.held.clear();
                 }
-                flow.take_segments(&segments, gap, faults)
+                flow.take_segments(&segments, ahead, faults)
             }
-            Body::Mpeg(packets) => {
-                let judged = header.sequenced || faults.has(Fault::DmptClearNumberJudged);
-                let gap = if judged { flow.accept(header.number, faults)? } else { 0 };
-                sort_mpeg(&packets, gap, faults)
-            }
+            Body::Mpeg(packets) => sort_mpeg(&packets, ahead.unwrap_or(0), faults),
         };
+        let clear = session.kind == Kind::Psp && !header.sequenced;
+        if clear && faults.has(Fault::ClearGapReported) {
+            answer.gap = flow.expected.map_or(0, |expected| header.number_field.wrapping_sub(expected));
+        }
+        if clear && (faults.has(Fault::ClearEmptiesFlows) || faults.has(Fault::ClearEmptiesSessions)) {
+            self.empty_others(&header);
+        }
         if faults.has(Fault::PlaceByFlowAlone) {
             self.spill(header.session, usize::from(header.flow));
         }
         Ok(answer)
+    }
+
+    /// Faults `ClearEmptiesFlows` and `ClearEmptiesSessions`: the other flows of the session, or the same flow of the other
+    /// sessions, hold nothing any more.
+    fn empty_others(&mut self, header: &Header) {
+        let of_session = self.faults.has(Fault::ClearEmptiesFlows);
+        for (id, session) in &mut self.sessions {
+            for (flow, other) in session.flows.iter_mut().enumerate() {
+                let (same_session, same_flow) = (*id == header.session, flow == usize::from(header.flow));
+                if same_session != same_flow && same_session == of_session {
+                    other.held.clear();
+                }
+            }
+        }
     }
 
     /// Faults `HeldApart` and `NumbersApart`: around a packet over UDP, each flow's bytes or number change places with
@@ -195,7 +212,52 @@ impl Card {
     }
 }
 
+impl Session {
+    /// The faults of a packet that is refused for its layout.
+    fn spoil_refused(&mut self, header: &Header, faults: Faults) {
+        let Some(flow) = self.flows.get_mut(usize::from(header.flow)) else {
+            return;
+        };
+        if faults.has(Fault::RefusedMovesNumber) {
+            flow.expected = Some(header.number_field.wrapping_add(1));
+        }
+        if faults.has(Fault::RefusedClearDropsHeld) && !header.sequenced {
+            flow.held.clear();
+        }
+    }
+}
+
 impl Flow {
+    /// How many numbers are missing before the packet, or refusal 12 for a late one. A packet that has no number is never
+    /// late, nothing can be said to be missing before it, and the flow goes on expecting what it did, if anything.
+    fn hear(&mut self, kind: Kind, header: &Header, faults: Faults) -> Result<Option<u16>, Refusal> {
+        if !header.sequenced {
+            if let Some(ahead) = self.spoil_clear(kind, header.number_field, faults)? {
+                return Ok(Some(ahead));
+            }
+        }
+        header.number().map(|number| self.accept(number, faults)).transpose()
+    }
+
+    /// The faults that make something of the number field of a packet with S clear.
+    fn spoil_clear(&mut self, kind: Kind, field: u16, faults: Faults) -> Result<Option<u16>, Refusal> {
+        if kind == Kind::Dmpt {
+            let judged = faults.has(Fault::DmptClearNumberJudged).then(|| self.accept(field, faults));
+            return judged.transpose();
+        }
+        if faults.has(Fault::ClearLateRefused) {
+            self.judge(field, faults)?;
+        }
+        let moved = if self.expected.is_some() { Fault::ClearMovesNumber } else { Fault::ClearMakesHeard };
+        if faults.has(moved) {
+            self.expected = Some(field.wrapping_add(1));
+        }
+        if faults.has(Fault::ClearMakesFresh) {
+            self.expected = None;
+        }
+        Ok(None)
+    }
+
     /// Judges a sequence number: the gap in front of it, or refusal 12 for a late one.
     fn judge(&self, number: u16, faults: Faults) -> Result<u16, Refusal> {
         let expected = match self.expected {
@@ -239,30 +301,53 @@ impl Flow {
         }
     }
 
-    /// Takes in the segments of an accepted PSP packet, one after the other.
-    fn take_segments(&mut self, segments: &[Segment], gap: u16, faults: Faults) -> Answer {
-        let mut answer = Answer { gap, ..Answer::default() };
-        if gap > 0 && !faults.has(Fault::GapKeepsHeld) {
-            answer.dropped += self.drop_held(faults);
+    /// Takes in the segments of an accepted PSP packet, one after the other; `ahead` says how many numbers are missing
+    /// before it. Only a packet that follows the last one directly goes on with what is held. One without a number follows
+    /// none, and none follows it: what is held is dropped before its segments, and what they would leave held after them,
+    /// so that its whole frames alone are delivered.
+    fn take_segments(&mut self, segments: &[Segment], ahead: Option<u16>, faults: Faults) -> Answer {
+        let mut answer = Answer { gap: ahead.unwrap_or(0), ..Answer::default() };
+        let left = (ahead.is_none() && faults.has(Fault::ClearLeavesHeld)).then(|| std::mem::take(&mut self.held));
+        if !follows(ahead, faults) {
+            let held = self.drop_held(faults);
+            answer.dropped += if ahead.is_none() && faults.has(Fault::ClearHeldUncounted) { 0 } else { held };
         }
         for segment in segments {
-            self.take_segment(segment, &mut answer, faults);
+            self.take_segment(segment, ahead, &mut answer, faults);
+        }
+        if ahead.is_none() {
+            self.drop_begun(&mut answer, faults);
+        }
+        if let Some(left) = left {
+            self.held = left;
         }
         answer
     }
 
-    fn take_segment(&mut self, segment: &Segment, answer: &mut Answer, faults: Faults) {
+    /// Drops what the last segment of a packet without a number has begun.
+    fn drop_begun(&mut self, answer: &mut Answer, faults: Faults) {
+        if faults.has(Fault::ClearBeginningDelivered) && !self.held.is_empty() {
+            answer.frames.push(std::mem::take(&mut self.held));
+        }
+        if !faults.has(Fault::ClearHoldsLast) {
+            let begun = self.drop_held(faults);
+            answer.dropped += if faults.has(Fault::ClearLastUncounted) { 0 } else { begun };
+        }
+    }
+
+    fn take_segment(&mut self, segment: &Segment, ahead: Option<u16>, answer: &mut Answer, faults: Faults) {
         if segment.begins && !faults.has(Fault::BeginningKeepsHeld) {
             answer.dropped += self.drop_held(faults);
         }
         let headless = !segment.begins && self.held.is_empty();
-        if headless && !faults.has(Fault::HeadlessSegmentHeld) {
+        let end_taken = ahead.is_none() && segment.ends && faults.has(Fault::ClearEndDelivered);
+        if headless && !end_taken && !faults.has(Fault::HeadlessSegmentHeld) {
             answer.dropped += segment.bytes.len();
             return;
         }
         let mut joined = std::mem::take(&mut self.held);
         joined.extend_from_slice(segment.bytes);
-        if joined.len() > longest_frame(faults) {
+        if joined.len() > longest_frame(ahead, faults) {
             answer.dropped += joined.len();
             if faults.has(Fault::OverlongTailHeld) {
                 answer.dropped -= segment.bytes.len();
@@ -276,10 +361,20 @@ impl Flow {
     }
 }
 
-fn longest_frame(faults: Faults) -> usize {
-    if faults.has(Fault::LongestFrameRefused) {
+/// Whether a packet with so many numbers missing before it, or without a number, goes on with what is held.
+fn follows(ahead: Option<u16>, faults: Faults) -> bool {
+    match ahead {
+        Some(0) => true,
+        Some(_) => faults.has(Fault::GapKeepsHeld),
+        None => faults.has(Fault::ClearJoinsHeld),
+    }
+}
+
+fn longest_frame(ahead: Option<u16>, faults: Faults) -> usize {
+    let clear = ahead.is_none();
+    if faults.has(Fault::LongestFrameRefused) || (clear && faults.has(Fault::ClearLongestDropped)) {
         LONGEST_FRAME - 1
-    } else if faults.has(Fault::LongerFrameAllowed) {
+    } else if faults.has(Fault::LongerFrameAllowed) || (clear && faults.has(Fault::ClearLongerDelivered)) {
         LONGEST_FRAME + 1
     } else {
         LONGEST_FRAME
@@ -338,6 +433,26 @@ mod tests {
     fn a_segment_without_beginning_is_dropped() {
         let answer = card_with_psp().data(Transport::Ip, &B).unwrap();
         assert_eq!((answer.frames.len(), answer.dropped), (0, 7));
+    }
+
+    /// Document 02, W2, worked out by hand: between A and B, with any number field, the end of B's frame and a whole frame
+    /// of 3. What A began is lost; B's number is still the expected one.
+    #[test]
+    fn a_packet_without_a_number_stands_by_itself() {
+        for field in [0, 1, 0x7FFF, 0x8000, 0xFFFF_u16] {
+            let mut packet = vec![0, 0, 1, 1, 0x01, 3];
+            packet.extend(field.to_be_bytes());
+            packet.extend([0x40, 1, 0xC0, 3, 0x80, 2, 0x23, 0x31, 0x32, 0x33, 0x41, 0x42]);
+            let mut card = card_with_psp();
+            let whole = |dropped| Answer { frames: vec![vec![0x31, 0x32, 0x33]], dropped, gap: 0 };
+            assert_eq!(card.data(Transport::Ip, &packet), Ok(whole(3)));
+            assert_eq!(card.rows()[0].1.flows[1], Flow::default());
+            card.data(Transport::Ip, &A).unwrap();
+            assert_eq!(card.data(Transport::Ip, &packet), Ok(whole(5)));
+            assert_eq!(card.rows()[0].1.flows[1], Flow { expected: Some(0), held: Vec::new() });
+            assert_eq!(card.data(Transport::Ip, &A), Err(Refusal(12)));
+            assert_eq!(card.data(Transport::Ip, &B), Ok(Answer { dropped: 7, ..Answer::default() }));
+        }
     }
 
     #[test]

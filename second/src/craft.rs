@@ -83,6 +83,17 @@ pub fn psp(session: u32, flow: u8, number: u16, segments: &[(u16, usize)]) -> Ve
     psp_with(session, S | flow, segments.len() as u8, number, segments)
 }
 
+/// A PSP packet with S clear; what stands where the number does has no meaning.
+pub fn unnumbered(session: u32, flow: u8, field: u16, segments: &[(u16, usize)]) -> Vec<u8> {
+    psp_with(session, flow, segments.len() as u8, field, segments)
+}
+
+/// A packet with its S cleared.
+pub fn without_number(mut packet: Vec<u8>) -> Vec<u8> {
+    packet[4] &= !S;
+    packet
+}
+
 /// A PSP packet with any bytes 4 and 5.
 pub fn psp_with(session: u32, byte4: u8, byte5: u8, number: u16, segments: &[(u16, usize)]) -> Vec<u8> {
     let mut packet = header(session, byte4, byte5, number);

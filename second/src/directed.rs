@@ -2,7 +2,8 @@
 //!
 //! They do not depend on a seed. Cases that do not disturb one another share a capture, so that few programs have to be
 //! started; each function below is one theme, and each capture's name tells what it is about. Here packets come over IP;
-//! `transports` has the captures of document 02, W1, and those of this file once more, over UDP and by both transports.
+//! `unnumbered` has those of document 02, W2; `transports` has those of W1, and all of these once more, over UDP and by both
+//! transports.
 
 use crate::capture::{Capture, Entry, LONGEST_FILE, MOST_ENTRIES};
 use crate::card::LONGEST_FRAME;
@@ -12,6 +13,7 @@ use crate::craft::{
 use crate::faults::Faults;
 use crate::packet::{Kind, Packet, HEADER_BYTES, LONGEST_PACKET, MPEG_BYTES};
 use crate::transports;
+use crate::unnumbered;
 
 /// A capture file with a name that tells its kind.
 #[derive(Clone, Debug)]
@@ -92,6 +94,7 @@ fn traffic() -> Vec<NamedCapture> {
     all.extend([gaps_psp(), gaps_dmpt(), refused_numbers()]);
     all.extend(layouts());
     all.extend([rows(), same_flow_of_sessions(), flows_apart(), closes(), reopened(), strangers()]);
+    all.extend(unnumbered::captures());
     all
 }
 
@@ -210,7 +213,6 @@ fn refused_numbers() -> NamedCapture {
         psp_with(PSP, S | 0x81, 1, far, &[(WHOLE, 3)]),
         psp_with(PSP, S | 0x11, 1, far, &[(WHOLE, 3)]),
         psp_with(PSP, S | 5, 1, far, &[(WHOLE, 3)]),
-        psp_with(PSP, 1, 1, far, &[(WHOLE, 3)]),
         psp_with(PSP, S | 1, 0, far, &[]),
         psp_with(PSP, S | 1, 2, far, &[(WHOLE, 3)]),
         psp(PSP, 1, far, &[(WHOLE, 3), (END, 3)]),
@@ -221,7 +223,7 @@ fn refused_numbers() -> NamedCapture {
     for (step, packet) in (0..).zip(refused) {
         case = case.data(packet).data(psp(PSP, 1, 65_535u16.wrapping_add(step), &[(MIDDLE, 2)]));
     }
-    case = case.data(psp(PSP, 1, 8, &[(END, 2)]));
+    case = case.data(psp(PSP, 1, 7, &[(END, 2)]));
     case = case.data(dmpt(MPT, S, 7, &[(1, 1)])).data(header(MPT, S, 0, far)).data(dmpt(MPT, S | 1, far, &[(1, 1)]));
     case.data(dmpt(MPT, S, 8, &[(1, 1)])).done()
 }
@@ -439,11 +441,10 @@ fn unsequenced_dmpt() -> NamedCapture {
         case = case.data(dmpt(MPT, 0, number, &pid));
     }
     case = case.data(dmpt(MPT, S, 101, &pid)).data(dmpt(MPT, S, 101, &pid)).data(dmpt(MPT, 0, 101, &[(0x1F, 0xFF)]));
-    case = case.data(dmpt(MPT, S, 104, &pid)).afresh(Kind::Dmpt, MPT).data(dmpt(MPT, S, 3, &pid));
-    case.open(Kind::Psp, PSP).data(psp_with(PSP, 0, 1, 1, &[(WHOLE, 3)])).data(psp(PSP, 0, 1, &[(WHOLE, 3)])).done()
+    case.data(dmpt(MPT, S, 104, &pid)).afresh(Kind::Dmpt, MPT).data(dmpt(MPT, S, 3, &pid)).done()
 }
 
-/// Every set of defects that a small PSP packet can have: which refusal comes first.
+/// Every set of defects that a small PSP packet can have, with S set and clear: which refusal comes first.
 fn orders_psp() -> NamedCapture {
     let mut case = Case::new("orders-psp").open(Kind::Psp, PSP).data(psp(PSP, 1, 99, &[(BEGIN, 2)]));
     for defects in 0..256u32 {

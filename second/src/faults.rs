@@ -66,6 +66,29 @@ pub enum Fault {
     DroppedWithoutHeld,
     DmptClearNumberJudged,
     NullDelivered,
+    // PSP packets with S clear.
+    ClearRefusedByData,
+    ClearLateRefused,
+    ClearMovesNumber,
+    ClearMakesHeard,
+    ClearMakesFresh,
+    ClearGapReported,
+    ClearJoinsHeld,
+    ClearLeavesHeld,
+    ClearHeldUncounted,
+    ClearHoldsLast,
+    ClearLastUncounted,
+    ClearLongerDelivered,
+    ClearLongestDropped,
+    ClearBeginningDelivered,
+    ClearEndDelivered,
+    ClearEmptiesFlows,
+    ClearEmptiesSessions,
+    RefusedClearDropsHeld,
+    ClearRefusedByCheck,
+    ClearRefusedBySegment,
+    ClearWipesPlace,
+    ClearWritesPlace,
     // Capture files.
     ShortBeforeTooMany,
     FillBeforeKind,
@@ -168,7 +191,7 @@ pub enum Fault {
 pub type Listed = (Fault, &'static str, &'static str);
 
 /// The faults that captures and frames files can show.
-pub const FILES: [Listed; 62] = [
+pub const FILES: [Listed; 80] = [
     (Fault::LongestPacketRefused, "longest-packet-refused", "A packet of 4,100 bytes is refused as too long."),
     (
         Fault::SessionZeroLookedUp,
@@ -238,6 +261,56 @@ pub const FILES: [Listed; 62] = [
     (Fault::DroppedWithoutHeld, "dropped-without-held", "Held bytes are dropped without being counted."),
     (Fault::DmptClearNumberJudged, "dmpt-clear-judged", "The number of a D-MPT packet counts even with S clear."),
     (Fault::NullDelivered, "null-delivered", "MPEG packets with the null PID are delivered."),
+    (Fault::ClearRefusedByData, "clear-refused-by-data", "The data call refuses a PSP packet with S clear with 8."),
+    (
+        Fault::ClearLateRefused,
+        "clear-late-refused",
+        "A PSP packet with S clear is refused with 12 by its number field.",
+    ),
+    (Fault::ClearMovesNumber, "clear-moves-number", "A PSP packet with S clear moves the expected number."),
+    (Fault::ClearMakesHeard, "clear-makes-heard", "After a PSP packet with S clear a fresh flow expects a number."),
+    (Fault::ClearMakesFresh, "clear-makes-fresh", "A PSP packet with S clear makes its flow fresh."),
+    (Fault::ClearGapReported, "clear-gap-reported", "A PSP packet with S clear reports a gap, by its number field."),
+    (Fault::ClearJoinsHeld, "clear-joins-held", "The first segment of a PSP packet with S clear joins what is held."),
+    (Fault::ClearLeavesHeld, "clear-leaves-held", "A PSP packet with S clear leaves what is held."),
+    (
+        Fault::ClearHeldUncounted,
+        "clear-held-uncounted",
+        "A PSP packet with S clear drops what is held without counting it.",
+    ),
+    (Fault::ClearHoldsLast, "clear-holds-last", "A PSP packet with S clear holds a last segment without E."),
+    (
+        Fault::ClearLastUncounted,
+        "clear-last-uncounted",
+        "A PSP packet with S clear drops a last segment without E uncounted.",
+    ),
+    (Fault::ClearLongerDelivered, "clear-longer-delivered", "A PSP packet with S clear delivers 2,049 bytes."),
+    (Fault::ClearLongestDropped, "clear-longest-dropped", "A PSP packet with S clear does not deliver 2,048 bytes."),
+    (
+        Fault::ClearBeginningDelivered,
+        "clear-beginning-delivered",
+        "A PSP packet with S clear delivers a last segment with B alone.",
+    ),
+    (
+        Fault::ClearEndDelivered,
+        "clear-end-delivered",
+        "A PSP packet with S clear delivers a first segment with E alone.",
+    ),
+    (
+        Fault::ClearEmptiesFlows,
+        "clear-empties-flows",
+        "A PSP packet with S clear makes its session's other flows hold nothing.",
+    ),
+    (
+        Fault::ClearEmptiesSessions,
+        "clear-empties-sessions",
+        "A PSP packet with S clear makes the same flow of other sessions hold nothing.",
+    ),
+    (
+        Fault::RefusedClearDropsHeld,
+        "refused-clear-drops-held",
+        "A packet with S clear drops what is held though it is refused for its layout.",
+    ),
     (
         Fault::ShortBeforeTooMany,
         "short-before-too-many",
@@ -254,7 +327,7 @@ pub const FILES: [Listed; 62] = [
 ];
 
 /// The faults that only calls can show, with tables, slices and positions of the caller's.
-pub const CALLS: [Listed; 32] = [
+pub const CALLS: [Listed; 36] = [
     (Fault::ForeignKindTrusted, "foreign-kind-trusted", "A row of a kind above 2 is taken for an open PSP row."),
     (Fault::KindOfSixteenBits, "kind-of-16-bits", "A row's kind is judged by its lower 16 bits."),
     (Fault::ForeignMarkTrusted, "foreign-mark-trusted", "A flow's mark above 1 is taken for 1."),
@@ -287,6 +360,18 @@ pub const CALLS: [Listed; 32] = [
     (Fault::HeldOnePlaceTooFar, "held-one-place-too-far", "Held bytes are written into the place after their own."),
     (Fault::OutputAfterLastCleared, "output-after-last-cleared", "The byte after the last frame is set to 0."),
     (Fault::LengthAfterLastCleared, "length-after-last-cleared", "The length after the last frame's is set to 0."),
+    (Fault::ClearRefusedByCheck, "clear-refused-by-check", "The check refuses a PSP packet with S clear with 8."),
+    (
+        Fault::ClearRefusedBySegment,
+        "clear-refused-by-segment",
+        "Segments of a PSP packet with S clear are refused with 8.",
+    ),
+    (Fault::ClearWipesPlace, "clear-wipes-place", "What a PSP packet with S clear drops is set to 0 in its place."),
+    (
+        Fault::ClearWritesPlace,
+        "clear-writes-place",
+        "A PSP packet with S clear writes a last segment without E to the place of its flow.",
+    ),
     (Fault::SegmentKindUnjudged, "segment-kind-unjudged", "Segments are asked for as D-MPT too, and given as for PSP."),
     (Fault::SegmentAtCountGiven, "segment-at-count-given", "Segment k is given, empty, where k is the count."),
     (

@@ -35,6 +35,8 @@ struct Style {
     random: usize,
     /// Packets whose joined length is close to the longest frame.
     near_longest: usize,
+    /// PSP packets with S clear.
+    unnumbered: usize,
 }
 
 const SMALL: Style = Style {
@@ -48,6 +50,7 @@ const SMALL: Style = Style {
     damaged: 0,
     random: 0,
     near_longest: 0,
+    unnumbered: 8,
 };
 const DAMAGED: Style = Style { name: "damaged-packets", damaged: 30, ..SMALL };
 const RANDOM: Style = Style { name: "random-packets", random: 60, dmpt_share: 4, ..SMALL };
@@ -314,8 +317,31 @@ impl<'a> Traffic<'a> {
         packet
     }
 
-    /// The next packet of a flow, cut by the sender.
+    /// A packet with S clear, in the midst of what the sender of its flow sends; where a number would stand, one around the
+    /// next one or any. Most of its segments are whole.
+    fn unnumbered_packet(&mut self, id: u32) -> Vec<u8> {
+        let flow = self.some_flow();
+        let (next, any) = (self.outlet(id, flow).number, self.dice.next() as u16);
+        let field = self.dice.pick(&[next, next.wrapping_sub(1), next.wrapping_add(1), 0, any]);
+        let (shortest, longest) = self.style.frames;
+        let longest = longest.min(self.dice.pick(&[12, 300, LONGEST_FRAME]));
+        let mut segments: Vec<(u16, usize)> =
+            (0..self.dice.between(1, 3)).map(|_| (WHOLE, self.dice.between(shortest, longest))).collect();
+        if longest == LONGEST_FRAME {
+            segments.truncate(1);
+            segments[0].1 = LONGEST_FRAME - 2 + self.dice.below(5);
+        }
+        let last = segments.len() - 1;
+        segments[0].0 &= self.dice.pick(&[WHOLE, WHOLE, END]);
+        segments[last].0 &= self.dice.pick(&[WHOLE, WHOLE, BEGIN]);
+        self.packet_of(id, flow, field, &segments)
+    }
+
+    /// The next packet of a flow, cut by the sender. Now and then it loses its S on the way: its number is then missing.
     fn psp_packet(&mut self, id: u32) -> Vec<u8> {
+        if self.dice.percent(self.style.unnumbered) {
+            return self.unnumbered_packet(id);
+        }
         let flow = self.some_flow();
         let number = self.take_number(id, flow);
         let limit = self.dice.between(self.style.limits.0, self.style.limits.1);
@@ -331,6 +357,9 @@ impl<'a> Traffic<'a> {
         self.outlets.insert((id, flow), outlet);
         let mut packet = sent.packet;
         packet[..4].copy_from_slice(&id.to_be_bytes());
+        if self.dice.percent(1) {
+            packet[4] &= !S;
+        }
         packet
     }
 
@@ -377,7 +406,8 @@ impl<'a> Traffic<'a> {
             let marks = self.dice.pick(&[BEGIN, WHOLE]);
             segments.push((marks, self.dice.between(1, 1_300)));
         }
-        self.packet_of(id, S | flow, number, &segments)
+        let byte4 = flow | if self.dice.percent(self.style.unnumbered) { 0 } else { S };
+        self.packet_of(id, byte4, number, &segments)
     }
 
     /// A PSP packet with the marks and lengths given and random bytes.
@@ -394,7 +424,7 @@ impl<'a> Traffic<'a> {
         let flow = if self.dice.percent(3) { self.dice.below(8) as u8 } else { self.some_flow() };
         let number = self.take_number(id, flow & 3);
         let mut byte4 = if kind == Kind::Psp { flow } else { 0 };
-        byte4 |= if self.dice.percent(3) { 0 } else { S };
+        byte4 |= if self.dice.percent(15) { 0 } else { S };
         byte4 |= if self.dice.percent(3) { self.dice.byte() & 0xB8 } else { 0 };
         if kind == Kind::Dmpt {
             let length = self.dice.pick(&[0, 1, 187, 188, 188, 188, 189]);
@@ -629,6 +659,34 @@ mod tests {
                 assert_eq!(taken, settled + held, "capture {index}");
             }
         }
+    }
+
+    /// Document 02, W2: such packets are taken, and often in the midst of a frame, whose beginning they drop.
+    #[test]
+    fn packets_without_a_number_are_common_and_matter() {
+        let (mut taken, mut breaking) = (0, 0);
+        for index in 0..2 * ROTATION.len() {
+            let Ok(capture) = Capture::read(&super::capture(7, index).file, Faults::NONE) else {
+                continue;
+            };
+            let mut card = Card::new(Faults::NONE);
+            for entry in &capture.entries {
+                let held = |card: &Card| -> usize {
+                    let flows = card.rows().into_iter().flat_map(|(_, session)| &session.flows);
+                    flows.map(|flow| flow.held.len()).sum()
+                };
+                let before = held(&card);
+                let answer = match entry {
+                    Entry::Open(kind, id) => card.open(*id, *kind),
+                    Entry::Close(id) => card.close(*id),
+                    Entry::Data(packet) => card.data(packet.transport, &packet.bytes),
+                };
+                let clear = matches!(entry, Entry::Data(packet) if packet.after_lead().get(4).is_some_and(|byte| byte & S == 0));
+                taken += usize::from(clear && answer.is_ok());
+                breaking += usize::from(clear && answer.is_ok() && held(&card) < before);
+            }
+        }
+        assert!(taken > 500 && breaking > 100, "{taken} taken, {breaking} of them in the midst of a frame");
     }
 
     #[test]

@@ -1,11 +1,11 @@
 //! The second program: document 01 once more, written apart from the proved programs, to be compared with them.
 //!
 //! This file has the commands. What they do stands in the modules: `packet` and `card` receive, `sender` sends,
-//! `capture` reads and writes files, `listing` prints; `directed`, `transports`, `generate`, `sends` and `plan` make what
-//! is compared, `compare` compares it. `calls` answers as the C library does, on tables of `raw`; `call_cases`,
-//! `transport_cases` and `call_dice`, with `packets`, `tables` and `aimed`, make calls, and `records` writes them. `mpeg`
-//! puts frames into MPEG packets and gets them out, and `mpeg_cases` makes calls of that. `faults` makes this program
-//! wrong on purpose.
+//! `capture` reads and writes files, `listing` prints; `directed`, `transports`, `unnumbered`, `generate`, `sends` and
+//! `plan` make what is compared, `compare` compares it. `calls` answers as the C library does, on tables of `raw`;
+//! `call_cases`, `transport_cases`, `unnumbered_cases` and `call_dice`, with `packets`, `tables` and `aimed`, make calls,
+//! and `records` writes them. `mpeg` puts frames into MPEG packets and gets them out, and `mpeg_cases` makes calls of that.
+//! `faults` makes this program wrong on purpose.
 
 mod aimed;
 mod call_cases;
@@ -32,6 +32,8 @@ mod sends;
 mod tables;
 mod transport_cases;
 mod transports;
+mod unnumbered;
+mod unnumbered_cases;
 
 use std::fs;
 use std::io::{self, Read, Write};

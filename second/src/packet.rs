@@ -3,8 +3,9 @@
 //! Document 01, 'Packet layout' and 'Refusal numbers', and document 02, W1: over IP a packet begins with its session ID,
 //! over UDP with four more bytes. Reading is done in two steps because the data call looks the session up between them:
 //! `read_header` gives refusals 2, 3, 15 and 4, then the card says whether the session is open (5) and of which kind it
-//! is, then `read_body` gives refusals 6 to 11. The packet check without a table is both steps in a row. What they give
-//! back has only been cut out of the packet: nothing here knows of tables or sequence numbers.
+//! is, then `read_body` gives refusals 6, 7, 9, 10 and 11. The packet check without a table is both steps in a row. What
+//! they give back has only been cut out of the packet: nothing here knows of tables or of which number is expected. A
+//! packet with S clear is as sound as one with S set and only has no number (document 02, W2); no call gives refusal 8.
 
 use crate::faults::{Fault, Faults};
 
@@ -95,14 +96,22 @@ pub struct Header {
     pub session: u32,
     /// V.
     pub version: bool,
-    /// S: the sequence number counts.
+    /// S: the packet has a sequence number.
     pub sequenced: bool,
     /// H.
     pub h: u8,
     pub flow: u8,
     /// The segment count; without meaning for D-MPT.
     pub count: u8,
-    pub number: u16,
+    /// What stands where the sequence number does, whether the packet has one or not.
+    pub number_field: u16,
+}
+
+impl Header {
+    /// The sequence number, for either kind of session; with S clear there is none.
+    pub fn number(&self) -> Option<u16> {
+        self.sequenced.then_some(self.number_field)
+    }
 }
 
 /// A stretch of a frame, as it stands in a PSP packet.
@@ -227,11 +236,11 @@ fn split_header(transport: Transport, packet: &[u8], faults: Faults) -> Header {
         h: (byte(4) >> 4) & 0x03,
         flow: byte(4) & flow_bits,
         count: byte(5) & count_bits,
-        number: u16::from_be_bytes([byte(6), byte(7)]),
+        number_field: u16::from_be_bytes([byte(6), byte(7)]),
     }
 }
 
-/// Refusals 6 to 11, in order, for a packet whose header has been read and whose kind is known.
+/// Refusals 6, 7, 9, 10 and 11, in order, for a packet whose header has been read and whose kind is known.
 pub fn read_body<'a>(
     kind: Kind,
     transport: Transport,
@@ -248,12 +257,7 @@ pub fn read_body<'a>(
     }
     let rest = packet.get(transport.lead() + HEADER_BYTES..).unwrap_or(&[]);
     match kind {
-        Kind::Psp => {
-            if !header.sequenced {
-                return Err(Refusal(8));
-            }
-            read_segments(usize::from(header.count), rest, faults).map(Body::Segments)
-        }
+        Kind::Psp => read_segments(usize::from(header.count), rest, faults).map(Body::Segments),
         Kind::Dmpt => read_mpeg(rest, faults).map(Body::Mpeg),
     }
 }
@@ -344,18 +348,28 @@ pub fn pid(mpeg: &[u8], faults: Faults) -> u16 {
     u16::from_be_bytes([mpeg[1] & high_bits, mpeg[2]])
 }
 
-/// The packet check without a table: 24 for another kind or transport, else the first of 2, 3, 15, 4, 6 to 11 that
-/// applies, else 0.
+/// The packet check without a table: 24 for another kind or transport, else the first of 2, 3, 15, 4, 6, 7, 9, 10 and 11
+/// that applies, else 0.
 pub fn check(kind_number: u64, transport_number: u64, packet: &[u8], faults: Faults) -> u8 {
     let verdict = read_kind(kind_number).and_then(|kind| {
         let transport = read_transport(transport_number, packet, faults)?;
         let header = read_header(transport, packet, faults)?;
-        read_body(kind, transport, &header, packet, faults).map(drop)
+        read_body(kind, transport, &header, packet, faults)?;
+        refuse_clear(kind, &header, faults.has(Fault::ClearRefusedByCheck))
     });
     match verdict {
         Ok(()) => 0,
         Err(Refusal(number)) => number,
     }
+}
+
+/// Faults `ClearRefusedByData`, `ClearRefusedByCheck` and `ClearRefusedBySegment`: refusal 8 as document 01 had it, for a
+/// PSP packet with S clear that is sound.
+pub fn refuse_clear(kind: Kind, header: &Header, faulty: bool) -> Result<(), Refusal> {
+    if faulty && kind == Kind::Psp && !header.sequenced {
+        return Err(Refusal(8));
+    }
+    Ok(())
 }
 
 fn read_kind(number: u64) -> Result<Kind, Refusal> {
@@ -380,6 +394,7 @@ pub fn segment(
     let Body::Segments(segments) = read_body(Kind::Psp, transport, &header, packet, faults)? else {
         unreachable!("a PSP packet has segments");
     };
+    refuse_clear(kind, &header, faults.has(Fault::ClearRefusedBySegment))?;
     let count = segments.len();
     let k = usize::try_from(k).unwrap_or(usize::MAX);
     let Some(segment) = segments.get(k) else {
@@ -425,7 +440,7 @@ mod tests {
     fn packet_a_is_cut_into_a_whole_frame_and_a_beginning() {
         for (transport, packet) in [(Transport::Ip, A.to_vec()), (Transport::Udp, led([0, 3, 0, 0], &A))] {
             let header = read_header(transport, &packet, Faults::NONE).unwrap();
-            assert_eq!((header.session, header.flow, header.count, header.number), (0x101, 1, 2, 0xFFFF));
+            assert_eq!((header.session, header.flow, header.count, header.number()), (0x101, 1, 2, Some(0xFFFF)));
             let body = read_body(Kind::Psp, transport, &header, &packet, Faults::NONE).unwrap();
             let expected = vec![
                 Segment { begins: true, ends: true, bytes: &A[12..18] },
@@ -461,7 +476,8 @@ mod tests {
         }
         assert_eq!(checked(1, UDP, &led([0x7F, 0xF3, 0xFF, 0xFF], &A)), 0);
         assert_eq!(checked(1, UDP, &A), 15);
-        assert_eq!(checked(1, IP, &led([0, 3, 0, 0], &A)), 8);
+        // Over IP the session ID is 0x00030000 then, and A's own is S clear and count 0.
+        assert_eq!(checked(1, IP, &led([0, 3, 0, 0], &A)), 9);
     }
 
     /// 24, then 2 and 3, then 15, then 4; 12 to 4,104 bytes over UDP, 8 to 4,100 over IP.
@@ -475,7 +491,7 @@ mod tests {
         };
         assert_eq!([4, 8, 11, 12].map(|length| checked(1, UDP, &longest(length))), [2, 2, 2, 9]);
         assert_eq!([4_100, 4_104, 4_105].map(|length| checked(1, UDP, &longest(length))), [9, 9, 3]);
-        assert_eq!([8, 11, 12, 4_100, 4_101].map(|length| checked(1, IP, &longest(length))), [8, 8, 8, 8, 3]);
+        assert_eq!([8, 11, 12, 4_100, 4_101].map(|length| checked(1, IP, &longest(length))), [9, 9, 9, 9, 3]);
         assert_eq!([11, 12].map(|length| checked(1, UDP, &vec![0x80; length])), [2, 15]);
         assert_eq!([4_104, 4_105].map(|length| checked(1, UDP, &vec![0x80; length])), [15, 3]);
         assert_eq!(checked(1, UDP, &led([0x80, 3, 0, 0], &[0; 8])), 15);
@@ -484,6 +500,32 @@ mod tests {
             assert_eq!((checked(1, transport, &A), checked(2, transport, &[])), (24, 24));
             assert_eq!(checked(9, transport, &[0x80; 5_000]), 24);
         }
+    }
+
+    /// Document 02, W2: S alone is never a cause to refuse, whatever stands where the number does; the others stay.
+    #[test]
+    fn with_s_clear_the_other_refusals_are_as_with_s_set() {
+        let clear = |packet: &[u8]| {
+            let mut packet = packet.to_vec();
+            packet[4] &= !0x40;
+            packet
+        };
+        for (packet, expected) in [(&A[..], 0), (&B[..], 0), (&A[..19], 10), (&A[..9], 10)] {
+            assert_eq!((checked(1, IP, packet), checked(1, IP, &clear(packet))), (expected, expected));
+            assert_eq!(checked(1, UDP, &led([0, 3, 0, 0], &clear(packet))), expected);
+        }
+        let with = |place: usize, byte: u8| {
+            let mut packet = clear(&A);
+            packet[place] = byte;
+            checked(1, IP, &packet)
+        };
+        assert_eq!([0x81, 0x11, 0x21, 0x31].map(|byte4| with(4, byte4)), [6; 4]);
+        assert_eq!([4, 5, 6, 7].map(|byte4| with(4, byte4)), [7; 4]);
+        assert_eq!([0, 3, 8, 9].map(|byte4| with(4, byte4)), [0; 4]);
+        assert_eq!((with(5, 0), with(5, 3), with(8, 0x80), with(10, 0x40)), (9, 10, 11, 11));
+        let asked = |k| segment(1, IP, &clear(&A), k, Faults::NONE);
+        assert_eq!((asked(0), asked(1), asked(2)), (Ok((12, 6)), Ok((18, 2)), Err(Refusal(14))));
+        assert_eq!(read_header(Transport::Ip, &clear(&A), Faults::NONE).unwrap().number(), None);
     }
 
     #[test]

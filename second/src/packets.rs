@@ -9,7 +9,8 @@ use std::collections::BTreeSet;
 
 use crate::calls::Arrival;
 use crate::craft::{
-    carried, dmpt, header, over_ip, over_udp, psp, psp_with, BEGIN, END, PLAIN_LEAD, S, WHOLE, WRONG_LEADS,
+    carried, dmpt, header, over_ip, over_udp, psp, psp_with, without_number, BEGIN, END, PLAIN_LEAD, S, WHOLE,
+    WRONG_LEADS,
 };
 use crate::dice::Dice;
 use crate::directed;
@@ -99,11 +100,15 @@ fn one_of_each_from_session() -> Vec<Vec<u8>> {
         psp(0, 1, 7, &[(WHOLE, 3)]),
         psp_with(SESSION, 0x80 | S | 1, 1, 7, &[(WHOLE, 3)]),
         psp(SESSION, 7, 7, &[(WHOLE, 3)]),
-        psp_with(SESSION, 1, 1, 7, &[(WHOLE, 3)]),
         header(SESSION, S, 0, 7),
         sound[..sound.len() - 1].to_vec(),
         psp(SESSION, 0, 7, &[(WHOLE, 3), (END, 2)]),
     ]
+}
+
+/// The same with S clear, as far as a packet has it: a number is all that it lacks then.
+fn one_of_each_without_number() -> Vec<Vec<u8>> {
+    one_of_each_from_session().into_iter().filter(|packet| packet.len() >= HEADER_BYTES).map(without_number).collect()
 }
 
 /// All directed packets, each once.
@@ -122,13 +127,14 @@ pub fn all() -> Vec<Packet> {
 /// Directed packets from their session ID on.
 fn from_session() -> Vec<Vec<u8>> {
     let mut all: Vec<Vec<u8>> = directed::packets().into_iter().map(|packet| packet.bytes).collect();
+    all.extend(one_of_each_without_number());
     all.extend(sessions());
     all.extend(lengths());
-    all.extend(counts());
-    all.extend(every_table_cut());
+    for family in [counts(), every_table_cut(), every_segment_emptied(), every_mark_missing()] {
+        all.extend(family.iter().cloned().map(without_number));
+        all.extend(family);
+    }
     all.extend(every_length_off_by_one());
-    all.extend(every_segment_emptied());
-    all.extend(every_mark_missing());
     all.extend(mpeg_lengths());
     all.extend(every_sync_byte());
     all
@@ -304,7 +310,8 @@ fn some_session(dice: &mut Dice) -> u32 {
     dice.pick(&[any, any, any, bit])
 }
 
-/// Up to 127 segments, short ones or such as share the room; now and then the last takes all that is left.
+/// Up to 127 segments, short ones or such as share the room; now and then the last takes all that is left. S is set or
+/// clear.
 fn sound_psp(dice: &mut Dice) -> Vec<u8> {
     let most = dice.pick(&[1, 3, 8, MOST_SEGMENTS]);
     let count = dice.between(1, most);
@@ -317,9 +324,9 @@ fn sound_psp(dice: &mut Dice) -> Vec<u8> {
     }
     segments[0].0 &= dice.pick(&[WHOLE, END]);
     segments[count - 1].0 &= dice.pick(&[WHOLE, BEGIN]);
-    let flow = dice.pick(&[0, 0, 0, 1, 2, 3]);
+    let byte4 = dice.pick(&[0, 0, 0, 1, 2, 3]) | dice.pick(&[S, S, S, 0]);
     let number = dice.next() as u16;
-    psp(some_session(dice), flow, number, &segments)
+    psp_with(some_session(dice), byte4, count as u8, number, &segments)
 }
 
 /// Up to 21 MPEG packets; any byte 5, S set or clear.
@@ -358,7 +365,16 @@ mod tests {
     fn the_first_questions_show_every_answer() {
         let first = one_of_each().len() * (2 + OTHER_KINDS.len()) * (2 + OTHER_TRANSPORTS.len());
         let answers = directed().take(first).map(|question| answer(question.kind, &question.arrival));
-        assert_eq!(answers.collect::<BTreeSet<_>>(), [0, 2, 3, 4, 6, 7, 8, 9, 10, 11, 15, 24].into());
+        assert_eq!(answers.collect::<BTreeSet<_>>(), [0, 2, 3, 4, 6, 7, 9, 10, 11, 15, 24].into());
+    }
+
+    /// Document 02, W2: as PSP they have the answers of those with S set.
+    #[test]
+    fn packets_without_a_number_have_the_same_answers() {
+        let with_number = one_of_each_from_session().into_iter().filter(|packet| packet.len() >= HEADER_BYTES);
+        for (with, without) in with_number.zip(one_of_each_without_number()) {
+            assert_eq!(answer(PSP, &over_ip(with).into()), answer(PSP, &over_ip(without).into()));
+        }
     }
 
     #[test]

@@ -31,7 +31,7 @@ use crate::packet::MPEG_BYTES;
 use crate::raw::RawTable;
 
 /// What the calls of `tests/calls` are there for. Each case has to come up.
-pub const CASES: [&str; 82] = [
+pub const CASES: [&str; 87] = [
     "first calls",
     "packets checked",
     "packets checked as kinds that there are not",
@@ -42,6 +42,13 @@ pub const CASES: [&str; 82] = [
     "every first and second byte over UDP",
     "every first and second byte over IP",
     "one flow by both transports",
+    "S clear: short packets in every row and flow",
+    "S clear: segments around 2,048 bytes",
+    "S clear: most bytes that a call drops",
+    "S clear: number fields around the expected number",
+    "S clear, then a packet with a number",
+    "S clear and no refusal",
+    "S clear: sets of refusals",
     "segments as other kinds and by other transports",
     "segments of packets",
     "segments of packets that are refused",
@@ -85,9 +92,7 @@ pub const CASES: [&str; 82] = [
     "refusals 4 and 5",
     "refusals 5 and 6",
     "refusals 6 and 7",
-    "refusals 7 and 8",
     "refusals 7 and 9",
-    "refusals 8 and 9",
     "refusals 9 and 10",
     "refusals 9 and 12",
     "refusals 10 and 11",
