@@ -1,4 +1,5 @@
--- What becomes of a packet, and what refuses it, by the kind of its session and by whether it has a number. Each law is said of the test first, and then of the terms.
+-- What becomes of a packet, and what refuses it, by the kind of its session and by whether it has a number. Each law is said of the test
+-- first, and then of the terms.
 use Prim.Native.Nat.{ℕ, _<_}
 use mathlib.Core.Path.{_≡_, refl, sym, _∙_}
 use mathlib.Core.Bool.{Bool, true, false, cond}

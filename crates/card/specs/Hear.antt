@@ -1,6 +1,6 @@
--- One packet on one flow (document 01, "Opening, closing, listening"; document 02, W2): the step of one flow. There is no table here and there are no
--- places. The flow's record and the bytes that it holds go in; the next record, the gap and what became of the bytes come out. The
--- packet is accepted: no refusal applies. `sub` is what follows its session ID.
+-- One packet on one flow (document 01, "Opening, closing, listening"; document 02, W2): the step of one flow. There is no table here and
+-- there are no places. The flow's record and the bytes that it holds go in; the next record, the gap and what became of the bytes come
+-- out. The packet is accepted: no refusal applies. `sub` is what follows its session ID.
 use Prim.Native.Nat.{ℕ}
 use mathlib.Core.Bool.{Bool, true, false, cond}
 use mathlib.Core.List.{List}

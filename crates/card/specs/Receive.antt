@@ -1,7 +1,7 @@
--- The data call, whole (document 01, "The card in numbers", "Opening, closing, listening" and "Refusal numbers"; document 02, W1 and W2). It is
--- given the table, a packet with its transport, and three slices: the holding slice, and two for what comes out, the frames back to back
--- and their lengths. Either it is refused, with the first number of the order that applies, all counts 0 and everything as it was; or the
--- packet's flow hears it, and that flow's record, its place and what is delivered are all that changes.
+-- The data call, whole (document 01, "The card in numbers", "Opening, closing, listening" and "Refusal numbers"; document 02, W1 and W2).
+-- It is given the table, a packet with its transport, and three slices: the holding slice, and two for what comes out, the frames back to
+-- back and their lengths. Either it is refused, with the first number of the order that applies, all counts 0 and everything as it was;
+-- or the packet's flow hears it, and that flow's record, its place and what is delivered are all that changes.
 use Prim.Native.Nat.{ℕ, zero, suc, _+_, _*_}
 use mathlib.Core.Path.{_≡_}
 use mathlib.Core.Bool.{Bool, cond, not, _||_}

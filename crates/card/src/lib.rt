@@ -1,6 +1,6 @@
-// The data call: a packet comes in, whole frames go out, and what is left of a frame waits in its flow's place. Crate `join` has the rule of
-// PSP packets with a number, and `pass` that of packets whose pieces are never joined; this one has the order of refusals, and what the
-// answer and the next table are.
+// The data call: a packet comes in, whole frames go out, and what is left of a frame waits in its flow's place. Crate `join` has the rule
+// of PSP packets with a number, and `pass` that of packets whose pieces are never joined; this one has the order of refusals, and what
+// the answer and the next table are.
 //
 // All of a packet is judged before anything is written. Each segment entry is read when it is needed, so no copy of the segment table is
 // made, and the call keeps nothing from one packet to the next but what stands in the table and in the holding slice.

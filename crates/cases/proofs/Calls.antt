@@ -140,7 +140,8 @@ dmpt : (received (dmpt-card fresh) (ip (D 0x00)) (lent before) ≡ accepts 1 188
     × (received (dmpt-card (at 0x1235 0)) (ip (D 0x00)) (lent before) ≡ accepts 1 188 188 0 (dmpt-card (at 0x1235 0)) before (mpeg 0xFE) (188 ∷ []))
     × (received (dmpt-card (at 0x1235 0)) (ip (set (D 0x40) 8 0x48)) (lent before) ≡ refuses 11 (dmpt-card (at 0x1235 0)) before)
     × (received (dmpt-card fresh) (ip (D 0x41)) (lent before) ≡ refuses 7 (dmpt-card fresh) before)
-unfolding part rest put joined lengths any least sumTo upTo ahead next mpegAt mpegs broken inOrder passAll dmptFate hear carriedOut refused receivedBy received
+unfolding part rest put joined lengths any least sumTo upTo ahead next mpegAt mpegs broken inOrder passAll dmptFate hear carriedOut
+    refused receivedBy received
 dmpt = (refl, refl, refl, refl, refl, refl, refl, refl)
 
 -- The order: each call meets a refusal and a later one. Slices that are too short come first, each by itself; then a broken table,
@@ -175,21 +176,23 @@ order : (received broken-card (ip []) (short 49151 6144 127) ≡ refused 1 broke
 unfolding part rest put any least sumTo ahead next bodyAt wanted broken refused receivedBy received
 order = (refl, refl, refl, refl, refl, refl, refl, refl, refl, refl, refl, refl, refl, refl, refl, refl)
 
--- Without a number (W2). A on a fresh flow: its frame of 6 comes out, the 2 bytes behind it are dropped, and the flow is fresh still. B where
--- A's 2 bytes are held: those and B's 7 are dropped and not joined, the gap is 0, and 0 is still expected, though B's field says 0x1234 or
--- 0x8000, which with S set would be a gap or late; what stood in the place stands there still. Over UDP too. A whole frame of 3 behind 2,048
--- held, and one of 2,049. What is refused leaves what is held: here for its layout.
+-- Without a number (W2). A on a fresh flow: its frame of 6 comes out, the 2 bytes behind it are dropped, and the flow is fresh still. B
+-- where A's 2 bytes are held: those and B's 7 are dropped and not joined, the gap is 0, and 0 is still expected, though B's field says
+-- 0x1234 or 0x8000, which with S set would be a gap or late; what stood in the place stands there still. Over UDP too. A whole frame of 3
+-- behind 2,048 held, and one of 2,049. What is refused leaves what is held: here for its layout.
 abbrev clear : List ℕ → List ℕ
 clear packet = set packet 4 0x01
 
 abbrev sized : ℕ → ℕ → List ℕ
 sized high low = 0x00 ∷ 0x00 ∷ 0x01 ∷ 0x01 ∷ 0x01 ∷ 0x01 ∷ 0x00 ∷ 0x00 ∷ (0xC0 + high) ∷ low ∷ replicate (256 * high + low) 0x55
 
-without-number : (received (card fresh) (ip (clear A)) (lent before) ≡ accepts 1 6 2 0 (card fresh) before (0x11 ∷ 0x12 ∷ 0x13 ∷ 0x14 ∷ 0x15 ∷ 0x16 ∷ []) (6 ∷ []))
+without-number : (received (card fresh) (ip (clear A)) (lent before)
+    ≡ accepts 1 6 2 0 (card fresh) before (0x11 ∷ 0x12 ∷ 0x13 ∷ 0x14 ∷ 0x15 ∷ 0x16 ∷ []) (6 ∷ []))
     × (received (card (at 0 2)) (ip (clear B)) (lent afterA) ≡ accepts 0 0 9 0 (card (at 0 0)) afterA [] [])
     × (received (card (at 0 2)) (ip (set (set (clear B) 6 0x12) 7 0x34)) (lent afterA) ≡ accepts 0 0 9 0 (card (at 0 0)) afterA [] [])
     × (received (card (at 0 2)) (inUdp (set (clear B) 6 0x80)) (lent afterA) ≡ accepts 0 0 9 0 (card (at 0 0)) afterA [] [])
-    × (received (card (at 4 2048)) (ip (sized 0 3)) (lent (full 2048)) ≡ accepts 1 3 2048 0 (card (at 4 0)) (full 2048) (0x55 ∷ 0x55 ∷ 0x55 ∷ []) (3 ∷ []))
+    × (received (card (at 4 2048)) (ip (sized 0 3)) (lent (full 2048))
+    ≡ accepts 1 3 2048 0 (card (at 4 0)) (full 2048) (0x55 ∷ 0x55 ∷ 0x55 ∷ []) (3 ∷ []))
     × (received (card (at 4 2048)) (ip (sized 8 1)) (lent (full 2048)) ≡ accepts 0 0 4097 0 (card (at 4 0)) (full 2048) [] [])
     × (received (card (at 0 2)) (ip (take 19 (clear A))) (lent afterA) ≡ refuses 10 (card (at 0 2)) afterA)
 unfolding part rest put joined lengths any least sumTo upTo bodyAt segmentAt segments wanted broken inOrder passAll unnumberedFate hear

@@ -81,7 +81,9 @@ closes-counted : (countedBy bytesTaken empty and-closes ≡ 394)
     × (countedBy bytesDelivered empty and-closes ≡ 203)
     × (countedBy bytesDropped empty and-closes ≡ 191)
     × (heldInAll (tableAfterAll empty and-closes) ≡ 0)
-unfolding part rest put joined lengths cutBy any least sumTo upTo ahead next bodyAt segmentAt segments wanted mpegAt mpegs broken opened closed settledBy settled fateBy fate atGap inOrder pspFate passAll dmptFate hear carriedOut refused receivedBy received answer after countedBy tableAfterAll
+unfolding part rest put joined lengths cutBy any least sumTo upTo ahead next bodyAt segmentAt segments wanted mpegAt mpegs broken opened
+    closed settledBy settled fateBy fate atGap inOrder pspFate passAll dmptFate hear carriedOut refused receivedBy received answer after
+    countedBy tableAfterAll
 closes-counted = (refl, refl, refl, refl)
 
 never-broken-instance : (broken (tableAfterAll empty slices-change) ≡ false) × (length (tableAfterAll empty slices-change .rows) ≡ 6)

@@ -75,7 +75,8 @@ pub dmpt-instance : ((answer dmpt-card (hand dmpt-packet)) .code ≡ 0)
     × (after dmpt-card (hand dmpt-packet) ≡ dmpt-told)
     × (framesOf (answer dmpt-card (hand-udp dmpt-packet)) ≡ mpeg-some ∷ [])
     × (after dmpt-card (hand-udp dmpt-packet) ≡ dmpt-told)
-unfolding part rest put joined lengths cutBy any least sumTo upTo ahead next bodyAt segmentAt segments wanted mpegAt mpegs broken opened settledBy settled fateBy fate atGap inOrder pspFate passAll dmptFate hear carriedOut refused receivedBy received answer after afterAll
+unfolding part rest put joined lengths cutBy any least sumTo upTo ahead next bodyAt segmentAt segments wanted mpegAt mpegs broken opened
+    settledBy settled fateBy fate atGap inOrder pspFate passAll dmptFate hear carriedOut refused receivedBy received answer after afterAll
 dmpt-instance = (refl, refl, refl, refl, refl, refl, refl)
 
 pub dmpt-carries : (carrying (mpegs (sub (ip dmpt-packet))) ≡ mpeg-some ∷ []) × (nulls (mpegs (sub (ip dmpt-packet))) ≡ mpeg-null ∷ [])

@@ -142,7 +142,8 @@ too-late = record { code = 12; frames = 0; bytes = 0; dropped = 0; gap = 0; outp
 
 dmpt-numbered : told 0x103 (after (cardAfter (replicate 49152 0) []) (opens (asking kind.Dmpt 0x103))) (hand (numbered 0x34) ∷ hand (numbered 0x39) ∷ hand (numbered 0x39) ∷ [])
     ≡ one-frame 188 0 0 mpeg ∷ one-frame 188 0 4 mpeg ∷ too-late ∷ []
-unfolding part rest put joined lengths any least sumTo upTo ahead next mpegAt mpegs broken opened inOrder passAll dmptFate hear carriedOut refused receivedBy received answer after afterAll told
+unfolding part rest put joined lengths any least sumTo upTo ahead next mpegAt mpegs broken opened inOrder passAll dmptFate hear carriedOut
+    refused receivedBy received answer after afterAll told
 dmpt-numbered = refl
 
 -- A frame of 25 bytes with the limit 16, for a session whose ID has four unlike bytes: 10, 10 and 5 bytes, B on the first and E on the last.

@@ -55,7 +55,8 @@ unfoldable pub atGap : ℕ → List ℕ → Fate
 atGap zero held = keeping held
 atGap (suc gap) held = dropping held
 
--- Segments, or other pieces of a packet, in order: what became of the bytes so far, then of each further piece, by what is held when it comes.
+-- Segments, or other pieces of a packet, in order: what became of the bytes so far, then of each further piece, by what is held when it
+-- comes.
 unfoldable pub inOrder : {X : Type 0} → (List ℕ → X → Fate) → Fate → List X → Fate
 inOrder rule so-far [] = so-far
 inOrder rule so-far (x ∷ more) = inOrder rule (andThen so-far (rule (so-far .held) x)) more

@@ -59,8 +59,8 @@ module _ {X : Type 0} (l : Load X) (fitting : Fitting l) where
 
   pub fate-accounts : (k : ℕ) → k ≤ l .count → Accounts (length (l .held) + sumTo (l .size) k) k 0 (fateAt l k)
   fate-accounts k few =
-      in-order-accounts (λ before x. passedOn (l .goes x) (l .body x)) (dropping (l .held)) (l .piece) (l .size) (length (l .held)) 0 (l .count)
-      (first-accounts (l .held)) each-accounts k few
+      in-order-accounts (λ before x. passedOn (l .goes x) (l .body x)) (dropping (l .held)) (l .piece) (l .size) (length (l .held)) 0
+      (l .count) (first-accounts (l .held)) each-accounts k few
 
 -- The loop's invariant.
 abbrev pub without : List ℕ → List ℕ → Slices
@@ -78,7 +78,8 @@ carry-begin l out lens tally e =
     rw e
     (record { within = omega arith; placed = placed-dropping 0 nothingYet (without out lens) (l .held) _ refl refl refl (omega arith) })
 
-module _ {X : Type 0} (l : Load X) (fitting : Fitting l) {out lens : List ℕ} (room : mostBytes ≤ length out) (places : mostFrames ≤ length lens)
+module _ {X : Type 0} (l : Load X) (fitting : Fitting l) {out lens : List ℕ}
+    (room : mostBytes ≤ length out) (places : mostFrames ≤ length lens)
     {out′ lens′ : List ℕ} {tally : Tally} {k : ℕ} (c : Carrying l out lens out′ lens′ tally k) where
   account : Accounts (length (l .held) + sumTo (l .size) k) k 0 (fateAt l k)
   account = fate-accounts l fitting k (c .within)

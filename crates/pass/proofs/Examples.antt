@@ -14,8 +14,8 @@ segment b e n = record { begins = b; ends = e; body = replicate n 9 }
 abbrev frame : List ℕ → Segment
 frame bytes = record { begins = true; ends = true; body = bytes }
 
--- Without a number what is held is dropped first, where the first segment would end it too. A whole frame is delivered at 2,047 bytes and at
--- 2,048, and dropped at 2,049; a segment without B, without E or without both is dropped.
+-- Without a number what is held is dropped first, where the first segment would end it too. A whole frame is delivered at 2,047 bytes and
+-- at 2,048, and dropped at 2,049; a segment without B, without E or without both is dropped.
 each-segment : (unnumberedFate 2048 (1 ∷ 2 ∷ []) (segment false true 3 ∷ []) ≡ dropping (1 ∷ 2 ∷ 9 ∷ 9 ∷ 9 ∷ []))
     × (unnumberedFate 2048 [] (segment true true 2047 ∷ []) ≡ delivering (replicate 2047 9))
     × (unnumberedFate 2048 [] (segment true true 2048 ∷ []) ≡ delivering (replicate 2048 9))

@@ -1,5 +1,5 @@
--- The two loads: the MPEG packets of a D-MPT packet, and the segments of a PSP packet without a number. Both are few enough, since the packet
--- was not refused.
+-- The two loads: the MPEG packets of a D-MPT packet, and the segments of a PSP packet without a number. Both are few enough, since the
+-- packet was not refused.
 use Prim.Native.Nat.{ℕ, _+_, _*_, _<_, _≤_}
 use mathlib.Core.Path.{_≡_, refl}
 use mathlib.Core.Bool.{Bool, _&&_}

@@ -1,6 +1,6 @@
--- Packets whose pieces are passed on or dropped, each by itself: PSP packets without a number (document 02, W2) and D-MPT packets (document 01,
--- "Opening, closing, listening"). Nothing is joined and nothing is held from then on; what the flow held when the packet came is dropped
--- first. The join rule, of PSP packets with a number, is crate `join`'s.
+-- Packets whose pieces are passed on or dropped, each by itself: PSP packets without a number (document 02, W2) and D-MPT packets
+-- (document 01, "Opening, closing, listening"). Nothing is joined and nothing is held from then on; what the flow held when the packet
+-- came is dropped first. The join rule, of PSP packets with a number, is crate `join`'s.
 use Prim.Native.Nat.{ℕ}
 use mathlib.Core.Bool.{Bool, cond, not, _&&_}
 use mathlib.Core.List.{List}
@@ -18,7 +18,8 @@ passedOn goes bytes = cond goes (delivering bytes) (dropping bytes)
 unfoldable pub passAll : {X : Type 0} → (X → Bool) → (X → List ℕ) → List ℕ → List X → Fate
 passAll goes body held pieces = inOrder (λ before x. passedOn (goes x) (body x)) (dropping held) pieces
 
--- A segment of a PSP packet without a number is passed on where it is a whole frame, with B and with E, of at most the longest frame's bytes.
+-- A segment of a PSP packet without a number is passed on where it is a whole frame, with B and with E, of at most the longest frame's
+-- bytes.
 abbrev pub wholeWithin : ℕ → Segment → Bool
 wholeWithin longest s = s .begins && s .ends && leb (length (s .body)) longest
 

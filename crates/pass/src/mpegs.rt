@@ -1,5 +1,5 @@
-// The MPEG packets of an accepted D-MPT packet (document 01, "Opening, closing, listening"): one that carries nothing is dropped, any other is
-// delivered as a frame of 188 bytes.
+// The MPEG packets of an accepted D-MPT packet (document 01, "Opening, closing, listening"): one that carries nothing is dropped, any
+// other is delivered as a frame of 188 bytes.
 ghost use mathlib.Core.List.{[]};
 ghost use mathlib.Core.Path.{_≡_};
 ghost use Prim.Native.Nat.{_+_, _≤_};

@@ -1,5 +1,5 @@
-// The segments of an accepted PSP packet without a number (document 02, W2): what the flow holds is dropped first; a segment with B and E is
-// delivered, unless it is too long; any other is dropped, so that nothing is joined with what is not known to be its neighbour.
+// The segments of an accepted PSP packet without a number (document 02, W2): what the flow holds is dropped first; a segment with B and E
+// is delivered, unless it is too long; any other is dropped, so that nothing is joined with what is not known to be its neighbour.
 ghost use mathlib.Core.List.{List, []};
 ghost use mathlib.Core.Path.{_≡_};
 ghost use Prim.Native.Nat.{ℕ, _+_, _≤_};

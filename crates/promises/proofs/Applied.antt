@@ -24,8 +24,8 @@ use Rattle.promises.specs.Words.{chosen}
 use Rattle.promises.specs.Unnumbered.{DeliversAlone}
 use Rattle.promises.proofs.Promises.{unnumbered-delivers, never-given}
 
--- `unnumbered-delivers`: flow 1 of session 0x101 expects number 7 and holds 2 bytes. A packet without a number, over UDP, brings the end of a
--- frame, two whole frames and the beginning of one; its field says 0x1234.
+-- `unnumbered-delivers`: flow 1 of session 0x101 expects number 7 and holds 2 bytes. A packet without a number, over UDP, brings the end
+-- of a frame, two whole frames and the beginning of one; its field says 0x1234.
 abbrev table : Flow → Table
 table f =
     record {
@@ -55,8 +55,8 @@ abbrev comes : Arrival
 comes = record { packet = inUdp four; output = replicate 6144 0; lengths = replicate 127 0 }
 
 delivers-alone : DeliversAlone waiting comes
-unfolding part rest put joined lengths any least sumTo upTo bodyAt segmentAt segments wanted broken inOrder passAll unnumberedFate hear carriedOut
-    refused receivedBy received answer
+unfolding part rest put joined lengths any least sumTo upTo bodyAt segmentAt segments wanted broken inOrder passAll unnumberedFate hear
+    carriedOut refused receivedBy received answer
 delivers-alone = unnumbered-delivers waiting comes refl refl refl
 
 -- its conclusions: two frames; 2 held bytes and 4 more dropped; gap 0; the places as they were; number 7 expected still

@@ -1,5 +1,5 @@
--- What an accepted D-MPT packet delivers: each of its MPEG packets is a frame, or it is dropped by its PID (`Pieces`). Nothing is held before or
--- behind them, so the holding slice stays as it was.
+-- What an accepted D-MPT packet delivers: each of its MPEG packets is a frame, or it is dropped by its PID (`Pieces`). Nothing is held
+-- before or behind them, so the holding slice stays as it was.
 use Prim.Native.Nat.{ℕ, _*_, _≤_}
 use mathlib.Core.Path.{_≡_, refl, sym, ap, _∙_}
 use mathlib.Core.Bool.{Bool, true, false, not}
@@ -39,7 +39,8 @@ dropped-are : (packets : List (List ℕ)) → dmptFate [] packets .dropped ≡ j
 unfolding dmptFate
 dropped-are packets =
     pass-drops carriesSome asItIs [] packets
-    ∙ ap joined (map-id (chosen (λ m. not (not (isNull m))) packets) ∙ chosen-alike (λ m. not (not (isNull m))) isNull packets (λ m. twice (isNull m)))
+    ∙ ap joined (map-id (chosen (λ m. not (not (isNull m))) packets))
+    ∙ ap joined (chosen-alike (λ m. not (not (isNull m))) isNull packets (λ m. twice (isNull m)))
   where
     twice : (b : Bool) → not (not b) ≡ b
     twice true = refl
@@ -55,7 +56,8 @@ unfolding joined
 all-whole [] whole = refl
 all-whole (m ∷ more) whole = omega (arith, whole .0, all-whole more (whole .1), length-append m (joined more))
 
-module _ (t : Table) (packet : Packet) (s : Slices) (d : isDmpt (termsAt t (rowOf t packet) .kind) ≡ true) (z : received t packet s .answer .code ≡ 0) where
+module _ (t : Table) (packet : Packet) (s : Slices) (d : isDmpt (termsAt t (rowOf t packet) .kind) ≡ true)
+    (z : received t packet s .answer .code ≡ 0) where
   here : Accepted t packet s
   here = accepted t packet s z
 
@@ -69,10 +71,11 @@ module _ (t : Table) (packet : Packet) (s : Slices) (d : isDmpt (termsAt t (rowO
 
   pub dropped-count : received t packet s .answer .dropped ≡ mpegLength * length (nulls (mpegs (sub packet)))
   dropped-count =
+      let each = each-chosen (λ m. length m ≡ mpegLength) isNull (mpegs (sub packet)) (mpegs-whole (sub packet) header) in
       dropped-is t packet s z
       ∙ ap (λ (f : Fate). length (f .dropped)) becomes
       ∙ ap length (dropped-are (mpegs (sub packet)))
-      ∙ all-whole (nulls (mpegs (sub packet))) (each-chosen (λ m. length m ≡ mpegLength) isNull (mpegs (sub packet)) (mpegs-whole (sub packet) header))
+      ∙ all-whole (nulls (mpegs (sub packet))) each
 
 pub dmpt-delivers : DmptDelivers
 unfolding answer after

@@ -22,7 +22,7 @@ use Rattle.card.specs.Receive.{Outcome, placeOf, rowOf, flowTo, flowOf, heldBy,
 use Rattle.card.specs.History.{Card, Arrival, lentWith}
 use Rattle.card.proofs.Taking.{large-enough}
 use Rattle.card.proofs.Accepted.{Accepted, accepted, flow-there}
-use Rattle.card.proofs.Limits.{accepted-bounded, held-none}
+use Rattle.card.proofs.Limits.{accepted-bounded}
 use Rattle.card.proofs.Step.{framesIn, StepOf, one-flow-step}
 use Rattle.promises.specs.Account.{packetBody}
 use Rattle.promises.proofs.Good.{Good}

@@ -1,5 +1,5 @@
--- Pieces that are passed on or dropped, told from the front: what comes out is the bodies of those that go on, and what is dropped is what was
--- held and then the bodies of the others.
+-- Pieces that are passed on or dropped, told from the front: what comes out is the bodies of those that go on, and what is dropped is
+-- what was held and then the bodies of the others.
 use Prim.Native.Nat.{ℕ, _≤_}
 use mathlib.Core.Path.{_≡_, refl, sym, ap, _∙_}
 use mathlib.Core.Bool.{Bool, true, false, not, cond}
@@ -104,7 +104,9 @@ module _ (t : Table) (packet : Packet) (s : Slices) (z : received t packet s .an
 
   pub places-stay : its-fate .held ≡ [] → received t packet s .slices .holding ≡ s .holding
   unfolding carriedOut
-  places-stay none = rw (received-accepted t packet s z, none) (put-nil (s .holding) (placeOf (rowOf t packet) (flowTo t (rowOf t packet) (sub packet))))
+  places-stay none =
+      rw (received-accepted t packet s z, none)
+      (put-nil (s .holding) (placeOf (rowOf t packet) (flowTo t (rowOf t packet) (sub packet))))
 
   -- one without a number passed over none
   pub no-gap : sSet (sub packet) ≡ false → received t packet s .answer .gap ≡ 0

@@ -50,7 +50,8 @@ gaps-are-told = gaps.gaps-are-told
 pub in-time-is-meant : InTimeIsMeant
 in-time-is-meant = in-time.in-time-is-meant
 
--- The byte account: specs/Account.antt. What D-MPT delivers: specs/Dmpt.antt. What a PSP packet without a number does: specs/Unnumbered.antt.
+-- The byte account: specs/Account.antt. What D-MPT delivers: specs/Dmpt.antt. What a PSP packet without a number does:
+-- specs/Unnumbered.antt.
 pub byte-account : ByteAccount
 byte-account = account.byte-account
 

@@ -1,5 +1,5 @@
--- Every frame that an accepted packet has delivered has 1 to 2,048 bytes: both rules of PSP drop what is longer, no segment of an accepted packet is
--- empty, and an MPEG packet has 188 bytes. The flow, what it holds and its table may be any.
+-- Every frame that an accepted packet has delivered has 1 to 2,048 bytes: both rules of PSP drop what is longer, no segment of an
+-- accepted packet is empty, and an MPEG packet has 188 bytes. The flow, what it holds and its table may be any.
 use Prim.Native.Nat.{ℕ, zero, suc, _≤_, _<_}
 use mathlib.Core.Path.{_≡_, refl}
 use mathlib.Core.Bool.{Bool, true, false, cond, _&&_}

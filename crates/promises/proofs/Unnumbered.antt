@@ -1,6 +1,6 @@
--- What an accepted PSP packet without a number delivers: each of its segments is a frame by itself, or it is dropped (`Pieces`); and what was
--- held before is dropped, however it came there. And that two numbers are not given: no order that a call goes through has 8, and where S is
--- clear nothing is late.
+-- What an accepted PSP packet without a number delivers: each of its segments is a frame by itself, or it is dropped (`Pieces`); and what
+-- was held before is dropped, however it came there. And that two numbers are not given: no order that a call goes through has 8, and
+-- where S is clear nothing is late.
 use Prim.Native.Nat.{ℕ, _+_}
 use mathlib.Core.Path.{_≡_, refl, sym, ap, _∙_}
 use mathlib.Core.Bool.{Bool, true, false, cond, not}
@@ -26,7 +26,8 @@ use Rattle.join.specs.Slices.{Slices}
 use Rattle.pass.specs.Pass.{wholeWithin, bodyOf, unnumberedFate}
 use Rattle.pass.proofs.Carrying.{unnumbered-holds-none}
 use Rattle.card.specs.Hear.{judgedOf, hear}
-use Rattle.card.specs.Receive.{rowOf, flowOf, heldBy, heardBy, earlyRefusals, packetRefusals, flowRefusals, dataRefusals, tooSmall, received}
+use Rattle.card.specs.Receive.{rowOf, flowOf, heldBy, heardBy, earlyRefusals, packetRefusals, flowRefusals, dataRefusals, tooSmall}
+use Rattle.card.specs.Receive.{received}
 use Rattle.card.specs.History.{Card, Call, opens, closes, hands, lentWith, answer, after}
 use Rattle.card.proofs.Accepted.{accepted, received-code}
 use Rattle.card.proofs.Keeping.{clear-empties}

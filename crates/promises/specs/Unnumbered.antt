@@ -1,7 +1,7 @@
--- PSP packets without a number (document 02, W2). What an accepted one delivers is exactly its whole segments, those with B and E, of at most
--- 2,048 bytes, in order, whatever its flow held; that and every other segment is dropped. The flow holds nothing afterwards, and expects
--- what it expected before: a fresh flow stays fresh. No byte of any place changes. And two numbers that are not given: 8 by no call, and 12
--- to no packet without a number.
+-- PSP packets without a number (document 02, W2). What an accepted one delivers is exactly its whole segments, those with B and E, of at
+-- most 2,048 bytes, in order, whatever its flow held; that and every other segment is dropped. The flow holds nothing afterwards, and
+-- expects what it expected before: a fresh flow stays fresh. No byte of any place changes. And two numbers that are not given: 8 by no
+-- call, and 12 to no packet without a number.
 use Prim.Native.Nat.{ℕ, _+_}
 use mathlib.Core.Path.{_≡_}
 use mathlib.Core.Bool.{Bool, false, not, _&&_}

@@ -26,7 +26,7 @@ use Rattle.card.specs.Hear.{widthIn}
 use Rattle.card.specs.Receive.{holdingSize, rowOf, flowOf, heldBy, packetRefusals, received}
 use Rattle.card.specs.History.{Card, Arrival, opens, closes, hands, lentWith, framesOf, answer}
 use Rattle.card.proofs.Accepted as call
-use Rattle.card.proofs.Limits.{bodyBytes, accepted-bounded, held-length, held-none}
+use Rattle.card.proofs.Limits.{bodyBytes, accepted-bounded, held-length}
 use Rattle.capture.specs.File.{Entry, headLength, entryLength, longestFile, openPsp, openDmpt, closing, entryCount, bodyLength, bodyStart, fileRefusal, nthEntry}
 use Rattle.capture.proofs.Checking.{is-sound}
 use Rattle.listing.specs.Run.{Running, asks, packetOf, callOf, answerTo, runOne, begin, standing, answerAt}
@@ -66,8 +66,8 @@ module _ (c : Card) (x : Arrival) where
   packet-few : received (c .table) packet slices .answer .code ≡ 0 → length (packetBody (termsAt (c .table) row .kind) behind) ≤ length (packet .bytes)
   packet-few z =
       let a = call.accepted (c .table) packet slices z in
-      let tells = heard-tells length by-length (termsAt (c .table) row) (flowOf (c .table) row behind) (heldBy (c .table) row behind slices) behind
-      (held-none (c .table) packet slices a) in
+      let tells = heard-tells length by-length (termsAt (c .table) row) (flowOf (c .table) row behind)
+      (heldBy (c .table) row behind slices) behind in
       omega (
         arith,
         tells,

@@ -22,7 +22,8 @@ use Rattle.sender.specs.Send.{mostSegments, Asked, SendOutcome, sendRefu
 use Rattle.sender.specs.Carried.{Carried}
 use Rattle.sender.specs.Series.{packetLeft}
 use Rattle.sender.specs.Rules.{segmentsOf, Addressed}
-use Rattle.sender.proofs.Reading.{nth, Sendable, length-packet, written-passes, written-counts, written-session, written-flow, written-number, written-segments}
+use Rattle.sender.proofs.Reading.{nth, Sendable, length-packet, written-passes, written-counts, written-session, written-flow}
+use Rattle.sender.proofs.Reading.{written-number, written-segments}
 use Rattle.sender.proofs.Positions.{Framed, framed, Inside, inside, carried-place}
 use Rattle.sender.proofs.Cutting.{Cutting, cutting-start, cut-keeps, cut-counts, cut-some}
 use Rattle.sender.proofs.Judging.{has-session, has-flow}
@@ -125,7 +126,9 @@ module _ (a : Asked) (z : first (sendRefusals a) ≡ 0) where
     sent-passes = ap (λ (p : List ℕ). check kindPsp (ip p)) sent-packet ∙ written-passes (a .session) (a .flow) (a .number) ((cutFor a) .segments) sendable
 
     pub sent-counts : sSet (sub (ip (packetLeft (sent a)))) ≡ true
-    sent-counts = ap (λ (p : List ℕ). sSet (sub (ip p))) sent-packet ∙ written-counts (a .session) (a .flow) (a .number) ((cutFor a) .segments) sendable
+    sent-counts =
+        ap (λ (p : List ℕ). sSet (sub (ip p))) sent-packet
+        ∙ written-counts (a .session) (a .flow) (a .number) ((cutFor a) .segments) sendable
 
     pub sent-addressed : Addressed (record { session = a .session; flow = a .flow; start = a .number }) (ip (packetLeft (sent a)))
     sent-addressed = (

@@ -32,7 +32,8 @@ use Rattle.octets.specs.Each.{Each}
 use Rattle.sender.specs.Rules.{Pieces, Line, Addressed, segmentsOf, allSegments, packetAt, KeepsRules}
 use Rattle.sender.proofs.Positions.{Framed, framed, Inside, place-within, carried-append, carried-place, carried-bytes}
 use Rattle.sender.proofs.Frames.{Filled, Apart, carried-apart, framesFrom, all-frames}
-use Rattle.sender.proofs.Keeping.{Typed, sent-number, sent-inside, sent-farther, sent-passes, sent-counts, sent-addressed, sent-numbered, sent-carries}
+use Rattle.sender.proofs.Keeping.{Typed, sent-number, sent-inside, sent-farther, sent-passes, sent-counts, sent-addressed}
+use Rattle.sender.proofs.Keeping.{sent-numbered, sent-carries}
 
 never : (n : ℕ) → n < n → ⊥
 never n h = omega arith

@@ -1,8 +1,8 @@
--- Any sender that keeps the published rules (document 01, from "Demand 3 and the next rule suppose" on; DEPI I05, section 8.3). Its frames
--- have 1 to 2,048 bytes. Its packets go to one flow of one session, pass the PSP check, have S set, so that they have a number (document 02,
--- W2), and are numbered one up from any start. The segments of a frame follow one another in order, with no other frame's between them, B
--- exactly on a frame's first segment and E exactly on its last. How it cuts its frames is its own affair, and it may be in the middle of
--- one. Each of its packets goes over IP or over UDP, in any mixture (document 02, W1).
+-- Any sender that keeps the published rules (document 01, from "Demand 3 and the next rule suppose" on; DEPI I05, section 8.3). Its
+-- frames have 1 to 2,048 bytes. Its packets go to one flow of one session, pass the PSP check, have S set, so that they have a number
+-- (document 02, W2), and are numbered one up from any start. The segments of a frame follow one another in order, with no other frame's
+-- between them, B exactly on a frame's first segment and E exactly on its last. How it cuts its frames is its own affair, and it may be
+-- in the middle of one. Each of its packets goes over IP or over UDP, in any mixture (document 02, W1).
 use Prim.Native.Nat.{ℕ, _<_, _≤_}
 use mathlib.Core.Path.{_≡_}
 use mathlib.Core.Bool.{Bool, true, false}

@@ -110,9 +110,9 @@ returns-2 c =
     let a = s .args in
     let clear : sSet (a .sub .now) ≡ false = sym (n .s-set .ensures) ∙ not-true _ (t .if2 .taken) in
     let w = c .before .before .before .before .walk2 .ensures in
-    let segs = segments (widthIn (a .terms .kind)) (a .sub .now) in (
+    let none = unnumbered-holds-none (a .terms .longest) (held s) (segments (widthIn (a .terms .kind)) (a .sub .now)) in (
       rw (fate-unnumbered (a .terms) (a .gap) (held s) (a .sub .now) (not-dmpt n) clear)
-          (placed-anywhere (w .0 (held s) (held-length s)) (unnumbered-holds-none (a .terms .longest) (held s) segs) (a .holding .now) (a .place)),
+          (placed-anywhere (w .0 (held s) (held-length s)) none (a .holding .now) (a .place)),
       w .1,
     )
 

@@ -1,5 +1,5 @@
--- `pass::mpegs::walk` is right since after k turns counts and slices show what became of the bytes by the first k MPEG packets (`Carrying`, of
--- `mpegLoad`).
+-- `pass::mpegs::walk` is right since after k turns counts and slices show what became of the bytes by the first k MPEG packets
+-- (`Carrying`, of `mpegLoad`).
 use Prim.Native.Nat.{_-_, _<_, _≤_}
 use mathlib.Core.Path.{_≡_, refl}
 use native.Mathlib.Omega.{arith}
@@ -8,7 +8,8 @@ use Rattle.packet.specs.Header.{headerLength}
 use Rattle.packet.specs.Dmpt.{mpegCount, mpegAt, mpegs}
 use Rattle.packet.proofs.Passing.{mpeg-inside}
 use Rattle.pass.specs.Pass.{dmptFate}
-use Rattle.pass.proofs.Carrying.{Fitting, Carrying, carry-begin, carry-lengths, carry-room, carry-fits, carry-turn, carry-within, carry-end}
+use Rattle.pass.proofs.Carrying.{Fitting, Carrying, carry-begin, carry-lengths, carry-room, carry-fits, carry-turn, carry-within}
+use Rattle.pass.proofs.Carrying.{carry-end}
 use Rattle.pass.proofs.Loads.{mpegLoad, mpegs-fit, dmpt-header}
 use borrow.Author.Needs.{needs}
 use Rattle.pass.proofs.mpegs.walk.Statement.{statement}

@@ -1,5 +1,5 @@
--- `pass::unnumbered::walk` is right since after k turns counts and slices show what became of the bytes by the first k segments (`Carrying`, of
--- `segmentLoad`), whatever the bytes were that the flow held.
+-- `pass::unnumbered::walk` is right since after k turns counts and slices show what became of the bytes by the first k segments
+-- (`Carrying`, of `segmentLoad`), whatever the bytes were that the flow held.
 use Prim.Native.Nat.{ℕ, _+_, _-_, _*_, _<_, _≤_}
 use mathlib.Core.Path.{_≡_, refl, _∙_, ap}
 use mathlib.Core.List.{List}
@@ -11,7 +11,8 @@ use Rattle.packet.specs.Segments.{Segment, lengthIn, lengthAt, bodyAt, segments
 use Rattle.packet.proofs.Entries.{entry-within}
 use Rattle.packet.proofs.Passing.{SegmentsPassed, segments-passed, entries-inside, table-small, body-inside}
 use Rattle.pass.specs.Pass.{unnumberedFate}
-use Rattle.pass.proofs.Carrying.{Load, Fitting, Carrying, carry-begin, carry-lengths, carry-room, carry-fits, carry-turn, carry-within, carry-end}
+use Rattle.pass.proofs.Carrying.{Load, Fitting, Carrying, carry-begin, carry-lengths, carry-room, carry-fits, carry-turn}
+use Rattle.pass.proofs.Carrying.{carry-within, carry-end}
 use Rattle.pass.proofs.Loads.{segmentLoad, segments-fit, segment-read, body-next}
 use borrow.Author.Needs.{needs}
 use Rattle.pass.proofs.unnumbered.walk.Statement.{statement}
@@ -85,7 +86,8 @@ body : (z : Sized) → turnOf z .before .loop .from + z .length-of .result ≤ l
 body z =
     let t = turnOf z in
     let s = start t in
-    omega (arith, size z, t .before .loop .inv .1, body-inside (s .args .width) (s .args .sub .now) (passed s) (t .before .loop .k) (there t))
+    let inside = body-inside (s .args .width) (s .args .sub .now) (passed s) (t .before .loop .k) (there t) in
+    omega (arith, size z, t .before .loop .inv .1, inside)
 
 segment-count-requires : tie.Need-segment-count-requires Inv-loop μ-loop
 segment-count-requires c κs = omega (arith, table-inside (c .before .before .before))
