@@ -60,7 +60,7 @@ early-of t p n = record { whole = n .0; passed = early-passed p (none-first (bef
 pub early-over : (t : Table) (p : Packet) → first (earlyRefusals t p) ≡ 0 → EarlyOver t p
 early-over t p z = early-of t p (none-applies (earlyRefusals t p) refl z)
 
--- refusals 6 to 11 passed, and 12:
+-- refusals 6, 7 and 9 to 11 passed, and 12:
 record FlowOver (t : Table) (r : ℕ) (after : List ℕ) : Type 0 where
   passed : first (packetRefusals (termsAt t r) after) ≡ 0
   in-time : judgedOf (flowOf t r after) after .late ≡ false

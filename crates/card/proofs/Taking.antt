@@ -108,7 +108,7 @@ not-taken-by : (c r : ℕ) (row : Row) (after : List ℕ) (s : Slices) → (c �
 not-taken-by zero r row after s some = absurd (some refl)
 not-taken-by (suc c) r row after s some = refl
 
--- The returns of `take`: refused before, refused by 6 to 11, late, heard.
+-- The returns of `take`: refused before, refused by 6, 7 and 9 to 11, late, heard.
 module _ (row : Row) (r : ℕ) (p : Packet) (s : Slices) where
   pub take-before : (code : ℕ) (answer : Taken) → (code ≡ 0 → ⊥) → answer ≡ notTaken code row →
       _≡_ {A = TakenOutcome} (record { taken = answer; slices = s }) (takes code r row p s)

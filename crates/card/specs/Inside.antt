@@ -45,7 +45,8 @@ pub record Seeks (t : Table) (p : Packet) (small : Bool) (found : Found) : Type 
   pub its-row : found .code ≡ 0 → found .row ≡ rowOf t p
   pub in-table : found .row < rows
 
--- What a row makes of a packet: the first refusal of 6 to 12, with the row as it was; or what its flow hears, with the flow's next record.
+-- What a row makes of a packet: the first refusal of 6, 7 and 9 to 12, with the row as it was; or what its flow hears, with the flow's
+-- next record.
 pub record TakenOutcome : Type 0 where
   pub taken : Taken
   pub slices : Slices
@@ -100,7 +101,7 @@ answered row k j tally =
       row = rowWith row k (record { heard = j .flow .heard; expected = j .flow .expected; held = tally .held });
     }
 
--- What a flow is given: refusals 6 to 11 have passed, and it holds no more than it may.
+-- What a flow is given: refusals 6, 7 and 9 to 11 have passed, and it holds no more than it may.
 pub record Hearable (terms : Terms) (held : ℕ) (sub : List ℕ) : Type 0 where
   pub most : terms .longest ≤ longest
   pub fits : held ≤ terms .longest

@@ -76,11 +76,11 @@ tooSmall s = ltb (length (s .holding)) holdingSize || ltb (length (s .output)) m
 abbrev pub earlyRefusals : Table → Packet → List Refusal
 earlyRefusals t p = 13 when broken t ∷ beforeSession p
 
--- 6 to 11, by the terms of the session
+-- 6, 7 and 9 to 11, by the terms of the session
 abbrev pub packetRefusals : Terms → List ℕ → List Refusal
 packetRefusals terms sub = cond (isDmpt (terms .kind)) (dmptRefusals sub) (pspRefusals (widthIn (terms .kind)) sub)
 
--- those that need the session's row: 6 to 11, and 12
+-- those that need the session's row: 6, 7 and 9 to 11, and 12
 abbrev pub rowRefusals : Row → List ℕ → List Refusal
 rowRefusals row sub = packetRefusals (termsOf row) sub ++ (12 when (judgedOf (flowFor row sub) sub) .late ∷ [])
 

@@ -50,8 +50,8 @@ pub struct Received {
     pub table: Table,
 }
 
-// Takes a packet: delivers the frames that it completes, and holds what it begins; or refuses it, and then nothing has changed. The table
-// is changed here and nowhere below: a row is taken out of it, and put back, as it was where the packet is refused.
+// Takes a packet: delivers the frames that it completes, and holds what it begins, where it has a number; or refuses it, and then nothing
+// has changed. The table is changed here and nowhere below: a row is taken out of it, and put back, as it was where the packet is refused.
 pub fn receive(
     table: Table,
     transport: u32,
@@ -171,7 +171,7 @@ fn not_taken(code: u32, row: Row) -> Taken
     }
 }
 
-// Takes a packet for the session in row `at`, unless it was refused before by `code`: refusals 6 to 12, or the flow hears it.
+// Takes a packet for the session in row `at`, unless it was refused before by `code`: refusals 6, 7 and 9 to 12, or the flow hears it.
 fn take(
     code: u32,
     row: Row,
@@ -237,7 +237,8 @@ fn answer(row: Row, k: usize, judged: Judged, tally: Tally) -> Taken
     }
 }
 
-// What a flow makes of a packet that passed refusals 6 to 11: how its number is judged; and, unless that is late, what became of the bytes.
+// What a flow makes of a packet that passed refusals 6, 7 and 9 to 11: how its number is judged; and, unless that is late, what became of
+// the bytes.
 struct Hearing {
     judged: Judged,
     tally: Tally,
@@ -283,7 +284,7 @@ fn hear(
     Hearing { judged, tally }
 }
 
-// Refusals 6 to 11, by the kind of the session; or 0.
+// Refusals 6, 7 and 9 to 11, by the kind of the session; or 0.
 fn refuse_packet(terms: Terms, sub: &[u8]) -> u32
     requires { ⌜ headerLength ≤ length (now sub) ⌝ }
     ensures { λ r. ⌜ r ≡ first (packetRefusals terms (now (sub .entry))) ⌝ }

@@ -179,7 +179,7 @@ order = (refl, refl, refl, refl, refl, refl, refl, refl, refl, refl, refl, refl,
 -- Without a number (W2). A on a fresh flow: its frame of 6 comes out, the 2 bytes behind it are dropped, and the flow is fresh still. B
 -- where A's 2 bytes are held: those and B's 7 are dropped and not joined, the gap is 0, and 0 is still expected, though B's field says
 -- 0x1234 or 0x8000, which with S set would be a gap or late; what stood in the place stands there still. Over UDP too. A whole frame of 3
--- behind 2,048 held, and one of 2,049. What is refused leaves what is held: here for its layout.
+-- behind 2,048 held, and one of 2,049. What is refused leaves what is held: here by 10 and by 11.
 abbrev clear : List ℕ → List ℕ
 clear packet = set packet 4 0x01
 
@@ -195,9 +195,10 @@ without-number : (received (card fresh) (ip (clear A)) (lent before)
     ≡ accepts 1 3 2048 0 (card (at 4 0)) (full 2048) (0x55 ∷ 0x55 ∷ 0x55 ∷ []) (3 ∷ []))
     × (received (card (at 4 2048)) (ip (sized 8 1)) (lent (full 2048)) ≡ accepts 0 0 4097 0 (card (at 4 0)) (full 2048) [] [])
     × (received (card (at 0 2)) (ip (take 19 (clear A))) (lent afterA) ≡ refuses 10 (card (at 0 2)) afterA)
+    × (received (card (at 0 2)) (ip (set (clear A) 10 0x00)) (lent afterA) ≡ refuses 11 (card (at 0 2)) afterA)
 unfolding part rest put joined lengths any least sumTo upTo bodyAt segmentAt segments wanted broken inOrder passAll unnumberedFate hear
     carriedOut refused receivedBy received
-without-number = (refl, refl, refl, refl, refl, refl, refl)
+without-number = (refl, refl, refl, refl, refl, refl, refl, refl)
 
 -- Over UDP (W1): A, and B behind it, come to what they come to over IP, and leave the same; so either may come by either. B once more is
 -- late.

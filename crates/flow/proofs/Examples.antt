@@ -50,7 +50,7 @@ late-leaves : judge (record { heard = 1; expected = 5; held = 2 }) 3 ≡ record 
 unfolding ahead next
 late-leaves = refl
 
--- D-MPT with S clear: no gap, not late, and the record as it was
+-- S clear: no gap, not late, and the record as it was
 unnumbered-leaves : (unnumbered fresh ≡ record { flow = fresh; gap = 0; late = false })
     × (unnumbered afterA ≡ record { flow = record { heard = 1; expected = 0; held = 2 }; gap = 0; late = false })
 unnumbered-leaves = (refl, refl)

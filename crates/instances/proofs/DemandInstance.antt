@@ -14,7 +14,7 @@ use Rattle.flow.specs.Numbers.{ahead, next, numberAt}
 use Rattle.packet.specs.Segments.{bodyAt, segmentAt, segments}
 use Rattle.packet.specs.Psp.{wanted}
 use Rattle.packet.specs.Check.{checkRefusals, check}
-use Rattle.packet.specs.Header.{Packet, packetBy, ip, udp, inUdp, sub, number}
+use Rattle.packet.specs.Header.{Packet, packetBy, ip, udp, inUdp, sub, sSet, number}
 use Rattle.table.specs.Broken.{broken}
 use Rattle.table.specs.Calls.{asking, opened, closed}
 use Rattle.join.specs.Join.{settledBy, settled, fateBy, fate, atGap, inOrder, pspFate}
@@ -67,7 +67,6 @@ keeps =
     record {
       sizes = ((omega arith, omega arith), ((omega arith, omega arith), ((omega arith, omega arith), ((omega arith, omega arith), tt))));
       passing = (refl, (refl, (refl, (refl, tt))));
-      counted = (refl, (refl, (refl, (refl, tt))));
       addressed = ((refl, refl), ((refl, refl), ((refl, refl), ((refl, refl), tt))));
       numbered = counts;
       in-order = refl;
@@ -147,6 +146,10 @@ pub overtaken-only : packetsTo kind.Psp 0x101 1 overtaken-calls ≡ map (packetA
 unfolding rest packetsTo
 overtaken-only = refl
 
+pub overtaken-numbered : Each (λ p. sSet (sub p) ≡ true) (packetsTo kind.Psp 0x101 1 overtaken-calls)
+unfolding rest packetsTo
+overtaken-numbered = (refl, (refl, (refl, (refl, (refl, tt)))))
+
 abbrev pub overtaken : Run sending
 overtaken =
     record {
@@ -158,6 +161,7 @@ overtaken =
       stays-open = (refl, (refl, (refl, (refl, (refl, (refl, (refl, (refl, (refl, (refl, (refl, (refl, tt))))))))))));
       long-enough = overtaken-long;
       only-these = overtaken-only;
+      all-numbered = overtaken-numbered;
       in-window = (omega arith, omega arith, (omega arith, omega arith, (omega arith, omega arith, (omega arith, omega arith, tt))));
     }
 
@@ -208,6 +212,14 @@ pub better-only : packetsTo kind.Psp 0x101 1 better-calls ≡ map (packetAt pack
 unfolding rest packetsTo
 better-only = refl
 
+pub worse-numbered : Each (λ p. sSet (sub p) ≡ true) (packetsTo kind.Psp 0x101 1 worse-calls)
+unfolding rest packetsTo
+worse-numbered = (refl, (refl, (refl, tt)))
+
+pub better-numbered : Each (λ p. sSet (sub p) ≡ true) (packetsTo kind.Psp 0x101 1 better-calls)
+unfolding rest packetsTo
+better-numbered = (refl, (refl, (refl, (refl, tt))))
+
 pub worse-long : LongEnough kind.Psp 0x101 1 (replicate 49152 0) worse-calls
 unfolding rest
 worse-long = (omega (arith, length-replicate {A = ℕ} 49152 0), (long-slices true, (long-slices true, (long-slices true, tt))))
@@ -227,6 +239,7 @@ worse =
       stays-open = (refl, (refl, (refl, tt)));
       long-enough = worse-long;
       only-these = worse-only;
+      all-numbered = worse-numbered;
       in-window = (omega arith, omega arith, (omega arith, omega arith, tt));
     }
 
@@ -241,6 +254,7 @@ better =
       stays-open = (refl, (refl, (refl, (refl, tt))));
       long-enough = better-long;
       only-these = better-only;
+      all-numbered = better-numbered;
       in-window = (omega arith, omega arith, (omega arith, omega arith, (omega arith, omega arith, tt)));
     }
 

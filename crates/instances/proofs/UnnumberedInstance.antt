@@ -1,6 +1,6 @@
 -- Closed instances of what a PSP packet without a number does: with bytes held, on a fresh flow, twice, between packets of another flow,
--- over both transports, with any number in its field, at 2,048 and 2,049 bytes; and what the account says of them. They cite definitions
--- alone, so that they can be held against wrong ones.
+-- over both transports, with several numbers in its field, at 2,048 and 2,049 bytes; and what the account says of them. They cite
+-- definitions alone, so that they can be held against wrong ones.
 use Prim.Native.Nat.{ℕ}
 use mathlib.Core.Path.{_≡_, refl}
 use mathlib.Core.Bool.{false}
@@ -26,7 +26,7 @@ use Rattle.promises.specs.Words.{chosen}
 use Rattle.promises.specs.Account.{Lent, bytesTaken, bytesDelivered, bytesDropped, countedBy, tableAfterAll, heldInAll}
 use Rattle.promises.specs.Account.{gathered, droppedBy}
 use Rattle.promises.specs.Unnumbered.{wholeOnes, others}
-use Rattle.promises.specs.Marked.{A, B, hand}
+use Rattle.promises.specs.Marked.{A, B, whole3, hand}
 
 -- a card on which session 0x101 is open, and then these calls
 abbrev card : List Call → Card
@@ -56,6 +56,14 @@ pub nothing-joined : (told (card (hand A ∷ [])) (hand (clear B)) ≡ 0 ∷ 0 �
 unfolding part rest put joined lengths any least sumTo upTo ahead next bodyAt segmentAt segments wanted broken opened settledBy settled
     fateBy fate atGap inOrder pspFate passAll unnumberedFate hear carriedOut refused receivedBy received answer after afterAll
 nothing-joined = (refl, refl, refl, refl, refl)
+
+-- So demand 3 asks that no packet without a number comes on the flow: A, a whole frame of 3 without a number, then B. Both packets of the
+-- frame of 9 arrived, before any packet sent after them, and it does not come out.
+pub premise-needed : (told (card (hand A ∷ [])) (hand (clear (whole3 0))) ≡ 0 ∷ 1 ∷ 3 ∷ 2 ∷ 0 ∷ [])
+    × (told (card (hand A ∷ hand (clear (whole3 0)) ∷ [])) (hand B) ≡ 0 ∷ 0 ∷ 0 ∷ 7 ∷ 0 ∷ [])
+unfolding part rest put joined lengths any least sumTo upTo ahead next bodyAt segmentAt segments wanted broken opened settledBy settled
+    fateBy fate atGap inOrder pspFate passAll unnumberedFate hear carriedOut refused receivedBy received answer after afterAll
+premise-needed = (refl, refl)
 
 -- On a fresh flow A without its number gives its frame of 6, and the 2 bytes behind it are dropped. The flow stays fresh: the card is as it
 -- was, twice over, and over UDP too; then B with any number is taken without a gap.

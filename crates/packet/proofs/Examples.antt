@@ -76,13 +76,14 @@ header-judged : (checkIp 1 (set A 4 0xC1) ≡ 6) × (checkIp 1 (set A 4 0x51) �
 unfolding check checkRefusals rest wanted bodyAt any sumTo
 header-judged = (refl, refl, refl, refl, refl, refl, refl, refl, refl, refl, refl)
 
--- M10: count 0, with the reserved bit too. M11: the last byte cut; one byte too many; entries cut, whole and in the middle; all of
--- it with S clear too
+-- M10: count 0, with the reserved bit too. M11: the last byte cut; one byte too many; entries cut, whole and in the middle. With S
+-- clear 9, 10 and 11 are the same: no segment, a byte too few, B missing on the second, E on the first
 segments-judged : (checkIp 1 (set A 5 0) ≡ 9) × (checkIp 1 (set A 5 0x80) ≡ 9) × (checkIp 1 (take 19 A) ≡ 10)
     × (checkIp 1 (A ++ (0 ∷ [])) ≡ 10) × (checkIp 1 (take 10 A) ≡ 10) × (checkIp 1 (take 11 A) ≡ 10)
     × (checkIp 1 (set (set A 4 0x01) 5 0) ≡ 9) × (checkIp 1 (set (take 19 A) 4 0x01) ≡ 10)
+    × (checkIp 1 (set (set A 4 0x01) 10 0x00) ≡ 11) × (checkIp 1 (set (set A 4 0x01) 8 0x80) ≡ 11)
 unfolding check checkRefusals rest wanted bodyAt any sumTo
-segments-judged = (refl, refl, refl, refl, refl, refl, refl, refl)
+segments-judged = (refl, refl, refl, refl, refl, refl, refl, refl, refl, refl)
 
 -- An empty segment, where the lengths add up and where they do not. B may be missing on the first only, E on the last only.
 marks-judged : (checkIp 1 (set (set A 9 8) 11 0) ≡ 11) × (checkIp 1 (set A 11 0) ≡ 10) × (checkIp 1 B ≡ 0)

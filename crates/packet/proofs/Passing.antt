@@ -69,7 +69,7 @@ segments-of width sub n =
 pub segments-passed : (width : ℕ) (sub : List ℕ) → first (segmentRefusals width sub) ≡ 0 → SegmentsPassed width sub
 segments-passed width sub z = segments-of width sub (none-applies (segmentRefusals width sub) refl z)
 
--- Refusals 6 to 11 passed, PSP.
+-- Refusals 6, 7 and 9 to 11 passed, PSP.
 pub record PspPassed (width : ℕ) (sub : List ℕ) : Type 0 where
   pub plain : notPlain sub ≡ false
   pub in-row : flowId sub ≤ topFlow
@@ -117,7 +117,7 @@ module _ (width : ℕ) (sub : List ℕ) (p : SegmentsPassed width sub) where
         or-false-right (eqb (lengthIn e) 0 || (not (eqb k 0) && not (beginsIn e))) (not (eqb (k + 1) (segmentCount sub)) && not (endsIn e)) entry-good in
         not-false (endsIn e) (simp (ne-eqb (k + 1) (segmentCount sub) more) at last)
 
--- Refusals 6 to 11 passed, D-MPT.
+-- Refusals 6, 7 and 9 to 11 passed, D-MPT.
 pub record DmptPassed (sub : List ℕ) : Type 0 where
   pub plain : notPlain sub ≡ false
   pub only-flow : flowId sub ≡ 0

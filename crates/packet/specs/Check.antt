@@ -1,7 +1,7 @@
--- The packet check without a table, and segment k of a packet (document 01, end of "Refusal numbers"; document 02, W1). The check answers
--- 24 for another kind than 1 and 2 or another transport, else the first of 2, 3, 15, 4, 6 to 11 that applies, else 0. Segment k is a
--- stretch of the caller's own packet, an empty one where the request is refused; its cause is 24 for another kind than PSP, else the
--- check's number, then 14 where the packet has no segment k, else 0.
+-- The packet check without a table, and segment k of a packet (document 01, end of "Refusal numbers"; document 02, W1 and W2). The check
+-- answers 24 for another kind than 1 and 2 or another transport, else the first of 2, 3, 15, 4, 6, 7 and 9 to 11 that applies, else 0.
+-- Segment k is a stretch of the caller's own packet, an empty one where the request is refused; its cause is 24 for another kind than
+-- PSP, else the check's number, then 14 where the packet has no segment k, else 0.
 use Prim.Native.Nat.{ℕ, zero, suc, _+_}
 use mathlib.Core.Path.{_≡_}
 use mathlib.Core.Bool.{Bool, cond, not, _&&_}

@@ -16,7 +16,7 @@ use Rattle.flow.specs.Numbers.{next, numberAt}
 use Rattle.flow.specs.Flow.{fresh, judge, heardMark}
 use Rattle.flow.proofs.Numbers.{numberAt-next}
 use Rattle.flow.proofs.Judging.{judge-forward, judge-behind}
-use Rattle.packet.specs.Header.{Packet, ip, sub, sSet}
+use Rattle.packet.specs.Header.{Packet, ip, sub}
 use Rattle.packet.specs.Segments.{Segment, entryWidth}
 use Rattle.card.specs.Hear.{judgedOf}
 use Rattle.sender.specs.Rules.{segmentsOf, packetAt}
@@ -25,6 +25,7 @@ use Rattle.promises.proofs.Readings.{framesRead}
 use Rattle.promises.proofs.Alone.{readAlone, framesAlone}
 use Rattle.promises.proofs.InTime.{in-time-after, in-time-before, in-time-at, in-time-none}
 use Rattle.promises.proofs.FromTheFront.{given, left, behind, behind-nothing}
+use Rattle.promises.proofs.Passed.{Counts}
 use Rattle.promises.proofs.Hearing.{listening, alone-late, frames-heard}
 
 -- a packet that came gives what its segments give; one that is missing gives nothing and leaves nothing held
@@ -87,14 +88,14 @@ ahead packets n x held xs from there =
 pub next-place : (start x : ℕ) → next (numberAt start x) ≡ numberAt start (suc x)
 next-place start x = numberAt-next start x ∙ ap (numberAt start) (add-one x)
 
-module _ (start : ℕ) (packets : List Packet) (counts : (x : ℕ) → x < length packets → sSet (sub (packetAt packets x)) ≡ true)
-    (by-place : (f : Flow) (x : ℕ) → x < length packets → judgedOf f (sub (packetAt packets x)) ≡ judge f (numberAt start x)) where
+module _ (start : ℕ) (packets : List Packet)
+    (by-place : (f : Flow) (x : ℕ) → Counts packets x → judgedOf f (sub (packetAt packets x)) ≡ judge f (numberAt start x)) where
   abbrev those : List ℕ → List Packet
   those xs = map (packetAt packets) xs
 
   -- `expected` is the place that the flow waits for
   arrivals-along : (f : Flow) (expected : ℕ) (held : List ℕ) (xs : List ℕ) → f .heard ≡ heardMark → f .expected ≡ numberAt start expected →
-      Each (λ x. x < length packets) xs → WithinBound expected xs →
+      Each (Counts packets) xs → WithinBound expected xs →
       framesAlone f held (those xs) ≡ along (inTime xs) expected held (drop expected packets)
   unfolding readAlone
   arrivals-along f expected held [] hears waits sent within = sym (none-from (inTime []) expected held (drop expected packets) in-time-none)
@@ -110,11 +111,11 @@ module _ (start : ℕ) (packets : List Packet) (counts : (x : ℕ) → x < lengt
           let l : expected ≤ x = leb-true expected x e in
           let m : max expected (suc x) ≡ suc x = omega arith in
           let rest : List ℕ = left (behind (x - expected) held) (segmentsOf entryWidth (packetAt packets x)) in
-          frames-heard f held (packetAt packets x) (those xs) (numberAt start x) (x - expected) (counts x (sent .0))
+          frames-heard f held (packetAt packets x) (those xs) (numberAt start x) (x - expected) (sent .0 .1)
           (by-place f x (sent .0) ∙ judge-forward f start expected hears waits x l (within .0))
           ∙ ap (λ r. given (behind (x - expected) held) (segmentsOf entryWidth (packetAt packets x)) ++ r)
           (on (listening (numberAt start x) rest) rest refl (next-place start x) (rw m at (within .2)))
-          ∙ sym (ahead packets expected x held xs l (sent .0))
+          ∙ sym (ahead packets expected x held xs l (sent .0 .0))
       pick on stay false e =
           let l : x < expected = leb-false expected x e in
           let m : max expected (suc x) ≡ expected = omega arith in
@@ -123,12 +124,12 @@ module _ (start : ℕ) (packets : List Packet) (counts : (x : ℕ) → x < lengt
           ∙ sym (same-from (inTime (x ∷ xs)) (inTime xs) expected held (drop expected packets) (λ k i. in-time-after x xs k (omega arith)))
 
   -- a fresh flow takes any first place
-  pub window-along : (xs : List ℕ) → Each (λ x. x < length packets) xs → Window xs → framesAlone fresh [] (those xs) ≡ along (inTime xs) 0 [] packets
+  pub window-along : (xs : List ℕ) → Each (Counts packets) xs → Window xs → framesAlone fresh [] (those xs) ≡ along (inTime xs) 0 [] packets
   unfolding readAlone
   window-along [] sent window = sym (none-from (inTime []) 0 [] packets in-time-none)
   window-along (x ∷ xs) sent window =
       let rest : List ℕ = left [] (segmentsOf entryWidth (packetAt packets x)) in
-      frames-heard fresh [] (packetAt packets x) (those xs) (numberAt start x) 0 (counts x (sent .0)) (by-place fresh x (sent .0))
+      frames-heard fresh [] (packetAt packets x) (those xs) (numberAt start x) 0 (sent .0 .1) (by-place fresh x (sent .0))
       ∙ ap (λ r. given [] (segmentsOf entryWidth (packetAt packets x)) ++ r)
       (arrivals-along (listening (numberAt start x) rest) (suc x) rest xs refl (next-place start x) (sent .1) window)
-      ∙ sym (rw (behind-nothing (x - 0)) at (ahead packets 0 x [] xs (omega arith) (sent .0)))
+      ∙ sym (rw (behind-nothing (x - 0)) at (ahead packets 0 x [] xs (omega arith) (sent .0 .0)))

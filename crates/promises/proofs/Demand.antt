@@ -8,7 +8,7 @@ use lib.ListN.{length, getD}
 use Rattle.octets.specs.Each.{Each}
 use Rattle.octets.proofs.Elements.{each-at}
 use Rattle.flow.specs.Flow.{fresh, flows}
-use Rattle.packet.specs.Header.{Packet, ip}
+use Rattle.packet.specs.Header.{Packet, ip, sub, sSet}
 use Rattle.packet.specs.Check.{kindPsp, check}
 use Rattle.packet.proofs.Passing.{check-passed}
 use Rattle.table.specs.declared.Kind.the-variants as kind
@@ -22,6 +22,7 @@ use Rattle.promises.proofs.Readings.{Reading, readOut, framesRead, fram
 use Rattle.promises.proofs.Alone.{readAlone}
 use Rattle.promises.proofs.Good.{Good, good-empty, good-all, good-after, holding-kept, holding-kept-all}
 use Rattle.promises.proofs.Standing.{stands-opened}
+use Rattle.promises.proofs.Passed.{Counts}
 use Rattle.promises.proofs.OneFlow.{flow-demand}
 use Rattle.promises.proofs.Histories.{history-read}
 use Rattle.promises.proofs.Fewer.{fewer-by-demand}
@@ -66,6 +67,12 @@ were-sent : (session flow : ℕ) (packets : List Packet) (arrivals : List ℕ) �
 were-sent session flow packets [] own = tt
 were-sent session flow packets (x ∷ more) own = (sent-there session flow packets x (own .0), were-sent session flow packets more (own .1))
 
+-- .. and what arrives has a number
+counted : (packets : List Packet) (arrivals : List ℕ) → Each (λ x. x < length packets) arrivals →
+    Each (λ p. sSet (sub p) ≡ true) (map (packetAt packets) arrivals) → Each (Counts packets) arrivals
+counted packets [] sent set = tt
+counted packets (x ∷ more) sent set = ((sent .0, set .0), counted packets more (sent .1) (set .1))
+
 module _ (s : Sending) (r : Run s) where
   -- the card when the session has been opened
   good : Good (openedCard s r)
@@ -80,6 +87,11 @@ module _ (s : Sending) (r : Run s) where
   all-sent =
       were-sent (s .line .session) (s .line .flow) (s .packets) (r .arrivals)
       (subst (λ (l : List Packet). Each (λ p. ofFlow kind.Psp (s .line .session) (s .line .flow) p ≡ true) l) (r .only-these) (gets-own (s .line .session) (s .line .flow) (r .calls)))
+
+  pub all-counted : Each (Counts (s .packets)) (r .arrivals)
+  all-counted =
+      counted (s .packets) (r .arrivals) all-sent
+      (subst (λ (l : List Packet). Each (λ p. sSet (sub p) ≡ true) l) (r .only-these) (r .all-numbered))
 
   -- each packet that arrives was sent, and so passes the check and is for this flow
   passing-at : (arrivals : List ℕ) → Each (λ x. x < length (s .packets)) arrivals → Each (λ p. check kindPsp p ≡ 0) (map (packetAt (s .packets)) arrivals)
@@ -114,7 +126,7 @@ module _ (s : Sending) (r : Run s) where
 pub demand-3 : Demand3
 demand-3 s r =
     subst (Kept (WholeIn s r) 0 (s .frames)) (sym (frames-read kind.Psp (s .line .session) (s .line .flow) (openedCard s r) (r .calls) ∙ run-read s r framesRead))
-    (flow-demand (s .line) (s .frames) (s .unfinished) (s .packets) (r .arrivals) (s .keeps-rules) (all-sent s r) (r .in-window))
+    (flow-demand (s .line) (s .frames) (s .unfinished) (s .packets) (r .arrivals) (s .keeps-rules) (all-counted s r) (r .in-window))
 
 pub fewer-lost : FewerLost
 fewer-lost = fewer-by-demand demand-3

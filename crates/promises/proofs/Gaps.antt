@@ -24,10 +24,10 @@ use Rattle.promises.specs.Gaps.{Verdict, verdictsOut, verdictsFrom, verd
 use Rattle.promises.proofs.Readings.{Reading, readOut}
 use Rattle.promises.proofs.Alone.{readAlone}
 use Rattle.promises.proofs.Hearing.{alone-late, alone-heard}
-use Rattle.promises.proofs.Passed.{judged-by-place}
+use Rattle.promises.proofs.Passed.{Counts, judged-by-place}
 use Rattle.promises.proofs.Arrivals.{next-place}
 use Rattle.promises.specs.Demand.{kindOn}
-use Rattle.promises.proofs.Demand.{all-sent, run-read}
+use Rattle.promises.proofs.Demand.{all-counted, run-read}
 
 -- a late packet is answered by 12 and gap 0, and any other by 0 and the gap that the flow finds
 abbrev pub verdictsRead : Reading Verdict
@@ -46,13 +46,14 @@ verdicts-read kind session flow c [] = refl
 verdicts-read kind session flow c (x ∷ more) =
     ap (λ (l : List Verdict). cond (handsTo kind session flow x) (record { code = (answer c x) .code; gap = (answer c x) .gap } ∷ []) [] ++ l) (verdicts-read kind session flow (after c x) more)
 
-module _ (start : ℕ) (packets : List Packet) (by-place : (f : Flow) (x : ℕ) → x < length packets → judgedOf f (sub (packetAt packets x)) ≡ judge f (numberAt start x)) where
+module _ (start : ℕ) (packets : List Packet)
+    (by-place : (f : Flow) (x : ℕ) → Counts packets x → judgedOf f (sub (packetAt packets x)) ≡ judge f (numberAt start x)) where
   abbrev verdictsAlone : Flow → List ℕ → List ℕ → List Verdict
   verdictsAlone f held xs = readAlone verdictsRead f held (map (packetAt packets) xs)
 
   -- `expected` is the place that the flow waits for
   verdicts-along : (f : Flow) (expected : ℕ) (held : List ℕ) (xs : List ℕ) → f .heard ≡ heardMark → f .expected ≡ numberAt start expected →
-      Each (λ x. x < length packets) xs → WithinBound expected xs → verdictsAlone f held xs ≡ verdictsFrom expected xs
+      Each (Counts packets) xs → WithinBound expected xs → verdictsAlone f held xs ≡ verdictsFrom expected xs
   unfolding readAlone verdictsFrom
   verdicts-along f expected held [] hears waits sent within = refl
   verdicts-along f expected held (x ∷ xs) hears waits sent within =
@@ -78,7 +79,7 @@ module _ (start : ℕ) (packets : List Packet) (by-place : (f : Flow) (x : ℕ) 
           ∙ ap (λ (r : List Verdict). record { code = 12; gap = 0 } ∷ r) (stay (rw m at (within .2)))
 
   -- a fresh flow takes any first place
-  window-verdicts : (xs : List ℕ) → Each (λ x. x < length packets) xs → Window xs → verdictsAlone fresh [] xs ≡ verdictsOf xs
+  window-verdicts : (xs : List ℕ) → Each (Counts packets) xs → Window xs → verdictsAlone fresh [] xs ≡ verdictsOf xs
   unfolding readAlone verdictsOf
   window-verdicts [] sent window = refl
   window-verdicts (x ∷ xs) sent window =
@@ -91,4 +92,4 @@ gaps-are-told s r =
     verdicts-read (kindOn (s .line)) (s .line .session) (s .line .flow) _ (r .calls)
     ∙ run-read s r verdictsRead
     ∙ window-verdicts (s .line .start) (s .packets)
-    (judged-by-place (s .line) (s .frames) (s .unfinished) (s .packets) (s .keeps-rules)) (r .arrivals) (all-sent s r) (r .in-window)
+    (judged-by-place (s .line) (s .frames) (s .unfinished) (s .packets) (s .keeps-rules)) (r .arrivals) (all-counted s r) (r .in-window)

@@ -1,5 +1,5 @@
--- What a sender's packets have because each passes the PSP check, some segment and none of them empty, and because each has a number. So no
--- piece of a frame is empty either, and each packet is judged by the number of its place.
+-- What a sender's packets have because each passes the PSP check: some segment, and none of them empty. So no piece of a frame is empty
+-- either. And each that has a number is judged by the number of its place.
 use Prim.Native.Nat.{ℕ, zero, suc, _≤_, _<_}
 use mathlib.Core.Path.{_≡_, refl, ap, _∙_, subst}
 use mathlib.Core.Bool.{Bool, true, false}
@@ -8,7 +8,7 @@ use native.Mathlib.Omega.{arith}
 use lib.ListN.{length}
 use Rattle.octets.specs.Each.{Each}
 use Rattle.octets.proofs.Counts.{length-up-to}
-use Rattle.octets.proofs.Elements.{each-both, each-front, each-back, each-at, each-up-to}
+use Rattle.octets.proofs.Elements.{each-both, each-front, each-back, each-up-to}
 use Rattle.octets.proofs.Stretches.{length-part}
 use Rattle.flow.specs.declared.Flow.{Flow}
 use Rattle.flow.specs.Numbers.{numberAt}
@@ -27,6 +27,10 @@ HasBytes s = Filled (s .body)
 above-none : (n : ℕ) → (n ≡ 0 → ⊥) → 1 ≤ n
 above-none zero f = absurd (f refl)
 above-none (suc n) f = omega arith
+
+-- the packet at place x was sent, and has a number
+abbrev pub Counts : List Packet → ℕ → Type 0
+Counts packets x = (x < length packets) × (sSet (sub (packetAt packets x)) ≡ true)
 
 module _ (packet : Packet) (passes : check kindPsp packet ≡ 0) where
   passed : PspPassed entryWidth (sub packet)
@@ -79,11 +83,8 @@ module _ (line : Line) (frames : List Pieces) (unfinished : Pieces) (packets : L
       (each-front HasBytes (inTurn frames) (begunFrame true unfinished)
       (subst (Each HasBytes) (rules .in-order) (all-filled packets (rules .passing))))
 
-  -- the packet at place x has a number, and is judged by that of its place
-  pub counts-at : (x : ℕ) → x < length packets → sSet (sub (packetAt packets x)) ≡ true
-  counts-at x l = each-at (λ p. sSet (sub p) ≡ true) packets x (ip []) (rules .counted) l
-
-  pub judged-by-place : (f : Flow) (x : ℕ) → x < length packets → judgedOf f (sub (packetAt packets x)) ≡ judge f (numberAt (line .start) x)
-  judged-by-place f x l =
-      ap (λ (s : Bool). judgedBy s f (number (sub (packetAt packets x)))) (counts-at x l)
-      ∙ ap (judge f) (rules .numbered x l)
+  -- such a packet, at place x, is judged by the number of its place
+  pub judged-by-place : (f : Flow) (x : ℕ) → Counts packets x → judgedOf f (sub (packetAt packets x)) ≡ judge f (numberAt (line .start) x)
+  judged-by-place f x c =
+      ap (λ (s : Bool). judgedBy s f (number (sub (packetAt packets x)))) (c .1)
+      ∙ ap (judge f) (rules .numbered x (c .0))

@@ -98,6 +98,10 @@ module _ (t : Table) (packet : Packet) (s : Slices) (z : received t packet s .an
       omega (arith, accepted-bounded t packet s here .frames-few, large-enough s (here .large) .lengths-enough) in
       rw (received-accepted t packet s z) (frames-back (its-fate .delivered) (s .lengths) (s .output) room)
 
+  pub bytes-is : received t packet s .answer .bytes ≡ length (joined (its-fate .delivered))
+  unfolding carriedOut
+  bytes-is = rw (received-accepted t packet s z) refl
+
   pub dropped-is : received t packet s .answer .dropped ≡ length (its-fate .dropped)
   unfolding carriedOut
   dropped-is = rw (received-accepted t packet s z) refl

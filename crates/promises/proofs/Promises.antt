@@ -7,7 +7,7 @@ use Rattle.promises.specs.Demand.{Demand3, FewerLost}
 use Rattle.promises.specs.Gaps.{GapsAreTold}
 use Rattle.promises.specs.Account.{ByteAccount, EachByte}
 use Rattle.promises.specs.Dmpt.{DmptDelivers}
-use Rattle.promises.specs.Unnumbered.{UnnumberedDelivers, NeverGiven}
+use Rattle.promises.specs.Unnumbered.{UnnumberedAccepted, UnnumberedDelivers, NeverGiven}
 use Rattle.promises.specs.Isolation.{Isolation, OpenByIds}
 use Rattle.promises.specs.Limits.{WithinLimits, NeverBroken}
 use Rattle.promises.specs.Refusals.{RefusalsChangeNothing}
@@ -60,6 +60,9 @@ each-byte = bytes.each-byte
 
 pub dmpt-delivers : DmptDelivers
 dmpt-delivers = mpegs.dmpt-delivers
+
+pub unnumbered-accepted : UnnumberedAccepted
+unnumbered-accepted = unnumbered.unnumbered-accepted
 
 pub unnumbered-delivers : UnnumberedDelivers
 unnumbered-delivers = unnumbered.unnumbered-delivers

@@ -1,7 +1,7 @@
 -- There and back. The sender's packets keep the rules that demand 3 supposes, so demand 3 says what comes of them: over a network the frames that
 -- arrived whole; and where all arrive in order all of them, since each packet then arrives before any sent after it.
 use Prim.Native.Nat.{ℕ, _+_, _-_, _<_}
-use mathlib.Core.Path.{_≡_, refl, sym, ap, _∙_}
+use mathlib.Core.Path.{_≡_, refl, sym, ap, subst, _∙_}
 use mathlib.Core.Bool.{Bool, true, false, cond}
 use mathlib.Core.List.{List, [], _∷_, _++_, append-nil, append-assoc}
 use native.Mathlib.Omega.{arith}
@@ -10,6 +10,7 @@ use lib.Dec.{eqb, ltb}
 use lib.ListN.{length, getD, length-append, List·getD-append}
 use lib.Seq.{getD-append-add}
 use borrow.Author.Tests.{eqb-true, ltb-true, ltb-false}
+use Rattle.octets.specs.Each.{Each}
 use Rattle.octets.proofs.Elements.{each-both}
 use Rattle.flow.specs.Numbers.{modulus, numberAt}
 use Rattle.flow.proofs.Numbers.{next-below, numberAt-first, numberAt-from-next, numberAt-on}
@@ -22,7 +23,7 @@ use Rattle.sender.specs.Series.{Job, Turn, askedFor, packetLeft, seriesPackets,
 use Rattle.sender.specs.Rules.{Line, packetAt, KeepsRules, Pieces, FrameSized, Addressed, segmentsOf, wholeFrame, begunFrame, inTurn, allSegments}
 use Rattle.sender.proofs.Keeping.{sent-length, sent-number}
 use Rattle.sender.proofs.Series.{code-is, sends-all}
-use Rattle.sender.proofs.Ways.{keeps-ways}
+use Rattle.sender.proofs.Ways.{keeps-ways, numbers-ways}
 use Rattle.promises.specs.Demand.{Sending, Run}
 use Rattle.promises.specs.RoundTrip.{packetsGiven, lineOf, SenderKeepsRules, SendingsGoOn, KeepsLimit, sendingOf, RoundTrip}
 use Rattle.promises.proofs.AllArrive.{inARow, all-packets, in-bound, all-whole, all-kept}
@@ -35,7 +36,11 @@ sender-keeps-rules =
       pieces = λ g. (sends-all (g .job) (g .sound) (g .turns) (g .number) (g .two-bytes) (g .usable) (g .enough)) .0;
       are-sent = λ g.
           let all = sends-all (g .job) (g .sound) (g .turns) (g .number) (g .two-bytes) (g .usable) (g .enough) in
-          record { these-frames = all .1; by-the-rules = keeps-ways (lineOf g) (all .0) [] (g .ways) _ (all .2) };
+          record {
+            these-frames = all .1;
+            by-the-rules = keeps-ways (lineOf g) (all .0) [] (g .ways) _ (all .2);
+            has-numbers = numbers-ways (g .ways) _ (all .3);
+          };
     }
 
 -- No packet is longer than its limit.
@@ -81,7 +86,6 @@ both-keep line frames more unfinished packets behind first then =
     record {
       sizes = each-both FrameSized frames more (first .sizes) (then .sizes);
       passing = each-both (λ p. check kindPsp p ≡ 0) packets behind (first .passing) (then .passing);
-      counted = each-both (λ p. sSet (sub p) ≡ true) packets behind (first .counted) (then .counted);
       addressed = each-both (Addressed line) packets behind (first .addressed) (then .addressed);
       numbered = numbered-both (line .start) packets behind (first .numbered) (then .numbered);
       in-order =
@@ -131,6 +135,7 @@ round-trip =
             stays-open = o .stays-open;
             long-enough = o .long-enough;
             only-these = o .all-arrive ∙ sym (all-packets (packetsGiven g));
+            all-numbered = subst (Each (λ p. sSet (sub p) ≡ true)) (sym (o .all-arrive)) (is-sent .has-numbers);
             in-window = in-bound (length (packetsGiven g));
           } in
           all-kept (all-whole (sender-keeps-rules .pieces g) (packetsGiven g)) (demand-3 s r) ∙ is-sent .these-frames;

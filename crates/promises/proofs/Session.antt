@@ -30,8 +30,8 @@ pub record Session : Type 0 where
 abbrev pub begun : Request → Session
 begun q = record { terms = termsOf (freshRow q); flow = λ k. fresh; held = λ k. [] }
 
--- What a packet of it is refused by, in order: 1 by the lengths of the three slices, 2 to 4, 6 to 11 by its kind, 12 by the packet's flow. (13
--- and 5 are left out: no card that calls can have come to is broken, and the session is open.)
+-- What a packet of it is refused by, in order: 1 by the lengths of the three slices, 2 to 4, 6, 7 and 9 to 11 by its kind, 12 by the
+-- packet's flow. (13 and 5 are left out: no card that calls can have come to is broken, and the session is open.)
 abbrev pub short : ℕ → ℕ → ℕ → Bool
 short holding out lens = ltb holding holdingSize || ltb out mostBytes || ltb lens mostFrames
 

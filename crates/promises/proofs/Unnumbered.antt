@@ -9,7 +9,7 @@ use native.Mathlib.Omega.{arith}
 use lib.Dec.{eqb, leb}
 use lib.ListN.{length, length-append}
 use Rattle.refusal.specs.Refusal.{Refusal, _when_, first}
-use Rattle.refusal.proofs.Laws.{lacks, lacks-both, first-lacks, first-idle}
+use Rattle.refusal.proofs.Laws.{lacks, lacks-both, first-lacks, first-idle, first-skips}
 use Rattle.octets.specs.Stretch.{joined}
 use Rattle.flow.specs.Flow.{longest}
 use Rattle.packet.specs.Header.{Packet, sub, sSet, sessionId, beforeSession, segmentCount}
@@ -19,6 +19,7 @@ use Rattle.packet.specs.Dmpt.{dmptRefusals}
 use Rattle.packet.specs.Check.{kindPsp, checkRefusals, check, causeRefusals, segmentCause}
 use Rattle.table.specs.declared.Table.{Table}
 use Rattle.table.specs.Rows.{isDmpt, termsAt}
+use Rattle.table.specs.Broken.{broken}
 use Rattle.table.specs.Calls.{isOpen, openRefusals, closeRefusals}
 use Rattle.table.proofs.Keeping.{opened-code, closed-code}
 use Rattle.join.specs.Join.{Fate}
@@ -32,8 +33,8 @@ use Rattle.card.specs.History.{Card, Call, opens, closes, hands, lentWith, answ
 use Rattle.card.proofs.Accepted.{accepted, received-code}
 use Rattle.card.proofs.Keeping.{clear-empties}
 use Rattle.card.proofs.Limits.{held-length}
-use Rattle.promises.specs.Unnumbered.{wholeOnes, others, UnnumberedDelivers, NeverGiven}
-use Rattle.promises.proofs.Pieces.{pass-gives, pass-drops, found-are, dropped-is, places-stay, no-gap}
+use Rattle.promises.specs.Unnumbered.{wholeOnes, others, UnnumberedAccepted, UnnumberedDelivers, NeverGiven}
+use Rattle.promises.proofs.Pieces.{pass-gives, pass-drops, found-are, bytes-is, dropped-is, places-stay, no-gap}
 
 module _ (t : Table) (p : Packet) (s : Slices) (d : isDmpt (termsAt t (rowOf t p) .kind) ≡ false) (clear : sSet (sub p) ≡ false)
     (z : received t p s .answer .code ≡ 0) where
@@ -70,10 +71,11 @@ unnumbered-delivers c a d clear z =
     let s = lentWith c a in
     record {
       frames-are = found-are t p s z ∙ comes-out t p s d clear z;
+      bytes-are = bytes-is t p s z ∙ ap (λ (l : List (List ℕ)). length (joined l)) (comes-out t p s d clear z);
       dropped-are = dropped-is t p s z ∙ is-dropped t p s d clear z;
       no-gap = no-gap t p s z clear;
       places-stay = places-stay t p s z (none-left t p s d clear z);
-      still-expects = clear-empties t p s z clear;
+      only-emptied = clear-empties t p s z clear;
     }
 
 -- No order has 8: by the kind of the session first, and then the whole.
@@ -106,7 +108,8 @@ no-eight c (hands a) e =
     first-lacks 8 (dataRefusals (c .table) (a .packet) s) refl (data-lacks (c .table) (a .packet) s)
     (sym (received-code (c .table) (a .packet) s) ∙ e)
 
--- With S clear the last line of the order, 12, does not apply, and no other gives it.
+-- With S clear the last line of the order, 12, does not apply, and no other gives it. What is left, where the session is open as PSP, is
+-- the check's order.
 module _ (t : Table) (p : Packet) (s : Slices) (clear : sSet (sub p) ≡ false) where
   abbrev before-12 : List Refusal
   before-12 =
@@ -122,6 +125,23 @@ module _ (t : Table) (p : Packet) (s : Slices) (clear : sSet (sub p) ≡ false) 
 
   pub no-twelve : received t p s .answer .code ≡ 12 → ⊥
   no-twelve e = first-lacks 12 before-12 refl before-lacks (sym its-order ∙ sym (received-code t p s) ∙ e)
+
+  -- the order of the check
+  check-is : check kindPsp p ≡ first (beforeSession p ++ pspRefusals entryWidth (sub p))
+  unfolding check checkRefusals
+  check-is = refl
+
+  pub as-checked : tooSmall s ≡ false → broken t ≡ false → isOpen t (sessionId p) ≡ true → isDmpt (termsAt t (rowOf t p) .kind) ≡ false →
+      received t p s .answer .code ≡ check kindPsp p
+  as-checked large whole live d =
+      received-code t p s
+      ∙ its-order
+      ∙ rw (large, whole, live, d) (first-skips (beforeSession p) 5 (pspRefusals entryWidth (sub p)))
+      ∙ sym check-is
+
+pub unnumbered-accepted : UnnumberedAccepted
+unfolding answer
+unnumbered-accepted c a large whole live d clear = as-checked (c .table) (a .packet) (lentWith c a) clear large whole live d
 
 pub never-given : NeverGiven
 unfolding answer check segmentCause causeRefusals

@@ -4,11 +4,12 @@
 -- unaltered and in sending order. So where packets are only lost, one lost fewer never takes away or alters a frame.
 use Prim.Native.Nat.{ℕ, suc, _-_, _≤_, _<_}
 use mathlib.Core.Path.{_≡_}
+use mathlib.Core.Bool.{true}
 use mathlib.Core.List.{List, [], _∷_, map, List·Memᴰ, Sublistᴰ}
 use lib.ListN.{length, getD}
 use Rattle.octets.specs.Stretch.{joined}
 use Rattle.octets.specs.Each.{Each}
-use Rattle.packet.specs.Header.{Packet}
+use Rattle.packet.specs.Header.{Packet, sub, sSet}
 use Rattle.table.specs.declared.Kind.{Kind}
 use Rattle.table.specs.declared.Kind.the-variants as kind
 use Rattle.table.specs.declared.Request.{Request}
@@ -34,7 +35,8 @@ abbrev pub kindOn : Line → Kind
 kindOn line = (opening line) .kind
 
 -- A run of a card: any calls from an empty table, then the session's opening as PSP, then any calls again, none of which closes it. Among
--- them its flow gets the sender's packets, and no others, in the order of `arrivals`. What else is called, for other sessions and other
+-- them its flow gets the sender's packets, and no others, in the order of `arrivals`; and no packet without a number, S clear, comes on
+-- the flow (document 02, W2). What else is called, for other sessions and other
 -- flows, before and after, refused or not, is left open. (That each arrival was sent is not asked for: past the end of the packets stands
 -- one without bytes, which is no packet of any flow.)
 pub record Run (s : Sending) : Type 0 where
@@ -46,6 +48,7 @@ pub record Run (s : Sending) : Type 0 where
   pub stays-open : StaysOpen (s .line .session) calls
   pub long-enough : LongEnough (kindOn (s .line)) (s .line .session) (s .line .flow) holding calls
   pub only-these : packetsTo (kindOn (s .line)) (s .line .session) (s .line .flow) calls ≡ map (packetAt (s .packets)) arrivals
+  pub all-numbered : Each (λ p. sSet (sub p) ≡ true) (packetsTo (kindOn (s .line)) (s .line .session) (s .line .flow) calls)
   pub in-window : Window arrivals
 
 -- the card when the session has been opened, and what comes out of the flow from then on

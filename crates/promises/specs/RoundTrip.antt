@@ -4,13 +4,13 @@
 -- them. Over a network within the bound what comes out is, by demand 3, the frames that arrived whole.
 use Prim.Native.Nat.{ℕ, _+_, _≤_, _<_}
 use mathlib.Core.Path.{_≡_}
-use mathlib.Core.Bool.{Bool}
+use mathlib.Core.Bool.{Bool, true}
 use mathlib.Core.List.{List, [], _++_, map}
 use lib.ListN.{length}
 use Rattle.octets.specs.Stretch.{joined, cutBy}
 use Rattle.octets.specs.Each.{Each}
 use Rattle.flow.specs.Numbers.{modulus, numberAt}
-use Rattle.packet.specs.Header.{Packet, idLength}
+use Rattle.packet.specs.Header.{Packet, idLength, sub, sSet}
 use Rattle.card.specs.History.{Call, opens, answer, after, afterAll, emptyCard}
 use Rattle.sender.specs.declared.Position.{Position}
 use Rattle.sender.specs.Send.{Asked, sent}
@@ -42,10 +42,12 @@ packetsGiven g = goOut (g .ways) (seriesPackets (g .job) (g .number) (startOfFra
 abbrev pub lineOf : Given → Line
 lineOf g = record { session = g .job .session; flow = g .job .flow; start = g .number }
 
--- `sender-keeps-rules`: what it sends is a sending as demand 3 supposes it, of these frames and no other, the last one finished
+-- `sender-keeps-rules`: what it sends is a sending as demand 3 supposes it, of these frames and no other, the last one finished, and every
+-- packet has a number
 pub record IsSent (g : Given) (frames : List Pieces) : Type 0 where
   pub these-frames : map joined frames ≡ framesGiven g
   pub by-the-rules : KeepsRules (lineOf g) frames [] (packetsGiven g)
+  pub has-numbers : Each (λ p. sSet (sub p) ≡ true) (packetsGiven g)
 
 pub record SenderKeepsRules : Type 0 where
   pub pieces : Given → List Pieces

@@ -11,7 +11,7 @@ use borrow.Author.Tests.{eqb-true, eq-eqb, ltb-false}
 use Rattle.refusal.specs.Refusal.{first}
 use Rattle.refusal.proofs.Laws.{none-applies}
 use Rattle.octets.specs.Stretch.{joined, cutBy}
-use Rattle.packet.specs.Header.{ip}
+use Rattle.packet.specs.Header.{ip, sub, sSet}
 use Rattle.sender.specs.Send.{sendRefusals}
 use Rattle.sender.specs.Series.{Job, Turn, Sound, Usable, askedFor}
 use Rattle.octets.specs.Each.{Each}
@@ -51,7 +51,9 @@ module _ (job : Job) (limit number : ℕ) (made : makeRefusal job limit number �
       }
 
   pub made-whole : job .session < 4294967296 → number < 65536 →
-      (frames : List Pieces) × (map joined frames ≡ cutBy (job .lens) (job .bytes)) × KeepsRules (line job number) frames [] (map ip (packetsFor job limit number))
+      (frames : List Pieces) × (map joined frames ≡ cutBy (job .lens) (job .bytes))
+      × KeepsRules (line job number) frames [] (map ip (packetsFor job limit number))
+      × Each (λ p. sSet (sub p) ≡ true) (map ip (packetsFor job limit number))
   unfolding packetsFor
   made-whole four-bytes two-bytes =
       let p = sending.job (askedFor job number atFirst (turnFor limit)) passed in

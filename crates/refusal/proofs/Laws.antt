@@ -97,3 +97,8 @@ first-lacks n (r ∷ xs) some l e =
 pub first-idle : (n : ℕ) (xs : List Refusal) → first (xs ++ (n when false ∷ [])) ≡ first xs
 first-idle n [] = refl
 first-idle n (r ∷ xs) = ap (λ (behind : ℕ). cond (r .applies) (r .number) behind) (first-idle n xs)
+
+-- Nor does one in the middle.
+pub first-skips : (xs : List Refusal) (n : ℕ) (ys : List Refusal) → first (xs ++ (n when false ∷ []) ++ ys) ≡ first (xs ++ ys)
+first-skips [] n ys = refl
+first-skips (r ∷ xs) n ys = ap (λ (behind : ℕ). cond (r .applies) (r .number) behind) (first-skips xs n ys)

@@ -16,12 +16,12 @@ pub const CONTROL_MESSAGE: u32 = 4;
 
 pub const SESSION_NOT_OPEN: u32 = 5;
 
-// What follows the session ID.
+// What follows the session ID. (8 is not given any more: with it document 01 refused a PSP packet with S clear, which document 02, W2,
+// takes.)
 pub const HEADER_NOT_PLAIN: u32 = 6;
 
 pub const FLOW_OUTSIDE: u32 = 7;
 
-// 8 is given no more: document 01 refused a PSP packet with S clear, and document 02, W2, takes it.
 pub const NOTHING_CARRIED: u32 = 9;
 
 pub const LENGTHS_DISAGREE: u32 = 10;

@@ -1,12 +1,12 @@
 -- What the rules of any sender allow and what they exclude, by computation: packets A and B of document 01 keep them, and for each rule there
 -- are packets that do not. Without that rule the line would be refused.
 use Prim.Native.Nat.{ℕ, zero, suc, _<_}
-use mathlib.Core.Path.{_≡_, refl, sym, ap}
-use mathlib.Core.Bool.{true, false, true≢false}
+use mathlib.Core.Path.{_≡_, refl, ap}
+use mathlib.Core.Bool.{true, false}
 use mathlib.Core.List.{List, [], _∷_}
 use native.Mathlib.Omega.{arith}
 use native.Mathlib.Nat.{not-suc-le-zero, le-of-suc-le-suc}
-use lib.ListN.{length, take, set, replicate}
+use lib.ListN.{length, take, replicate}
 use Rattle.octets.specs.Stretch.{part, rest, joined}
 use Rattle.octets.specs.Count.{any, sumTo, upTo}
 use Rattle.flow.specs.Numbers.{numberAt}
@@ -44,7 +44,6 @@ a-and-b =
     record {
       sizes = ((omega arith, omega arith), ((omega arith, omega arith), tt));
       passing = (refl, (refl, tt));
-      counted = (refl, (refl, tt));
       addressed = ((refl, refl), ((refl, refl), tt));
       numbered = counts;
       in-order = refl;
@@ -69,11 +68,6 @@ module _ (line : Line) (frames : List Pieces) (unfinished : Pieces) (packets : L
   no-cut-packet : KeepsRules line frames unfinished (ip A ∷ ip (take 19 A) ∷ packets) → ⊥
   unfolding check checkRefusals wanted bodyAt rest any sumTo
   no-cut-packet k = omega (arith, k .passing .1 .0)
-
-  -- a packet without a number, in the second place too
-  no-clear-packet : KeepsRules line frames unfinished (ip A ∷ ip (set B 4 0x01) ∷ packets) → ⊥
-  unfolding rest
-  no-clear-packet k = true≢false (sym (k .counted .1 .0))
 
   -- another session, another flow, in the second place too
   no-other-session : KeepsRules (record { session = 0x102; flow = line .flow; start = line .start }) frames unfinished (ip A ∷ packets) → ⊥

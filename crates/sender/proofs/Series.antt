@@ -69,7 +69,7 @@ line job number = record { session = job .session; flow = job .flow; start = num
 -- what is known of the packets of a series, and of where it ends
 pub record Kept (job : Job) (number : ℕ) (at : Position) (packets : List (List ℕ)) (end : Position) (turns : ℕ) : Type 0 where
   pub passing : Each (λ p. check kindPsp p ≡ 0) (map ip packets)
-  pub counted : Each (λ p. sSet (sub p) ≡ true) (map ip packets)
+  pub has-numbers : Each (λ p. sSet (sub p) ≡ true) (map ip packets)
   pub addressed : Each (Addressed (line job number)) (map ip packets)
   pub numbered : (i : ℕ) → i < length packets → number-in (sub (packetAt (map ip packets) i)) ≡ numberAt number i
   pub carried : Carried (job .bytes) (job .lens) at (allSegments entryWidth (map ip packets)) end
@@ -92,7 +92,7 @@ module _ (job : Job) (sound : Sound job) where
   kept-none number at turns i d =
       record {
         passing = tt;
-        counted = tt;
+        has-numbers = tt;
         addressed = tt;
         numbered = λ k l. absurd (not-suc-le-zero l);
         carried = refl;
@@ -119,7 +119,7 @@ module _ (job : Job) (sound : Sound job) where
     kept-more z packets end turns k =
         record {
           passing = (sent-passes asked z typed, k .passing);
-          counted = (sent-counts asked z typed, k .counted);
+          has-numbers = (sent-counts asked z typed, k .has-numbers);
           addressed = (sent-addressed asked z typed, k .addressed);
           numbered = counts;
           carried = carried-append (job .bytes) (job .lens) at ((sent asked) .answer .position) end (segmentsOf entryWidth (ip (packetLeft (sent asked)))) (allSegments entryWidth (map ip packets)) (sent-carries asked z typed) (k .carried);
@@ -161,6 +161,7 @@ module _ (job : Job) (sound : Sound job) where
   pub record Obeys (number i : ℕ) (turns : List Turn) : Type 0 where
     pub apart : Apart (job .bytes) (job .lens) i (allSegments entryWidth (map ip (seriesPackets job number (startOfFrame i) turns))) (seriesEnd job number (startOfFrame i) turns)
     pub keeps : KeepsRules (line job number) (apart .frames) (apart .begun) (map ip (seriesPackets job number (startOfFrame i) turns))
+    pub has-numbers : Each (λ p. sSet (sub p) ≡ true) (map ip (seriesPackets job number (startOfFrame i) turns))
 
   pub sender-keeps-rules : (turns : List Turn) (number i : ℕ) → number < 65536 → i ≤ length (job .lens) → Each Usable turns → Obeys number i turns
   sender-keeps-rules turns number i b l us =
@@ -173,11 +174,11 @@ module _ (job : Job) (sound : Sound job) where
             record {
               sizes = a .sizes;
               passing = k .passing;
-              counted = k .counted;
               addressed = k .addressed;
               numbered = λ j m. k .numbered j (rw (length-map (seriesPackets job number (startOfFrame i) turns) ip) at m);
               in-order = a .in-order;
             };
+        has-numbers = k .has-numbers;
       }
 
   -- With as many calls as there are bytes left the series is at the end of the frames.
@@ -251,10 +252,16 @@ module _ (job : Job) (sound : Sound job) where
   pub sends-all : (turns : List Turn) (number : ℕ) → number < 65536 → Each Usable turns → length (job .bytes) ≤ length turns →
       (frames : List Pieces) × (map joined frames ≡ cutBy (job .lens) (job .bytes))
       × KeepsRules (line job number) frames [] (map ip (seriesPackets job number (startOfFrame 0) turns))
+      × Each (λ p. sSet (sub p) ≡ true) (map ip (seriesPackets job number (startOfFrame 0) turns))
   unfolding frameStart sumTo
   sends-all turns number b us enough =
       let o = sender-keeps-rules turns number 0 b (omega arith) us in
       let finished = all-finished turns number 0 b (omega arith) us (omega arith) o in
       let count : length (o .apart .frames) ≡ length (job .lens) = omega (arith, finished .1) in
-      let k : KeepsRules (line job number) (o .apart .frames) [] (map ip (seriesPackets job number (startOfFrame 0) turns)) = rw (finished .0) at (o .keeps) in
-      (o .apart .frames, o .apart .their-bytes ∙ ap (framesFrom (job .bytes) (job .lens) 0) count ∙ all-frames (job .bytes) (job .lens), k)
+      let k : KeepsRules (line job number) (o .apart .frames) [] (map ip (seriesPackets job number (startOfFrame 0) turns)) =
+      rw (finished .0) at (o .keeps) in (
+        o .apart .frames,
+        o .apart .their-bytes ∙ ap (framesFrom (job .bytes) (job .lens) 0) count ∙ all-frames (job .bytes) (job .lens),
+        k,
+        o .has-numbers,
+      )

@@ -60,10 +60,14 @@ keeps-ways line frames unfinished ways packets k =
     record {
       sizes = k .sizes;
       passing = each-way (λ p. check kindPsp p ≡ 0) (λ bytes h. same-check 0 3 0 0 bytes refl kindPsp ∙ h) ways packets (k .passing);
-      counted = each-way (λ p. sSet (sub p) ≡ true) (λ bytes h. ap sSet (same-sub 0 3 0 0 bytes) ∙ h) ways packets (k .counted);
       addressed =
           each-way (Addressed line) (λ bytes h. (same-session 0 3 0 0 bytes ∙ h .0, ap flowId (same-sub 0 3 0 0 bytes) ∙ h .1))
           ways packets (k .addressed);
       numbered = λ i l. ap number (sub-ways ways packets i) ∙ k .numbered i (rw (length-ways ways packets) at l);
       in-order = segments-ways ways packets ∙ k .in-order;
     }
+
+-- and a packet has a number either way
+pub numbers-ways : (ways : List Bool) (packets : List (List ℕ)) → Each (λ p. sSet (sub p) ≡ true) (map ip packets) →
+    Each (λ p. sSet (sub p) ≡ true) (goOut ways packets)
+numbers-ways ways packets h = each-way (λ p. sSet (sub p) ≡ true) (λ bytes set. ap sSet (same-sub 0 3 0 0 bytes) ∙ set) ways packets h

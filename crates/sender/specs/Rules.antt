@@ -1,8 +1,9 @@
--- Any sender that keeps the published rules (document 01, from "Demand 3 and the next rule suppose" on; DEPI I05, section 8.3). Its
--- frames have 1 to 2,048 bytes. Its packets go to one flow of one session, pass the PSP check, have S set, so that they have a number
--- (document 02, W2), and are numbered one up from any start. The segments of a frame follow one another in order, with no other frame's
--- between them, B exactly on a frame's first segment and E exactly on its last. How it cuts its frames is its own affair, and it may be
--- in the middle of one. Each of its packets goes over IP or over UDP, in any mixture (document 02, W1).
+-- Any sender that keeps the published rules (document 01, from "Demand 3 and the next rule suppose" on; DEPI I05, section 8.3). Its frames
+-- have 1 to 2,048 bytes. Its packets go to one flow of one session, pass the PSP check and are numbered one up from any start. The
+-- segments of a frame follow one another in order, with no other frame's between them, B exactly on a frame's first segment and E exactly
+-- on its last. How it cuts its frames is its own affair, and it may be in the middle of one. Each of its packets goes over IP or over UDP,
+-- in any mixture (document 02, W1). That the number counts, S set, is asked of those that arrive (document 02, W2; `Run` of crate
+-- `promises`).
 use Prim.Native.Nat.{ℕ, _<_, _≤_}
 use mathlib.Core.Path.{_≡_}
 use mathlib.Core.Bool.{Bool, true, false}
@@ -12,7 +13,7 @@ use Rattle.octets.specs.Stretch.{joined}
 use Rattle.octets.specs.Each.{Each}
 use Rattle.flow.specs.Numbers.{numberAt}
 use Rattle.flow.specs.Flow.{longest}
-use Rattle.packet.specs.Header.{Packet, ip, sub, sSet, sessionId, flowId, number}
+use Rattle.packet.specs.Header.{Packet, ip, sub, sessionId, flowId, number}
 use Rattle.packet.specs.Segments.{Segment, entryWidth, segments}
 use Rattle.packet.specs.Check.{kindPsp, check}
 
@@ -63,7 +64,6 @@ packetAt packets i = getD packets i (ip [])
 pub record KeepsRules (line : Line) (frames : List Pieces) (unfinished : Pieces) (packets : List Packet) : Type 0 where
   pub sizes : Each FrameSized frames
   pub passing : Each (λ p. check kindPsp p ≡ 0) packets
-  pub counted : Each (λ p. sSet (sub p) ≡ true) packets
   pub addressed : Each (Addressed line) packets
   pub numbered : (i : ℕ) → i < length packets → number (sub (packetAt packets i)) ≡ numberAt (line .start) i
   pub in-order : allSegments entryWidth packets ≡ inTurn frames ++ begunFrame true unfinished
