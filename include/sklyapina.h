@@ -30,7 +30,7 @@
  * With W1 the four calls that take a packet gained the parameter transport, and the two of them that ask for a
  * segment the parameter kind, so that a program from before does not compile. That change is made once: what document
  * 02 asks for after W1 comes with calls of its own, and these four keep their parameters. With W2 the name of refusal
- * 8 went, so that a program that acts on it does not compile: the packets that it was given to are accepted now.
+ * 8 went, so that a program that names it does not compile: the packets that it was given to are accepted now.
  *
  * Nothing compares this file with the library's source, crates/sklyapina/src and the structs of the crates
  * below it: each declaration here is a copy by hand. tests/calls and host/run link the two and compare what
@@ -86,9 +86,10 @@ enum sklyapina_kind {
  * (by 2 where it has fewer than 12 bytes), unless its session ID has 0 as its top bit and 3 as the low four bits of
  * its second byte; then its header is read as the session ID. One over UDP, given as IP, has the session ID 0x30000,
  * if 00 03 00 00 was written: it is refused by 5 (by 3 where it has more than 4,100 bytes), unless such a session is
- * open; the packet check, which knows no sessions, goes on and reads the session ID as the header. So where no
- * session is open for whose ID (id & 0x800F0000) == 0x00030000, the data call refuses, given by the wrong one of the
- * two, every packet that it accepts by the right one. */
+ * open; the packet check, which knows no sessions, goes on and reads the session ID as the header, and with another
+ * ID than one below 0x10000, which is 9 for PSP, it may answer anything, 0 too. So where no session is open for whose
+ * ID (id & 0x800F0000) == 0x00030000, the data call refuses, given by the wrong one of the two, every packet that it
+ * accepts by the right one. */
 enum sklyapina_transport {
     SKLYAPINA_IP = 1,
     SKLYAPINA_UDP = 2
@@ -108,11 +109,10 @@ enum sklyapina_refusal {
     SKLYAPINA_CONTROL_MESSAGE = 4,  /* the session ID is 0, which no data packet has */
     SKLYAPINA_SESSION_NOT_OPEN = 5, /* no row of the table has this session open */
 
-    /* What follows the session ID. */
+    /* What follows the session ID. 8 is given by no call: before W2 it refused a PSP packet with the S bit clear, one
+     * without a sequence number; sklyapina_receive says what becomes of such a packet now. */
     SKLYAPINA_HEADER_NOT_PLAIN = 6, /* the V bit is set, or either of the two H bits */
     SKLYAPINA_FLOW_OUTSIDE = 7,     /* PSP: a flow ID of 4 to 7; D-MPT: any flow ID but 0 */
-    /* 8 is given by no call. Before W2 it refused a PSP packet with the S bit clear, one without a sequence number;
-     * sklyapina_receive says what becomes of such a packet now. */
     SKLYAPINA_NOTHING_CARRIED = 9,  /* PSP: no segment is announced; D-MPT: the packet ends with its header */
     /* PSP: header, segment table and the lengths in it do not add up to the packet's length, or the packet ends
      * inside the segment table; D-MPT: what follows the header is no multiple of 188 bytes */
@@ -239,8 +239,8 @@ struct sklyapina_closing {
 
 struct sklyapina_closing sklyapina_close(struct sklyapina_table table, uint32_t id);
 
-/* Takes a packet: delivers the frames that it completes, and holds what is left without its end until the
- * flow's next packet.
+/* Takes a packet: delivers the frames that it completes, and, where it has a number, holds what is left without its
+ * end until the flow's next packet.
  *
  * transport  SKLYAPINA_IP or SKLYAPINA_UDP: what this packet came by, whatever those before it did
  * holding    the holding places, 49,152 bytes or more. The place of flow k in row r starts at
@@ -250,8 +250,8 @@ struct sklyapina_closing sklyapina_close(struct sklyapina_table table, uint32_t 
  * output     6,144 bytes or more. The frames are written to its front, back to back
  * lengths    127 elements or more. The lengths of the frames are written to its front
  *
- * Answers the first of 1, 13, 24, 2, 3, 15 (over UDP alone), 4, 5, 6, 7, 9 to 11, and 12 (with the S bit set alone)
- * that applies, or 0. Then
+ * Answers the first of 1, 13, 24, 2, 3, 15 (over UDP alone), 4, 5, 6, 7, 9 to 11, and 12 (only where the
+ * S bit is set) that applies, or 0. Then
  *
  * frames   how many frames were delivered: so many elements of lengths were written
  * bytes    how long they are together: so many bytes of output were written
