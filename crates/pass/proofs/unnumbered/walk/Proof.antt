@@ -1,7 +1,7 @@
 -- `pass::unnumbered::walk` is right since after k turns counts and slices show what became of the bytes by the first k segments
 -- (`Carrying`, of `segmentLoad`), whatever the bytes were that the flow held.
 use Prim.Native.Nat.{ℕ, _+_, _-_, _*_, _<_, _≤_}
-use mathlib.Core.Path.{_≡_, refl, _∙_, ap}
+use mathlib.Core.Path.{_≡_, refl, sym, _∙_, ap}
 use mathlib.Core.List.{List}
 use native.Mathlib.Omega.{arith}
 use lib.ListN.{length, replicate, length-replicate}
@@ -161,7 +161,7 @@ loop-again c =
       body-next (s .args .width) (s .args .sub .now) (t .before .loop .k) _ _ (i .1) (size z),
       λ bytes e.
           carry-turn (load s bytes) (fitting s bytes e) (s .pre .0 .0) (s .pre .0 .1) (i .2 bytes e) (there t) _ _ _
-          (rw read at (c .before .before .before .before .pass-on .ensures)),
+          (rw (sym read) (c .before .before .before .before .pass-on .ensures)),
     )
 
 same-length : tie.Need-same-length Inv-loop μ-loop
