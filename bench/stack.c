@@ -1,137 +1,80 @@
-/* Measures how much of the stack a receiver uses. It is called on a stack of its own that was painted
- * before, and the deepest byte that changed is looked for; the paint has two colours in turn, for a byte
- * may be written in the colour that it had. The worst over all packets of the streams and over calls of all
- * sorts counts.
- *
- * What is printed is how much deeper that is than the same calls of a function that only hands the table
- * back. So it is everything below the call's return address that is written, in the receiver and in what it
- * calls, memcpy too. The arguments are the caller's, the table among them, and so is the room for the
- * answer. Room that is reserved and never written does not count. */
-#define _XOPEN_SOURCE 700
-
+/* Measures how much of the stack a receiver writes below its return address, over all packets of the streams and over
+ * calls of all sorts; the most counts. Its calls are made on a painted stack: tests/painted.h says what counts. What the
+ * library's other calls need, and what the compiler says of all of them, tests/stack has. */
 #include "calls.h"
 #include "measure.h"
 #include "receivers.h"
 
-#include <stdalign.h>
+#include "../tests/painted.h"
+
 #include <stdio.h>
-#include <string.h>
-#include <ucontext.h>
 
-enum { STACK_SIZE = 65536, SPOILT_CALLS = 20000 };
+enum { SPOILT_CALLS = 20000 };
 
-static const uint8_t colours[] = { 0x5A, 0xA5 };
-
-static alignas(64) uint8_t painted[STACK_SIZE];
 static uint8_t holding[SKLYAPINA_HOLDING_SIZE];
 static uint8_t output[SKLYAPINA_MOST_BYTES];
 static uint16_t lengths[SKLYAPINA_MOST_FRAMES];
 static struct calls calls;
 
-/* What the two stacks hand each other. */
-static ucontext_t asking, answering;
-static receive_by_value *receive;
-static struct call call;
-static struct sklyapina_received answer;
-
-/* Runs on the painted stack: a call each time that it is gone on with. */
-static void answer_calls(void)
+/* Makes a call; answers the table that it gave back, and makes `worst` the call's depth where that is more. */
+static struct sklyapina_table make_call(receive_by_value *receiver, const struct call *call, size_t *worst)
 {
-    for (;;) {
-        answer = receive(call.table, call.packet.transport, holding, call.holding_length, call.packet.bytes,
-                         call.packet.length, output, call.output_length, lengths, call.lengths_length);
-        swapcontext(&answering, &asking);
-    }
+    struct sklyapina_received received = PAINTED(receiver)(
+        call->table, call->packet.transport, holding, call->holding_length, call->packet.bytes, call->packet.length,
+        output, call->output_length, lengths, call->lengths_length);
+
+    *worst = painted_depth > *worst ? painted_depth : *worst;
+    return received.table;
 }
 
-static void begin(receive_by_value *receiver, uint8_t colour)
+static void over_stream(receive_by_value *receiver, const struct stream *stream, size_t *worst)
 {
-    memset(painted, colour, sizeof painted);
-    receive = receiver;
-    getcontext(&answering);
-    answering.uc_stack.ss_sp = painted;
-    answering.uc_stack.ss_size = sizeof painted;
-    answering.uc_link = NULL;
-    makecontext(&answering, answer_calls, 0);
-}
+    struct sklyapina_table table = stream->opened;
 
-static void make_call(void)
-{
-    swapcontext(&asking, &answering);
-}
-
-/* Bytes from the deepest one that changed to the top of the stack. */
-static size_t depth(uint8_t colour)
-{
-    size_t untouched = 0;
-
-    while (untouched < sizeof painted && painted[untouched] == colour)
-        untouched++;
-    return sizeof painted - untouched;
-}
-
-static size_t depth_over_stream(receive_by_value *receiver, uint8_t colour, const struct stream *stream)
-{
-    begin(receiver, colour);
-    answer.table = stream->opened;
     for (size_t place = 0; place < stream->count; place++) {
-        call = plain_call(&answer.table, stream->packets[place]);
-        make_call();
+        struct call call = plain_call(&table, stream->packets[place]);
+
+        table = make_call(receiver, &call, worst);
     }
-    return depth(colour);
 }
 
-static size_t depth_over_calls(receive_by_value *receiver, uint8_t colour)
+/* False where the library opened no session. */
+static bool over_calls(receive_by_value *receiver, size_t *worst)
 {
-    begin(receiver, colour);
     if (!calls_begin(&calls))
-        return 0;
+        return false;
     for (size_t place = 0; place < SPOILT_CALLS; place++) {
-        call = calls_next(&calls);
-        make_call();
-        calls_answered(&calls, &answer.table);
+        struct call call = calls_next(&calls);
+        struct sklyapina_table table = make_call(receiver, &call, worst);
+
+        calls_answered(&calls, &table);
     }
-    return depth(colour);
+    return true;
 }
 
-/* The deepest over everything; 0 where something could not be made. */
-static size_t deepest(receive_by_value *receiver)
+/* False where something could not be made. */
+static bool over_everything(receive_by_value *receiver, size_t *worst)
 {
-    size_t worst = 0;
+    for (const char *const *name = stream_names; *name; name++) {
+        const struct stream *stream = stream_make(*name);
 
-    for (size_t colour = 0; colour < sizeof colours; colour++) {
-        size_t here = depth_over_calls(receiver, colours[colour]);
-
-        if (here == 0)
-            return 0;
-        worst = here > worst ? here : worst;
-        for (const char *const *name = stream_names; *name; name++) {
-            const struct stream *stream = stream_make(*name);
-
-            if (!stream)
-                return 0;
-            here = depth_over_stream(receiver, colours[colour], stream);
-            worst = here > worst ? here : worst;
-        }
+        if (!stream)
+            return false;
+        over_stream(receiver, stream, worst);
     }
-    return worst;
+    return over_calls(receiver, worst);
 }
 
 int stack(void)
 {
-    size_t passing = deepest(receivers[PASSING].by_value);
-
-    if (passing == 0)
-        return 2;
     for (size_t place = 0; place < PASSING; place++) {
-        size_t worst;
+        size_t worst = 0;
 
         if (!receivers[place].by_value)
             continue;
-        worst = deepest(receivers[place].by_value);
-        if (worst < passing || worst == sizeof painted)
+        if (!over_everything(receivers[place].by_value, &worst) || worst == PAINTED_SIZE)
             return 2;
-        printf("%s %zu\n", receivers[place].name, worst - passing);
+        printf("%s %zu\n", receivers[place].name, worst);
     }
     return 0;
 }

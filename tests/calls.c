@@ -4,6 +4,7 @@
 #include "sklyapina.h"
 
 #include "lent.h"
+#include "painted.h"
 
 static void next_table(struct sklyapina_table *table)
 {
@@ -42,23 +43,23 @@ static void make_call(unsigned call, const uint64_t *in, uint64_t *out)
 {
     switch (call) {
     case CHECK:
-        out[0] = sklyapina_check((uint32_t)in[0], (uint32_t)in[1], lend(PACKET, in[2]), in[2]);
+        out[0] = PAINTED(sklyapina_check)((uint32_t)in[0], (uint32_t)in[1], lend(PACKET, in[2]), in[2]);
         break;
     case OPEN: {
-        struct sklyapina_opening opening = sklyapina_open(given, (uint32_t)in[0], (uint32_t)in[1]);
+        struct sklyapina_opening opening = PAINTED(sklyapina_open)(given, (uint32_t)in[0], (uint32_t)in[1]);
         out[0] = opening.code;
         back = opening.table;
         break;
     }
     case CLOSE: {
-        struct sklyapina_closing closing = sklyapina_close(given, (uint32_t)in[0]);
+        struct sklyapina_closing closing = PAINTED(sklyapina_close)(given, (uint32_t)in[0]);
         out[0] = closing.code;
         out[1] = closing.dropped;
         back = closing.table;
         break;
     }
     case RECEIVE: {
-        struct sklyapina_received received = sklyapina_receive(
+        struct sklyapina_received received = PAINTED(sklyapina_receive)(
             given, (uint32_t)in[0], lend(HOLDING, in[1]), in[1], lend(PACKET, in[2]), in[2],
             lend(OUTPUT, in[3]), in[3], lend_numbers(LENGTHS, in[4]), in[4]);
         out[0] = received.code;
@@ -71,7 +72,7 @@ static void make_call(unsigned call, const uint64_t *in, uint64_t *out)
     }
     case SEND: {
         struct sklyapina_position position = {in[6], in[7]};
-        struct sklyapina_sent sent = sklyapina_send(
+        struct sklyapina_sent sent = PAINTED(sklyapina_send)(
             (uint32_t)in[0], in[1], (uint16_t)in[2], in[3], lend(FRAMES, in[4]), in[4],
             lend_numbers(FRAME_LENGTHS, in[5]), in[5], position, lend(OUTPUT, in[8]), in[8]);
         out[0] = sent.code;
@@ -82,11 +83,11 @@ static void make_call(unsigned call, const uint64_t *in, uint64_t *out)
         break;
     }
     case SEGMENT_CAUSE:
-        out[0] = sklyapina_segment_cause((uint32_t)in[0], (uint32_t)in[1], lend(PACKET, in[2]), in[2], in[3]);
+        out[0] = PAINTED(sklyapina_segment_cause)((uint32_t)in[0], (uint32_t)in[1], lend(PACKET, in[2]), in[2], in[3]);
         break;
     case SEGMENT: {
         struct sklyapina_stretch stretch =
-            sklyapina_segment((uint32_t)in[0], (uint32_t)in[1], lend(PACKET, in[2]), in[2], in[3]);
+            PAINTED(sklyapina_segment)((uint32_t)in[0], (uint32_t)in[1], lend(PACKET, in[2]), in[2], in[3]);
         out[0] = stretch.place;
         out[1] = stretch.length;
         break;

@@ -1,6 +1,7 @@
 /* What tests/calls.c and tests/mpeg.c share; lent.h says what. */
 #include "lent.h"
 
+#include "painted.h"
 #include "sklyapina.h"
 
 /* Of the C library too; read and mprotect are POSIX's. */
@@ -207,6 +208,7 @@ enum { MOST_SHOWN = 4105 };
 static char case_names[MOST_CASES][LONGEST_NAME];
 static unsigned case_count;
 static unsigned long times_of_case[MOST_CASES], times_of_code[MOST_CALLS][CODES], times_of_call[MOST_CALLS];
+static size_t stack_of_call[MOST_CALLS]; /* the most that one wrote */
 /* The call in hand, counted from 1, and what it is given. */
 static unsigned long calls_made;
 static unsigned asked_call, asked_case;
@@ -358,6 +360,8 @@ static void count_call(const uint64_t *answers)
 {
     times_of_case[asked_case]++;
     times_of_call[asked_call]++;
+    if (painted_depth > stack_of_call[asked_call])
+        stack_of_call[asked_call] = painted_depth;
     if (program->calls[asked_call].code_count > 0 && answers[0] < CODES)
         times_of_code[asked_call][answers[0]]++;
 }
@@ -445,7 +449,7 @@ static void print_counts(void)
 {
     printf("compared %lu calls: no difference\n", calls_made);
     for (unsigned call = 0; call < program->call_count; call++) {
-        printf("%s: %lu calls", program->calls[call].name, times_of_call[call]);
+        printf("%s: %lu calls, stack %zu", program->calls[call].name, times_of_call[call], stack_of_call[call]);
         for (unsigned place = 0; place < program->calls[call].code_count; place++) {
             unsigned code = program->calls[call].codes[place];
             printf("%s %u: %lu", place == 0 ? ";" : ",", code, times_of_code[call][code]);

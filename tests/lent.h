@@ -6,8 +6,9 @@
  * made to it. An array stands so that its last byte is followed by memory that cannot be touched, and its first
  * preceded by bytes that must stay.
  *
- * run_records prints how often each code and each case came up. It ends with status 1 at the first difference, after
- * saying what it is, and with 2 where the records cannot be read.
+ * run_records prints how often each code and each case came up, and how many bytes of stack each call wrote at most,
+ * since its calls are made on a painted one (painted.h). It ends with status 1 at the first difference, after saying what
+ * it is, and with 2 where the records cannot be read.
  *
  * Among the records there may be calls whose answer is wrong on purpose: a fault of the second program, at the first call
  * that shows it. There the comparison has to see a difference, and says whether it does; the same call follows with its

@@ -5,6 +5,7 @@
 #include "sklyapina.h"
 
 #include "lent.h"
+#include "painted.h"
 
 enum { WRITE, READ, NULL_PACKET, CALLS };
 /* The number of the first of them in the records. */
@@ -22,7 +23,7 @@ static void make_call(unsigned call, const uint64_t *in, uint64_t *out)
 {
     switch (call) {
     case WRITE: {
-        struct sklyapina_mpeg_written written = sklyapina_mpeg_write(
+        struct sklyapina_mpeg_written written = PAINTED(sklyapina_mpeg_write)(
             lend(FRAMES, in[0]), in[0], lend_numbers(FRAME_LENGTHS, in[1]), in[1], in[2], (uint8_t)in[3],
             lend(OUTPUT, in[4]), in[4]);
         out[0] = written.code;
@@ -32,7 +33,7 @@ static void make_call(unsigned call, const uint64_t *in, uint64_t *out)
         break;
     }
     case READ: {
-        struct sklyapina_mpeg_read_back read_back = sklyapina_mpeg_read(
+        struct sklyapina_mpeg_read_back read_back = PAINTED(sklyapina_mpeg_read)(
             lend(PACKET, in[0]), in[0], lend(OUTPUT, in[1]), in[1], lend_numbers(LENGTHS, in[2]), in[2]);
         out[0] = read_back.code;
         out[1] = read_back.frames;
@@ -41,7 +42,7 @@ static void make_call(unsigned call, const uint64_t *in, uint64_t *out)
     }
     case NULL_PACKET: {
         /* It is lent nothing; its bytes are put into the output to be compared there. */
-        struct sklyapina_mpeg_packet packet = sklyapina_mpeg_null();
+        struct sklyapina_mpeg_packet packet = PAINTED(sklyapina_mpeg_null)();
         uint8_t *output = lend(OUTPUT, in[0]);
         out[0] = sizeof packet.bytes;
         for (size_t place = 0; place < in[0] && place < sizeof packet.bytes; place++)
