@@ -391,7 +391,10 @@ static bool run_call(void)
     for (struct array *array = arrays; array < arrays + ARRAYS; array++)
         array->in_use = false;
     read_asked();
+    painted_function = NULL;
     program->make_call(asked_call, inputs, got);
+    if (!painted_function)
+        unusable("a call was not made on the painted stack");
     for (struct array *array = arrays; array < arrays + ARRAYS; array++)
         if (array->in_use)
             spoil(array);
