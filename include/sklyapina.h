@@ -14,8 +14,9 @@
  * - It reads and writes only inside the arrays that it is lent.
  *
  * It needs little stack: no call more than 2 KiB below its return address, nor more than 4 KiB together with a C function
- * that makes it, which has the table and the answer by value. That is not proved, but a matter of the compiler: tests/stack
- * measures the library as the kit builds it, and bench/README.md has each call, the data call with the most, 728 bytes.
+ * that makes it and does nothing else, which has the table and the answer by value. That is not proved, but a matter of
+ * the compiler: tests/stack measures the library as the kit builds it, and bench/README.md has each call, of which the data
+ * call needs the most, 728 bytes.
  *
  * And it keeps nothing, since its language has no means to: no pointer outlives its call, nothing is
  * allocated, and there are no variables but those of the call. What it knows is what it is passed. So threads
