@@ -18,7 +18,7 @@ import sys
 import summary
 
 ROOT = pathlib.Path(__file__).resolve().parent.parent
-RUN = str(ROOT / "bin/run-x86-64")
+RUN = subprocess.run([ROOT / "bin/run-x86-64"], stdout=subprocess.PIPE, check=True, text=True).stdout.split()
 DATA_LINE = summary.CALLS.index("data")  # in a summary's lines of calls
 OPEN_PSP, DATA = 1, 4  # kinds of entries
 NUMBERED = 0x40  # S, in the byte behind a packet's session ID
@@ -56,7 +56,7 @@ def filled_queue():
 
 def printed(program, capture, *words):
     """What a program prints for a capture. One that ends with a status other than 0 has failed, whatever it prints."""
-    done = subprocess.run([RUN, program, *words], input=capture, stdout=subprocess.PIPE, check=False)
+    done = subprocess.run([*RUN, program, *words], input=capture, stdout=subprocess.PIPE, check=False)
     if done.returncode != 0:
         sys.exit(f"compare.py: {program} ended with status {done.returncode}")
     return done.stdout.decode("ascii")
