@@ -24,7 +24,7 @@ use Rattle.table.proofs.Keeping.{row-whole, rows-sound}
 use Rattle.join.specs.declared.Tally.{Tally}
 use Rattle.join.specs.Join.{Fate}
 use Rattle.join.specs.Slices.{Slices, mostFrames, mostBytes}
-use Rattle.join.specs.Placed.{nothingYet, Placed, Roomy}
+use Rattle.join.specs.Inside.{nothingYet, Placed, Roomy}
 use Rattle.card.specs.declared.Hearing.{Hearing}
 use Rattle.card.specs.declared.Taken.{Taken}
 use Rattle.card.specs.Hear.{judgedOf, hear}

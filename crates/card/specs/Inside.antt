@@ -1,5 +1,5 @@
--- Words of the contracts of the functions inside this crate: where a packet's session is found, what its row makes of the packet, what its
--- flow does. The data call's own contract says none of them, so a reader who is after the promises can pass them over.
+-- Inside: what functions promise each other on the way to a result. Nobody has to believe this file: the result is said without it.
+-- Here: where a packet's session is found, what its row makes of the packet, and what its flow does.
 use Prim.Native.Nat.{ℕ, zero, suc, _+_, _<_, _≤_}
 use mathlib.Core.Path.{_≡_}
 use mathlib.Core.Bool.{Bool, true, false, not, _||_}
@@ -20,7 +20,7 @@ use Rattle.table.specs.Broken.{rowBroken}
 use Rattle.table.specs.Calls.{isOpen}
 use Rattle.join.specs.declared.Tally.{Tally}
 use Rattle.join.specs.Slices.{Slices, mostFrames, mostBytes}
-use Rattle.join.specs.Placed.{nothingYet, Placed, Within}
+use Rattle.join.specs.Inside.{nothingYet, Placed, Within}
 use Rattle.card.specs.declared.Found.{Found}
 use Rattle.card.specs.declared.Hearing.{Hearing}
 use Rattle.card.specs.declared.Taken.{Taken}

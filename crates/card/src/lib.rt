@@ -13,7 +13,7 @@ ghost use Rattle.flow.specs.Flow.{flows};
 ghost use Rattle.packet.specs.Header.{packetBy, headerLength};
 ghost use Rattle.table.specs.Rows.{rows};
 ghost use Rattle.join.specs.Slices.{asSlices};
-ghost use Rattle.join.specs.Placed.{nothingYet, Placed, Roomy, Within};
+ghost use Rattle.join.specs.Inside.{nothingYet, Placed, Roomy, Within};
 ghost use Rattle.card.specs.Hear.{judgedOf, fateOf};
 ghost use Rattle.card.specs.Receive.{placeOf, packetRefusals, PermitsReceive};
 ghost use Rattle.card.specs.Inside.{smallBy, Seeks, notFound, TakenOutcome, takes, notTaken, Ready, answered, Hearable, Hears};

@@ -16,7 +16,7 @@ use Rattle.packet.specs.Segments.{beginsIn, endsIn, lengthIn, Segment}
 use Rattle.join.specs.declared.Tally.{Tally}
 use Rattle.join.specs.Join.{Fate, delivering, dropping, keeping, andThen, settledBy, settled, fateBy, fate, atGap, inOrder}
 use Rattle.join.specs.Slices.{Slices}
-use Rattle.join.specs.Placed.{nothingYet, begun, Placed, Fits}
+use Rattle.join.specs.Inside.{nothingYet, begun, Placed, Fits}
 use Rattle.join.proofs.Account.{Accounts, in-order-next}
 
 -- Single fates.

@@ -17,7 +17,7 @@ use Rattle.packet.specs.Segments.{bBit, eBit, entryAt, beginsIn, endsIn, length
 use Rattle.join.specs.declared.Tally.{Tally}
 use Rattle.join.specs.Join.{fate}
 use Rattle.join.specs.Slices.{Slices}
-use Rattle.join.specs.Placed.{Placed, Whole, Ran}
+use Rattle.join.specs.Inside.{Placed, Whole, Ran}
 use Rattle.join.proofs.Placing.{placed-delivering, settled-whole, fate-begins}
 
 -- the code's test: how far an entry lies above B and E, and that this is at most the session's longest frame

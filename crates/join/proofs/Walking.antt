@@ -20,7 +20,7 @@ use Rattle.packet.proofs.Passing.{SegmentsPassed, body-inside, ends-early}
 use Rattle.join.specs.declared.Tally.{Tally}
 use Rattle.join.specs.Join.{Fate, fate, atGap, inOrder, pspFate}
 use Rattle.join.specs.Slices.{Slices, asSlices, mostBytes, mostFrames}
-use Rattle.join.specs.Placed.{nothingYet, begun, Placed, Roomy, Fits, Within, Whole, Ran}
+use Rattle.join.specs.Inside.{nothingYet, begun, Placed, Roomy, Fits, Within, Whole, Ran}
 use Rattle.join.proofs.Account.{Accounts, fate-accounts, fate-ends, gap-accounts, in-order-next, in-order-accounts}
 use Rattle.join.proofs.Placing.{placed-begun, placed-counted, holding-long, output-long, lengths-long, held-there, placed-next}
 use Rattle.join.proofs.Running.{written-more, whole-placed}

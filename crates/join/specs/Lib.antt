@@ -1,3 +1,3 @@
 pub mod Join
 pub mod Slices
-pub mod Placed
+pub mod Inside

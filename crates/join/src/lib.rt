@@ -16,7 +16,7 @@ ghost use Rattle.packet.specs.Segments.{bBit, eBit, beginsIn, endsIn, lengthIn,
 ghost use Rattle.packet.specs.Psp.{segmentRefusals};
 ghost use Rattle.join.specs.Join.{settled, fate, pspFate};
 ghost use Rattle.join.specs.Slices.{asSlices, mostFrames, mostBytes};
-ghost use Rattle.join.specs.Placed.{nothingYet, begun, Placed, Roomy, Fits, Within, Ran};
+ghost use Rattle.join.specs.Inside.{nothingYet, begun, Placed, Roomy, Fits, Within, Ran};
 use packet::header;
 use packet::psp;
 

@@ -12,8 +12,8 @@ use Rattle.octets.proofs.Counts.{or-false-left, or-false-right}
 use Rattle.octets.proofs.Stretches.{put-front}
 use Rattle.mpeg.specs.declared.reader.Standing.{Standing}
 use Rattle.mpeg.specs.Read.{Reading, reading, AskedRead, framesRead, ReadOutcome, gotBack, notRead, readBy, read}
-use Rattle.mpeg.specs.Standing.{standingOf}
-use Rattle.mpeg.specs.Stream.{saidLengths, Laid, Surveyed}
+use Rattle.mpeg.specs.Inside.Standing.{standingOf}
+use Rattle.mpeg.specs.Inside.Stream.{saidLengths, Laid, Surveyed}
 use Rattle.mpeg.proofs.Passes.{reading-lost, frames-good}
 use Rattle.mpeg.proofs.Lengths.{said-lengths, frames-laid}
 

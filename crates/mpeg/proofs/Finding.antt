@@ -22,8 +22,8 @@ use Rattle.mpeg.specs.declared.reader.Standing.{Standing}
 use Rattle.mpeg.specs.Packet.{pointedLength, fillByte, none, allFill}
 use Rattle.mpeg.specs.Frame.{besideField, saidLength, startsWell, good, mayBegin}
 use Rattle.mpeg.specs.Read.{Found, found, withFrame}
-use Rattle.mpeg.specs.Standing.{frontOf}
-use Rattle.mpeg.specs.Fronts.{spoilt, standingWith, foundBetween, Starts}
+use Rattle.mpeg.specs.Inside.Standing.{frontOf}
+use Rattle.mpeg.specs.Inside.Fronts.{spoilt, standingWith, foundBetween, Starts}
 use Rattle.mpeg.proofs.Fronts.{part-to, says-of}
 
 -- A frame that may be written, and bytes that may begin one: what makes each true, and each false.

@@ -17,8 +17,8 @@ use Rattle.mpeg.specs.declared.reader.Standing.{Standing}
 use Rattle.mpeg.specs.Packet.{fillByte, payloadLength, nullPacket, same, allFill, payloadOnly, nextCount}
 use Rattle.mpeg.specs.Frame.{fieldAt, besideField, saidLength}
 use Rattle.mpeg.specs.Read.{countOf, countFits}
-use Rattle.mpeg.specs.Standing.{frontOf}
-use Rattle.mpeg.specs.Fronts.{headed}
+use Rattle.mpeg.specs.Inside.Standing.{frontOf}
+use Rattle.mpeg.specs.Inside.Fronts.{headed}
 use Rattle.packet.specs.Dmpt.{mpegLength, syncByte}
 
 -- Byte `place` of a frame: among the bytes that came before, among those that come now, or among neither.

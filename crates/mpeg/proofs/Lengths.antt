@@ -16,7 +16,7 @@ use Rattle.octets.specs.Stretch.{rest, put, joined, lengths}
 use Rattle.octets.proofs.Stretches.{byte-rest, put-nil, put-put-front, length-put, set-put}
 use Rattle.flow.specs.Flow.{longest}
 use Rattle.mpeg.specs.Frame.{fieldAt, besideField, saidLength, good}
-use Rattle.mpeg.specs.Stream.{saidLengths, saidEnd, Laid}
+use Rattle.mpeg.specs.Inside.Stream.{saidLengths, saidEnd, Laid}
 use Rattle.mpeg.proofs.Streams.{GoodFrame}
 use Rattle.mpeg.proofs.Passes.{good-length, good-short}
 use Rattle.mpeg.proofs.Surveying.{rest-all}

@@ -22,8 +22,8 @@ use Rattle.mpeg.specs.Packet.{headLength, pointedLength, payloadLength, 
 use Rattle.mpeg.specs.Frame.{besideField, saidLength, startsWell, good, mayBegin}
 use Rattle.mpeg.specs.Read.{Reading, Found, found, unsound, countOf, countFits, hasHeader, wentOn, withoutFlag}
 use Rattle.mpeg.specs.Read.{pointer, pointed, ended, foundIn, endsWell, endedFrames, withFlag, readPacket}
-use Rattle.mpeg.specs.Standing.{frontOf, standingOf}
-use Rattle.mpeg.specs.Fronts.{headed, spoilt, standingWith, foundBetween}
+use Rattle.mpeg.specs.Inside.Standing.{frontOf, standingOf}
+use Rattle.mpeg.specs.Inside.Fronts.{headed, spoilt, standingWith, foundBetween}
 use Rattle.mpeg.proofs.Fronts.{says-of}
 use Rattle.mpeg.proofs.Finding.{good-is, not-good-says, not-good-over, may-begin-is, not-begin-long, not-begin-whole, rest-part, part-front}
 

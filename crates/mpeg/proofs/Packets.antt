@@ -18,7 +18,7 @@ use Rattle.packet.specs.Dmpt.{mpegLength, syncByte}
 use Rattle.mpeg.specs.Packet.{headLength, payloadLength, pointedLength, framesPid, payloadOnly, counts, fillByte, flagged, header}
 use Rattle.mpeg.specs.HandOut.{source, handedLength, PermitsHandOut}
 use Rattle.mpeg.specs.Write.{dataPacket, carries}
-use Rattle.mpeg.specs.Writing.{behindPointer, Waiting}
+use Rattle.mpeg.specs.Inside.Writing.{behindPointer, Waiting}
 
 -- The hand-out.
 pub from-queue : (queue null : RefT (List ℕ)) → mpegLength ≤ length (queue .now) → source queue null ≡ queue

@@ -24,8 +24,8 @@ use Rattle.mpeg.specs.declared.reader.Standing.{Standing}
 use Rattle.mpeg.specs.Packet.{headLength, framesPid}
 use Rattle.mpeg.specs.Frame.{saidLength, startsWell, good}
 use Rattle.mpeg.specs.Read.{Reading, atStart, unsound, readPacket, readFrom, packetsIn, reading}
-use Rattle.mpeg.specs.Standing.{standingOf, Within, Follows}
-use Rattle.mpeg.specs.Stream.{stream, bytesAt, Surveyed, Writable}
+use Rattle.mpeg.specs.Inside.Standing.{standingOf, Within, Follows}
+use Rattle.mpeg.specs.Inside.Stream.{stream, bytesAt, Surveyed, Writable}
 use Rattle.mpeg.proofs.Streams.{GoodFrame, may-begin-none, stays-unsound, refused-is, Adds, adds, Steady, steady-turn}
 
 -- A good frame is as long as it says, and so has 6 bytes at least.

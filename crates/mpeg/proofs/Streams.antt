@@ -20,7 +20,7 @@ use Rattle.packet.specs.Dmpt.{mpegLength}
 use Rattle.mpeg.specs.Packet.{headLength, payloadLength, pointedLength, framesPid, startFlag, counts, nextCount, header, nullPacket, none, same, allFill}
 use Rattle.mpeg.specs.Frame.{saidLength, good, mayBegin}
 use Rattle.mpeg.specs.Read.{Reading, unsound, Found, withFrame, found, countOf, hasHeader, countFits, withoutFlag, pointer, pointed, ended, foundIn, endsWell, endedFrames, withFlag, readPacket}
-use Rattle.mpeg.specs.Stream.{stream, bytesAt}
+use Rattle.mpeg.specs.Inside.Stream.{stream, bytesAt}
 use Rattle.mpeg.proofs.Taken.{same-equal}
 
 abbrev pub GoodFrame : List ℕ → Type 0

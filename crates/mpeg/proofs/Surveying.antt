@@ -20,7 +20,7 @@ use Rattle.flow.specs.Flow.{longest}
 use Rattle.mpeg.specs.Packet.{fillByte}
 use Rattle.mpeg.specs.Frame.{fieldAt, besideField, saidLength, good}
 use Rattle.mpeg.specs.Write.{badFrames, leftAt}
-use Rattle.mpeg.specs.Writing.{badFirst, notAll}
+use Rattle.mpeg.specs.Inside.Writing.{badFirst, notAll}
 
 -- One frame.
 -- A frame that may be written is there, and as long as one can be.

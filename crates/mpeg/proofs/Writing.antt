@@ -15,7 +15,7 @@ use Rattle.packet.specs.Dmpt.{mpegLength}
 use Rattle.mpeg.specs.Packet.{payloadLength, nextCount, nullPacket, none}
 use Rattle.mpeg.specs.Write.{Asked, WriteOutcome, badFrames, dataPacket, carries, packetOf, carried, countAfter}
 use Rattle.mpeg.specs.Write.{waitingFor, leftFor, wrote, refused, writtenBy, written}
-use Rattle.mpeg.specs.Writing.{Waiting}
+use Rattle.mpeg.specs.Inside.Writing.{Waiting}
 use Rattle.mpeg.proofs.Surveying.{left-there, rest-none}
 use Rattle.mpeg.proofs.Backlogs.{packet-some, carried-some, count-some}
 

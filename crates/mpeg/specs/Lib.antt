@@ -1,10 +1,7 @@
 pub mod Packet
 pub mod Frame
 pub mod Write
-pub mod Writing
 pub mod HandOut
 pub mod Read
-pub mod Standing
-pub mod Fronts
 pub mod Run
-pub mod Stream
+pub mod Inside

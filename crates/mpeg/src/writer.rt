@@ -8,7 +8,7 @@ ghost use Rattle.octets.specs.Stretch.{part, rest, put};
 ghost use Rattle.packet.specs.Dmpt.{mpegLength};
 ghost use Rattle.mpeg.specs.Packet.{headLength, pointedLength, framesPid, fillByte, nextCount, header, flagged};
 ghost use Rattle.mpeg.specs.Write.{badFrames, leftAt, dataPacket, carries, PermitsWrite};
-ghost use Rattle.mpeg.specs.Writing.{badFirst, notAll, behindPointer, Waiting};
+ghost use Rattle.mpeg.specs.Inside.Writing.{badFirst, notAll, behindPointer, Waiting};
 use crate::BESIDE_FIELD;
 use crate::COUNTS;
 use crate::FIELD_AT;

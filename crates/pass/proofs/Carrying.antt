@@ -15,7 +15,7 @@ use Rattle.packet.specs.Segments.{Segment}
 use Rattle.join.specs.declared.Tally.{Tally}
 use Rattle.join.specs.Join.{Fate, dropping, inOrder}
 use Rattle.join.specs.Slices.{asSlices, Slices, mostBytes, mostFrames}
-use Rattle.join.specs.Placed.{nothingYet, Placed, Fits, Within}
+use Rattle.join.specs.Inside.{nothingYet, Placed, Fits, Within}
 use Rattle.join.proofs.Account.{Accounts, in-order-accounts}
 use Rattle.join.proofs.Placing.{placed-dropping, placed-counted, output-long, lengths-long, placed-next}
 use Rattle.pass.specs.Pass.{passedOn, passAll, wholeWithin, bodyOf, unnumberedFate, carriesSome, asItIs, dmptFate}

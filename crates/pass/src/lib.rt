@@ -9,7 +9,7 @@ ghost use Prim.Native.Nat.{_+_, _≤_};
 ghost use lib.ListN.{length};
 ghost use Rattle.octets.specs.Stretch.{part};
 ghost use Rattle.join.specs.Slices.{asSlices, mostBytes, mostFrames};
-ghost use Rattle.join.specs.Placed.{Placed, Fits};
+ghost use Rattle.join.specs.Inside.{Placed, Fits};
 ghost use Rattle.pass.specs.Pass.{passedOn};
 use join::Tally;
 

@@ -8,7 +8,7 @@ ghost use Rattle.refusal.specs.Refusal.{first};
 ghost use Rattle.packet.specs.Header.{idLength, longestPacket};
 ghost use Rattle.packet.specs.Dmpt.{mpegs, dmptRefusals};
 ghost use Rattle.join.specs.Slices.{asSlices, mostBytes, mostFrames};
-ghost use Rattle.join.specs.Placed.{nothingYet, Placed, Within};
+ghost use Rattle.join.specs.Inside.{nothingYet, Placed, Within};
 ghost use Rattle.pass.specs.Pass.{dmptFate};
 use join::Tally;
 use packet::dmpt;

@@ -10,7 +10,7 @@ ghost use Rattle.packet.specs.Header.{idLength, longestPacket};
 ghost use Rattle.packet.specs.Segments.{segments};
 ghost use Rattle.packet.specs.Psp.{segmentRefusals};
 ghost use Rattle.join.specs.Slices.{asSlices, mostBytes, mostFrames};
-ghost use Rattle.join.specs.Placed.{nothingYet, Placed, Within};
+ghost use Rattle.join.specs.Inside.{nothingYet, Placed, Within};
 ghost use Rattle.pass.specs.Pass.{unnumberedFate};
 use join::Tally;
 use packet::header;

@@ -13,7 +13,7 @@ use Rattle.octets.proofs.Counts.{sum-none, sum-more}
 use Rattle.octets.proofs.Stretches.{length-part, part-none, part-part-front, part-more, length-put, put-nil, put-put, set-put, length-lengths, total, total-part}
 use Rattle.card.specs.Receive.{framesFound}
 use Rattle.pspmpeg.specs.declared.gather.Gathered.{Gathered}
-use Rattle.pspmpeg.specs.Steps.{Adds, FitsFound}
+use Rattle.pspmpeg.specs.Inside.{Adds, FitsFound}
 
 pub lengths-cut : (l bytes : List ℕ) → total l ≤ length bytes → lengths (cutBy l bytes) ≡ l
 unfolding lengths cutBy

@@ -12,7 +12,7 @@ use Rattle.capture.specs.File.{fileRefusal}
 use Rattle.listing.specs.Listing.{refusedLine}
 use Rattle.pspmpeg.specs.declared.gather.Gathered.{Gathered}
 use Rattle.pspmpeg.specs.Stream.{delivered, streamBy, stream}
-use Rattle.pspmpeg.specs.Steps.{Gathers, streamFrom}
+use Rattle.pspmpeg.specs.Inside.{Gathers, streamFrom}
 use Rattle.pspmpeg.proofs.Draining.{stream-is}
 
 pub stream-refused : (session : ℕ) (file : List ℕ) (number : ℕ) → number ≡ fileRefusal file → (number ≡ 0 → ⊥) → refusedLine number ≡ stream session file

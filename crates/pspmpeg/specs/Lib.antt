@@ -1,2 +1,2 @@
 pub mod Stream
-pub mod Steps
+pub mod Inside

@@ -9,7 +9,7 @@ ghost use Rattle.capture.specs.File.{headLength, entryCount, longestFile};
 ghost use Rattle.listing.specs.Walk.{Stands, Unused, lineRoom};
 ghost use Rattle.trace.specs.Rooms.{Enough};
 ghost use Rattle.pspmpeg.specs.Stream.{isFor, framesAt, delivered};
-ghost use Rattle.pspmpeg.specs.Steps.{mostGathered, Fits, FitsFound, Adds, Gathers};
+ghost use Rattle.pspmpeg.specs.Inside.{mostGathered, Fits, FitsFound, Adds, Gathers};
 use capture::reader;
 use listing::Walk;
 use listing::run;

@@ -15,7 +15,7 @@ ghost use Rattle.text.specs.Text.{Wrote};
 ghost use Rattle.capture.specs.File.{longestFile};
 ghost use Rattle.listing.specs.Walk.{lineRoom};
 ghost use Rattle.pspmpeg.specs.Stream.{stream};
-ghost use Rattle.pspmpeg.specs.Steps.{mostGathered, streamRoom};
+ghost use Rattle.pspmpeg.specs.Inside.{mostGathered, streamRoom};
 use capture::reader;
 use libc::STDERR_FILENO;
 use libc::STDIN_FILENO;

@@ -3,7 +3,7 @@ ghost use Prim.Native.Nat.{_≤_};
 ghost use lib.ListN.{length};
 ghost use Rattle.text.specs.Text.{Wrote};
 ghost use Rattle.capture.specs.File.{longestFile};
-ghost use Rattle.pspmpeg.specs.Steps.{streamRoom, streamFrom};
+ghost use Rattle.pspmpeg.specs.Inside.{streamRoom, streamFrom};
 use mpeg::writer;
 use packet::dmpt;
 

@@ -28,7 +28,7 @@ use Rattle.capture.specs.Write.{added, fileLength, within, writeRefusals, Roomy
 use Rattle.capture.proofs.Writing.{within-facts, not-refused, holds-none, holds-more, file-there, file-length}
 use Rattle.pspsend.specs.declared.series.Series.{Series}
 use Rattle.pspsend.specs.Capture.{opening, dataOf, turnFor, atFirst, sentFrom, packetsFor, entriesFor, captureRefusals, firstAnswer, makeRefusal}
-use Rattle.pspsend.specs.Steps.{packetRoom, mostBytes, Unhurried, goesOn, stops, codeThen, seriesAfter, contentsThen, bodiesThen, SentAll}
+use Rattle.pspsend.specs.Inside.{packetRoom, mostBytes, Unhurried, goesOn, stops, codeThen, seriesAfter, contentsThen, bodiesThen, SentAll}
 
 -- One call. `s` is what send answered and `after` what it left in a scratch slice that was long enough.
 module _ (job : Job) (limit : ℕ) (series : Series) (scratch : List ℕ) (room : packetRoom ≤ length scratch) (s : Sent) (after : List ℕ)

@@ -1,3 +1,3 @@
 pub mod Frames
 pub mod Capture
-pub mod Steps
+pub mod Inside

@@ -16,7 +16,7 @@ ghost use Prim.Native.Nat.{_+_, _*_, _≤_};
 ghost use lib.ListN.{length};
 ghost use Rattle.capture.specs.File.{headLength, entryLength, longestFile, mostEntries};
 ghost use Rattle.pspsend.specs.Frames.{most};
-ghost use Rattle.pspsend.specs.Steps.{mostBytes};
+ghost use Rattle.pspsend.specs.Inside.{mostBytes};
 use libc::STDERR_FILENO;
 use libc::STDIN_FILENO;
 use libc::STDOUT_FILENO;

@@ -8,7 +8,7 @@ ghost use Rattle.packet.specs.Header.{idLength};
 ghost use Rattle.capture.specs.File.{headLength, entryLength, longestFile, mostEntries};
 ghost use Rattle.capture.specs.Write.{Roomy, Holds};
 ghost use Rattle.pspsend.specs.Capture.{opening, Makes};
-ghost use Rattle.pspsend.specs.Steps.{packetRoom, mostBytes, Unhurried, seriesAfter, contentsThen, bodiesThen, SentAll};
+ghost use Rattle.pspsend.specs.Inside.{packetRoom, mostBytes, Unhurried, seriesAfter, contentsThen, bodiesThen, SentAll};
 use capture::Writer;
 use packet::header;
 use sender::Position;

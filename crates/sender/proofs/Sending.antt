@@ -14,7 +14,7 @@ use Rattle.packet.specs.Segments.{entryWidth}
 use Rattle.sender.specs.declared.Progress.{Progress}
 use Rattle.sender.specs.Packet.{entryOf, bodyOf, headerOf, packetOf}
 use Rattle.sender.specs.Send.{Asked, SendOutcome, sendRefusals, cutFor, packetFor, written, refused, sentBy, sent, PermitsSend}
-use Rattle.sender.specs.Placed.{Ready, cutOf, Written}
+use Rattle.sender.specs.Inside.{Ready, cutOf, Written}
 use Rattle.sender.proofs.Reading.{length-packet}
 use Rattle.sender.proofs.Judging.{Passed, Standing, send-passed, limit-enough, limit-small}
 

@@ -19,7 +19,7 @@ use Rattle.sender.specs.declared.Progress.{Progress}
 use Rattle.sender.specs.Cut.{frameLength, indexOf, segmentFrom, Cut, goesOn, cut}
 use Rattle.sender.specs.Packet.{entryNumber, entryOf, bodyOf, headerOf}
 use Rattle.sender.specs.Send.{mostSegments}
-use Rattle.sender.specs.Placed.{entriesAt, Placeable, sizeFor, positionAfter, placedNext, entryFor, withEntry, Ready, cutOf, Written}
+use Rattle.sender.specs.Inside.{entriesAt, Placeable, sizeFor, positionAfter, placedNext, entryFor, withEntry, Ready, cutOf, Written}
 use Rattle.sender.proofs.Reading.{length-entries}
 use Rattle.sender.proofs.Positions.{Framed, framed, inside, place-within, carried-place, carried-bytes}
 use Rattle.sender.proofs.Cutting.{Cutting, cutting-start, frames-remain, room-enough, offset-below, body-length, place-keeps, cut-turn, cut-stops, cut-none, length-more}

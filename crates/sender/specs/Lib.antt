@@ -3,5 +3,5 @@ pub mod Packet
 pub mod Send
 pub mod Carried
 pub mod Series
-pub mod Placed
+pub mod Inside
 pub mod Rules

@@ -18,7 +18,7 @@ ghost use Rattle.packet.specs.Segments.{entryWidth, eBit};
 ghost use Rattle.sender.specs.Cut.{frameLength, indexOf, leastRoom};
 ghost use Rattle.sender.specs.Packet.{worth as bitWorth, entryNumber, headerOf};
 ghost use Rattle.sender.specs.Send.{mostFrames, mostSegments, greatestLimit, badSize, badLength, badFrames, outside, earlyRefusals, laterRefusals, PermitsSend};
-ghost use Rattle.sender.specs.Placed.{Placeable, positionAfter, placedNext, withEntry, Ready, cutOf, Written};
+ghost use Rattle.sender.specs.Inside.{Placeable, positionAfter, placedNext, withEntry, Ready, cutOf, Written};
 use flow::Flow;
 use packet::header;
 use packet::psp;

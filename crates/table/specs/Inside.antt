@@ -1,5 +1,5 @@
--- Words of the contracts of the functions inside this crate: rule 13 as the code asks it, which looks at each number once. The calls' own
--- contracts say none of them, so a reader who is after the promises can pass them over.
+-- Inside: what functions promise each other on the way to a result. Nobody has to believe this file: the result is said without it.
+-- Here: rule 13 as the code asks it, which looks at each number once.
 use Prim.Native.Nat.{ℕ}
 use mathlib.Core.Bool.{Bool, cond, not, _&&_, _||_}
 use mathlib.Core.List.{List, [], _∷_}

@@ -8,7 +8,7 @@ use Rattle.flow.specs.Flow.{flows}
 use Rattle.packet.specs.Header.{Packet, packetBy, sub, headerLength, flowId}
 use Rattle.table.specs.declared.Row.{Row}
 use Rattle.join.specs.Slices.{asSlices, Slices}
-use Rattle.join.specs.Placed.{Roomy}
+use Rattle.join.specs.Inside.{Roomy}
 use Rattle.card.specs.Receive.{placeOf, flowNumber}
 use Rattle.card.specs.Inside.{Ready}
 use Rattle.card.proofs.ByKind.{flow-in-row}

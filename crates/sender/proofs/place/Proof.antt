@@ -3,7 +3,7 @@ use Prim.Native.Nat.{_+_, _*_}
 use mathlib.Core.Path.{ap, _∙_}
 use native.Mathlib.Omega.{arith}
 use Rattle.octets.specs.Stretch.{put}
-use Rattle.sender.specs.Placed.{entriesAt}
+use Rattle.sender.specs.Inside.{entriesAt}
 use Rattle.packet.specs.Segments.{entryWidth}
 use Rattle.sender.proofs.Writing.{placed-next, placed-entry}
 use borrow.Author.Needs.{needs}

@@ -1,6 +1,6 @@
 -- `sender::position_after` is right since `positionAfter` goes by the same test.
 use mathlib.Core.Path.{sym, ap}
-use Rattle.sender.specs.Placed.{positionAfter}
+use Rattle.sender.specs.Inside.{positionAfter}
 use borrow.Author.Needs.{needs}
 use Rattle.sender.proofs.position_after.Statement.{statement}
 use Rattle.sender.proofs.position_after.Tie as tie

@@ -4,7 +4,7 @@ use mathlib.Core.Path.{sym, _∙_}
 use native.Mathlib.Omega.{arith}
 use lib.ListN.{length}
 use Rattle.sender.specs.Send.{mostSegments}
-use Rattle.sender.specs.Placed.{Ready}
+use Rattle.sender.specs.Inside.{Ready}
 use Rattle.sender.proofs.Positions.{framed, inside, offset-small}
 use Rattle.sender.proofs.Writing.{Writing, writing-begin, output-long, writing-placeable, writing-less, writing-turn, bodies-from, bodies-to, writing-end}
 use borrow.Author.Needs.{needs}

@@ -8,7 +8,7 @@ use lib.ListN.{length}
 use borrow.Author.Tests.{ltb-true}
 use Rattle.refusal.proofs.Laws.{and-left, and-right}
 use Rattle.packet.specs.Dmpt.{mpegLength}
-use Rattle.mpeg.specs.Standing.{standingOf}
+use Rattle.mpeg.specs.Inside.Standing.{standingOf}
 use Rattle.mpeg.proofs.Passes.{Passing, pass-begin, pass-inside, pass-within, pass-turn, pass-end, reading-cut}
 use borrow.Author.Needs.{needs}
 use Rattle.mpeg.proofs.reader.survey.Statement.{statement}

@@ -2,7 +2,7 @@
 use Prim.Native.Nat.{_-_}
 use native.Mathlib.Omega.{arith}
 use lib.ListN.{length}
-use Rattle.mpeg.specs.Stream.{Surveyed}
+use Rattle.mpeg.specs.Inside.Stream.{Surveyed}
 use Rattle.mpeg.proofs.Passes.{Pouring, pour-begin, pour-inside, pour-within, behind-small, pour-writable, pour-turn, pour-long, pour-end}
 use borrow.Author.Needs.{needs}
 use Rattle.mpeg.proofs.reader.write_frames.Statement.{statement}

@@ -9,7 +9,7 @@ use borrow.Author.Tests.{ltb-true}
 use Rattle.refusal.proofs.Laws.{and-right}
 use Rattle.sender.specs.Series.{Job}
 use Rattle.capture.specs.Write.{Roomy}
-use Rattle.pspsend.specs.Steps.{packetRoom}
+use Rattle.pspsend.specs.Inside.{packetRoom}
 use Rattle.pspsend.proofs.Making.{Going, going-begin, going-next, unhurried, going-end}
 use borrow.Author.Needs.{needs}
 use Rattle.pspsend.proofs.series.send_all.Statement.{statement}

@@ -1,5 +1,5 @@
--- How a fate shows in the code's counts and slices. These are the words of the contracts of the functions of this crate; the data
--- call's own contract says none of them, so a reader who is after the promises can pass them over.
+-- Inside: what functions promise each other on the way to a result. Nobody has to believe this file: the result is said without it.
+-- Here: how a fate shows in the code's counts and slices.
 use Prim.Native.Nat.{ℕ, zero, suc, _+_, _<_, _≤_}
 use mathlib.Core.Path.{_≡_}
 use mathlib.Core.Bool.{true}

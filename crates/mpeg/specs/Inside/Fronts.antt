@@ -1,5 +1,6 @@
--- What the functions inside the reader say of each other's work: of the front of a frame with more bytes behind it, of a header, and of the frames that a
--- packet has from a frame's start on, in the numbers that the code keeps (specs/Standing.antt). Who calls the reader needs none of this.
+-- Inside: what functions promise each other on the way to a result. Nobody has to believe this file: the result is said without it.
+-- Here: the front of a frame with more bytes behind it, a header, and the frames that a packet has from a frame's start on, in the numbers that the
+-- reader keeps (specs/Inside/Standing.antt).
 use Prim.Native.Nat.{ℕ, _+_, _-_, _≤_}
 use mathlib.Core.Path.{_≡_}
 use mathlib.Core.Bool.{Bool, true, cond, _&&_}
@@ -12,7 +13,7 @@ use Rattle.mpeg.specs.declared.reader.Front.{Front}
 use Rattle.mpeg.specs.declared.reader.Standing.{Standing}
 use Rattle.mpeg.specs.Packet.{headLength, pointedLength, payloadOnly, same}
 use Rattle.mpeg.specs.Read.{Found, found, countOf, countFits, unsound}
-use Rattle.mpeg.specs.Standing.{frontOf, standingOf}
+use Rattle.mpeg.specs.Inside.Standing.{frontOf, standingOf}
 
 -- Byte `place` of a frame with these bytes more, whichever `size` bytes it has before them: `known` is that byte where it is among those.
 abbrev pub ByteOf : List ℕ → ℕ → ℕ → ℕ → ℕ → Type 0

@@ -1,4 +1,5 @@
--- What the functions that make a capture promise each other. Nobody has to believe this file: the contract of `make` does not mention it.
+-- Inside: what functions promise each other on the way to a result. Nobody has to believe this file: the result is said without it.
+-- Here: how sends one after another stand for the entries of a capture. The capture itself is specs/Capture.antt's.
 use Prim.Native.Nat.{ℕ, _+_, _*_, _≤_}
 use mathlib.Core.Path.{_≡_}
 use mathlib.Core.Bool.{true, cond}

@@ -1,5 +1,5 @@
--- What the functions inside the sender promise each other: how the code's counts and the output stand for a cut. Nobody has to believe
--- this file: `send` alone is public, and its contract does not mention it.
+-- Inside: what functions promise each other on the way to a result. Nobody has to believe this file: the result is said without it.
+-- Here: how the code's counts and the output stand for a cut.
 use Prim.Native.Nat.{ℕ, _+_, _-_, _*_, _<_, _≤_, min}
 use mathlib.Core.Path.{_≡_}
 use mathlib.Core.Bool.{Bool, false, cond}

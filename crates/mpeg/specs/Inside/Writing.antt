@@ -1,4 +1,5 @@
--- What the writer's inner functions answer: the parts that specs/Write.antt is made of, as the code finds them one by one.
+-- Inside: what functions promise each other on the way to a result. Nobody has to believe this file: the result is said without it.
+-- Here: the parts that specs/Write.antt is made of, as the writer finds them one by one.
 use Prim.Native.Nat.{ℕ, _-_, _≤_, _<_}
 use mathlib.Core.Bool.{Bool, not, _||_}
 use mathlib.Core.List.{List}
