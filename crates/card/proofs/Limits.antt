@@ -8,10 +8,10 @@ use native.Mathlib.Omega.{arith}
 use lib.ListN.{length}
 use Rattle.refusal.specs.Refusal.{first}
 use Rattle.octets.specs.Bytes.{byteAt}
-use Rattle.octets.specs.Stretch.{part, put, lengths}
+use Rattle.octets.specs.Stretch.{part, put, lengthsOf}
 use Rattle.octets.specs.Count.{sumTo, upTo}
 use Rattle.octets.proofs.Counts.{sum-none, sum-same}
-use Rattle.octets.proofs.Stretches.{length-part, part-none, length-put, part-put, length-lengths, total, total-part, total-lengths}
+use Rattle.octets.proofs.Stretches.{length-part, part-none, length-put, part-put, length-lengthsOf, total, total-part, total-lengthsOf}
 use Rattle.flow.specs.declared.Flow.{Flow}
 use Rattle.flow.specs.Flow.{longest, half, accepted}
 use Rattle.flow.proofs.Judging.{judge-sound}
@@ -176,13 +176,13 @@ lengths-by zero t p s e =
     let a = call.accepted t p s e in
     let b = accepted-bounded t p s a in
     let frames = heardBy t (rowOf t p) (sub p) s .fate .delivered in
-    let few : length (lengths frames) ≤ length (s .lengths) = omega (arith, length-lengths frames, b .frames-few, large-enough s (a .large) .lengths-enough) in
-    let kept = length-put (s .lengths) 0 (lengths frames) (omega (arith, few)) in
+    let few : length (lengthsOf frames) ≤ length (s .lengths) = omega (arith, length-lengthsOf frames, b .frames-few, large-enough s (a .large) .lengths-enough) in
+    let kept = length-put (s .lengths) 0 (lengthsOf frames) (omega (arith, few)) in
     rw (call.received-accepted t p s e)
-    (sym (total-part (put (s .lengths) 0 (lengths frames)) (length frames) (omega (arith, few, kept, length-lengths frames)))
-    ∙ ap (λ (n : ℕ). total (part (put (s .lengths) 0 (lengths frames)) 0 n)) (sym (length-lengths frames))
-    ∙ ap total (part-put (s .lengths) 0 (lengths frames) (omega (arith, few)))
-    ∙ total-lengths frames)
+    (sym (total-part (put (s .lengths) 0 (lengthsOf frames)) (length frames) (omega (arith, few, kept, length-lengthsOf frames)))
+    ∙ ap (λ (n : ℕ). total (part (put (s .lengths) 0 (lengthsOf frames)) 0 n)) (sym (length-lengthsOf frames))
+    ∙ ap total (part-put (s .lengths) 0 (lengthsOf frames) (omega (arith, few)))
+    ∙ total-lengthsOf frames)
 lengths-by (suc c) t p s e = rw (call.received-refused t p s c e) (sum-none (byteAt (s .lengths)))
 
 pub lengths-add-up : (t : Table) (p : Packet) (s : Slices) →

@@ -11,9 +11,9 @@ use lib.ListN.{length, set, length-set}
 use lib.Seq.{getD-set-same, getD-set-other}
 use borrow.Author.Tests.{eqb-true, eqb-false, ltb-true, ltb-false}
 use Rattle.octets.specs.Bytes.{byteAt}
-use Rattle.octets.specs.Stretch.{part, rest, put, joined, lengths, cutBy}
+use Rattle.octets.specs.Stretch.{part, rest, put, joined, lengthsOf, cutBy}
 use Rattle.octets.proofs.Counts.{true-or-false}
-use Rattle.octets.proofs.Stretches.{length-put, length-lengths, byte-put, part-put, part-put-apart, put-front, cut-joined}
+use Rattle.octets.proofs.Stretches.{length-put, length-lengthsOf, byte-put, part-put, part-put-apart, put-front, cut-joined}
 use Rattle.flow.specs.Flow.{longest, flows}
 use Rattle.packet.specs.Header.{Packet, sub}
 use Rattle.table.specs.declared.Table.{Table}
@@ -35,9 +35,9 @@ abbrev pub framesIn : Outcome → List (List ℕ)
 framesIn o = framesFound (o .answer .frames) (o .slices .lengths) (o .slices .output)
 
 -- where no frame is counted, none is found
-pub none-found : (lens output : List ℕ) → framesFound 0 lens output ≡ []
+pub none-found : (lengths output : List ℕ) → framesFound 0 lengths output ≡ []
 unfolding part cutBy
-none-found lens output = refl
+none-found lengths output = refl
 
 -- The outcome o of a call is the step h of flow k in row r.
 pub record StepOf (r k : ℕ) (h : Heard) (t : Table) (s : Slices) (o : Outcome) : Type 0 where
@@ -89,8 +89,8 @@ module _ (r k : ℕ) (h : Heard) (t : Table) (s : Slices) (shaped : Shaped t) (t
   output-room : 0 + length (joined (h .fate .delivered)) ≤ length (s .output)
   output-room = omega (arith, large .output-enough)
 
-  lengths-room : 0 + length (lengths (h .fate .delivered)) ≤ length (s .lengths)
-  lengths-room = omega (arith, large .lengths-enough, length-lengths (h .fate .delivered))
+  lengths-room : 0 + length (lengthsOf (h .fate .delivered)) ≤ length (s .lengths)
+  lengths-room = omega (arith, large .lengths-enough, length-lengthsOf (h .fate .delivered))
 
   shape-kept : Shaped (done .answer .table)
   unfolding carriedOut
@@ -113,15 +113,15 @@ module _ (r k : ℕ) (h : Heard) (t : Table) (s : Slices) (shaped : Shaped t) (t
   found : framesIn done ≡ h .fate .delivered
   unfolding carriedOut
   found =
-      let n = length-lengths (h .fate .delivered) in
-      let read : part (put (s .lengths) 0 (lengths (h .fate .delivered))) 0 (length (h .fate .delivered)) ≡ lengths (h .fate .delivered) =
-      ap (part (put (s .lengths) 0 (lengths (h .fate .delivered))) 0) (sym n) ∙ part-put (s .lengths) 0 (lengths (h .fate .delivered)) lengths-room in
+      let n = length-lengthsOf (h .fate .delivered) in
+      let read : part (put (s .lengths) 0 (lengthsOf (h .fate .delivered))) 0 (length (h .fate .delivered)) ≡ lengthsOf (h .fate .delivered) =
+      ap (part (put (s .lengths) 0 (lengthsOf (h .fate .delivered))) 0) (sym n) ∙ part-put (s .lengths) 0 (lengthsOf (h .fate .delivered)) lengths-room in
       rw (read, put-front (s .output) (joined (h .fate .delivered))) (cut-joined (h .fate .delivered) (rest (s .output) (0 + length (joined (h .fate .delivered)))))
 
   pub carried-step : StepOf r k h t s done
   unfolding carriedOut
   carried-step =
-      let n = length-lengths (h .fate .delivered) in
+      let n = length-lengthsOf (h .fate .delivered) in
       record {
         no-refusal = refl;
         frames-are = refl;
@@ -140,11 +140,11 @@ module _ (r k : ℕ) (h : Heard) (t : Table) (s : Slices) (shaped : Shaped t) (t
             (places-apart (flows * i + j) (flows * r + k) m (length (h .fate .held)) (numbers-apart i j o other) size few);
         frames-found = found;
         output-behind = λ i behind. byte-put (s .output) 0 (joined (h .fate .delivered)) i output-room (inr (omega arith));
-        lengths-behind = λ i behind. byte-put (s .lengths) 0 (lengths (h .fate .delivered)) i lengths-room (inr (omega (arith, n)));
+        lengths-behind = λ i behind. byte-put (s .lengths) 0 (lengthsOf (h .fate .delivered)) i lengths-room (inr (omega (arith, n)));
         same-lengths = (
           length-put (s .holding) (placeOf r k) (h .fate .held) place-room,
           length-put (s .output) 0 (joined (h .fate .delivered)) output-room,
-          length-put (s .lengths) 0 (lengths (h .fate .delivered)) lengths-room,
+          length-put (s .lengths) 0 (lengthsOf (h .fate .delivered)) lengths-room,
         );
       }
 

@@ -42,12 +42,12 @@ pub large-enough : (s : Slices) → tooSmall s ≡ false → Large s
 large-enough s e =
     let holding = ltb (length (s .holding)) holdingSize in
     let output = ltb (length (s .output)) mostBytes in
-    let lens = ltb (length (s .lengths)) mostFrames in
-    let two = or-false-left (holding || output) lens e in
+    let lengths = ltb (length (s .lengths)) mostFrames in
+    let two = or-false-left (holding || output) lengths e in
     record {
       holding-enough = ltb-false _ _ (or-false-left holding output two);
       output-enough = ltb-false _ _ (or-false-right holding output two);
-      lengths-enough = ltb-false _ _ (or-false-right (holding || output) lens e);
+      lengths-enough = ltb-false _ _ (or-false-right (holding || output) lengths e);
     }
 
 -- the place of each flow lies in the holding slice

@@ -12,17 +12,17 @@ pub receive-permitted : (t : Table) (p : Packet) (s : Slices) → PermitsReceive
 receive-permitted t packet s = permits refl
 
 -- an outcome is what it is made of
-same : {code code′ frames frames′ bytes bytes′ dropped dropped′ gap gap′ : ℕ} {table table′ : Table} {holding holding′ output output′ lens lens′ : List ℕ} →
+same : {code code′ frames frames′ bytes bytes′ dropped dropped′ gap gap′ : ℕ} {table table′ : Table} {holding holding′ output output′ lengths lengths′ : List ℕ} →
     code ≡ code′ → frames ≡ frames′ → bytes ≡ bytes′ → dropped ≡ dropped′ → gap ≡ gap′ → table ≡ table′ →
-    holding ≡ holding′ → output ≡ output′ → lens ≡ lens′ →
+    holding ≡ holding′ → output ≡ output′ → lengths ≡ lengths′ →
     _≡_ {A = Outcome}
     (record {
       answer = record { code = code; frames = frames; bytes = bytes; dropped = dropped; gap = gap; table = table };
-      slices = asSlices holding output lens;
+      slices = asSlices holding output lengths;
     })
     (record {
       answer = record { code = code′; frames = frames′; bytes = bytes′; dropped = dropped′; gap = gap′; table = table′ };
-      slices = asSlices holding′ output′ lens′;
+      slices = asSlices holding′ output′ lengths′;
     })
 same c f b d g t h o l = rw (c, f, b, d, g, t, h, o, l) refl
 

@@ -30,7 +30,7 @@ use Rattle.card.specs.Receive.{tooSmall, earlyRefusals, packetRefusals, 
 
 -- Refusal 1, from the lengths of the slices.
 abbrev pub smallBy : ℕ → ℕ → ℕ → Bool
-smallBy holding output lens = ltb holding holdingSize || ltb output mostBytes || ltb lens mostFrames
+smallBy holding output lengths = ltb holding holdingSize || ltb output mostBytes || ltb lengths mostFrames
 
 -- Seeking a packet's session: refusals 1, 13, 24, 2, 3, 15, 4 and 5; or its row. A row is named in any case, so that there is one to be put
 -- back.

@@ -9,7 +9,7 @@ use mathlib.Core.List.{List, [], _∷_, _++_}
 use lib.Dec.{ltb}
 use lib.ListN.{length}
 use Rattle.refusal.specs.Refusal.{Refusal, _when_, first}
-use Rattle.octets.specs.Stretch.{part, put, joined, lengths, cutBy}
+use Rattle.octets.specs.Stretch.{part, put, joined, lengthsOf, cutBy}
 use Rattle.flow.specs.declared.Flow.{Flow}
 use Rattle.flow.specs.Flow.{longest, flows}
 use Rattle.packet.specs.Header.{Packet, sub, sessionId, beforeSession}
@@ -102,7 +102,7 @@ slicesAfter r k h s =
     record {
       holding = put (s .holding) (placeOf r k) (h .fate .held);
       output = put (s .output) 0 (joined (h .fate .delivered));
-      lengths = put (s .lengths) 0 (lengths (h .fate .delivered));
+      lengths = put (s .lengths) 0 (lengthsOf (h .fate .delivered));
     }
 
 unfoldable pub carriedOut : ℕ → ℕ → Heard → Table → Slices → Outcome
@@ -136,7 +136,7 @@ received t p s = receivedBy (first (dataRefusals t p s)) t (rowOf t p) (sub p) s
 
 -- the frames that the caller finds: as many as the answer says, of the lengths that stand in the lengths slice, back to back in the output
 abbrev pub framesFound : ℕ → List ℕ → List ℕ → List (List ℕ)
-framesFound count lens output = cutBy (part lens 0 count) output
+framesFound count lengths output = cutBy (part lengths 0 count) output
 
 -- What the call permits, whole: t and s are the table and the slices when it is called, p the packet, and o has table and slices when it
 -- returns.

@@ -5,7 +5,7 @@ use mathlib.Core.Path.{_≡_, refl}
 use mathlib.Core.Bool.{true}
 use mathlib.Core.List.{List, [], _∷_, _++_}
 use lib.ListN.{take, set, replicate}
-use Rattle.octets.specs.Stretch.{part, rest, put, joined, lengths}
+use Rattle.octets.specs.Stretch.{part, rest, put, joined, lengthsOf}
 use Rattle.octets.specs.Count.{any, least, sumTo, upTo}
 use Rattle.flow.specs.declared.Flow.{Flow}
 use Rattle.flow.specs.Numbers.{ahead, next}
@@ -65,7 +65,7 @@ marked-1-to-4 : (received (card fresh) (ip A) (lent before) ≡ accepts 1 6 0 0 
     × (received (card (at 0 2)) (ip B) (lent afterA) ≡ accepts 1 9 0 0 (card (at 1 0)) afterA (0x21 ∷ 0x22 ∷ 0x23 ∷ 0x24 ∷ 0x25 ∷ 0x26 ∷ 0x27 ∷ 0x28 ∷ 0x29 ∷ []) (9 ∷ []))
     × (received (card (at 1 0)) (ip B) (lent afterA) ≡ refuses 12 (card (at 1 0)) afterA)
     × (received (card fresh) (ip B) (lent before) ≡ accepts 0 0 7 0 (card (at 1 0)) before [] [])
-unfolding part rest put joined lengths any least sumTo upTo ahead next bodyAt segmentAt segments wanted broken settledBy settled fateBy fate atGap inOrder pspFate hear carriedOut refused receivedBy received
+unfolding part rest put joined lengthsOf any least sumTo upTo ahead next bodyAt segmentAt segments wanted broken settledBy settled fateBy fate atGap inOrder pspFate hear carriedOut refused receivedBy received
 marked-1-to-4 = (refl, refl, refl, refl)
 
 -- one whole frame of 3 bytes with any number, from byte 6 on: high and low byte
@@ -76,7 +76,7 @@ whole high low = 0x00 ∷ 0x00 ∷ 0x01 ∷ 0x01 ∷ 0x41 ∷ 0x01 ∷ high ∷ 
 marked-5-to-7 : (received (card (at 0 2)) (ip (whole 0x00 0x01)) (lent afterA) ≡ accepts 1 3 2 1 (card (at 2 0)) afterA (0x33 ∷ 0x34 ∷ 0x35 ∷ []) (3 ∷ []))
     × (received (card (at 0 2)) (ip (whole 0x7F 0xFF)) (lent afterA) ≡ accepts 1 3 2 32767 (card (at 0x8000 0)) afterA (0x33 ∷ 0x34 ∷ 0x35 ∷ []) (3 ∷ []))
     × (received (card (at 0 2)) (ip (whole 0x80 0x00)) (lent afterA) ≡ refuses 12 (card (at 0 2)) afterA)
-unfolding part rest put joined lengths any least sumTo upTo ahead next bodyAt segmentAt segments wanted broken settledBy settled fateBy fate atGap inOrder pspFate hear carriedOut refused receivedBy received
+unfolding part rest put joined lengthsOf any least sumTo upTo ahead next bodyAt segmentAt segments wanted broken settledBy settled fateBy fate atGap inOrder pspFate hear carriedOut refused receivedBy received
 marked-5-to-7 = (refl, refl, refl)
 
 -- M8: 2,047 held and an E segment of 1: a frame of 2,048. M9: 2,048 held and one more: 2,049 dropped. M10: count 0 is 9. M11: A
@@ -91,7 +91,7 @@ marked-8-to-11 : (received (card (at 4 2047)) (ip one-more) (lent (full 2047)) �
     × (received (card (at 4 2048)) (ip one-more) (lent (full 2048)) ≡ accepts 0 0 2049 0 (card (at 5 0)) (full 2048) [] [])
     × (received (card fresh) (ip (set A 5 0)) (lent before) ≡ refuses 9 (card fresh) before)
     × (received (card fresh) (ip (take 19 A)) (lent before) ≡ refuses 10 (card fresh) before)
-unfolding part rest put joined lengths any least sumTo upTo ahead next bodyAt segmentAt segments wanted broken settledBy settled fateBy fate atGap inOrder pspFate hear carriedOut refused receivedBy received
+unfolding part rest put joined lengthsOf any least sumTo upTo ahead next bodyAt segmentAt segments wanted broken settledBy settled fateBy fate atGap inOrder pspFate hear carriedOut refused receivedBy received
 marked-8-to-11 = (refl, refl, refl, refl)
 
 -- Flow 1 of the other channel: its 3 bytes are joined from its own place, and session 0x101 is left alone. Flow 3 of row 2, whose place
@@ -117,7 +117,7 @@ to-flow-3 = 0x00 ∷ 0x00 ∷ 0x01 ∷ 0x01 ∷ 0x43 ∷ 0x01 ∷ 0x00 ∷ 0x04 
 places : (received (card (at 0 2)) (ip to-other) (lent afterA) ≡ accepts 1 5 0 0 (other-heard (at 0 2)) afterA (1 ∷ 2 ∷ 3 ∷ 0x51 ∷ 0x52 ∷ []) (5 ∷ []))
     × (received (flow-3 (at 4 1)) (ip to-flow-3) (lent (put before 22528 (0x60 ∷ []))) ≡ accepts 0 0 0 0 (flow-3 (at 5 3)) (put before 22528 (0x60 ∷ 0x61 ∷ 0x62 ∷ [])) [] [])
     × (received (card (at 0xFFFF 2)) (ip B) (lent afterA) ≡ accepts 0 0 9 1 (card (at 1 0)) afterA [] [])
-unfolding part rest put joined lengths any least sumTo upTo ahead next bodyAt segmentAt segments wanted broken settledBy settled fateBy fate atGap inOrder pspFate hear carriedOut refused receivedBy received
+unfolding part rest put joined lengthsOf any least sumTo upTo ahead next bodyAt segmentAt segments wanted broken settledBy settled fateBy fate atGap inOrder pspFate hear carriedOut refused receivedBy received
 places = (refl, refl, refl)
 
 -- D-MPT in row 3: two MPEG packets, the second with PID 0x1FFF. With S clear the number is ignored and a fresh flow stays fresh; with S
@@ -140,7 +140,7 @@ dmpt : (received (dmpt-card fresh) (ip (D 0x00)) (lent before) ≡ accepts 1 188
     × (received (dmpt-card (at 0x1235 0)) (ip (D 0x00)) (lent before) ≡ accepts 1 188 188 0 (dmpt-card (at 0x1235 0)) before (mpeg 0xFE) (188 ∷ []))
     × (received (dmpt-card (at 0x1235 0)) (ip (set (D 0x40) 8 0x48)) (lent before) ≡ refuses 11 (dmpt-card (at 0x1235 0)) before)
     × (received (dmpt-card fresh) (ip (D 0x41)) (lent before) ≡ refuses 7 (dmpt-card fresh) before)
-unfolding part rest put joined lengths any least sumTo upTo ahead next mpegAt mpegs broken inOrder passAll dmptFate hear carriedOut
+unfolding part rest put joined lengthsOf any least sumTo upTo ahead next mpegAt mpegs broken inOrder passAll dmptFate hear carriedOut
     refused receivedBy received
 dmpt = (refl, refl, refl, refl, refl, refl, refl, refl)
 
@@ -154,7 +154,7 @@ broken-card = record { rows = closedRow ∷ rowWith 0x102 1 fresh (at 7 2049) �
 
 longer : received (card fresh) (ip B) (short 49153 6145 128)
     ≡ record { answer = record { code = 0; frames = 0; bytes = 0; dropped = 7; gap = 0; table = card (at 1 0) }; slices = short 49153 6145 128 }
-unfolding part rest put joined lengths any least sumTo upTo ahead next bodyAt segmentAt segments wanted broken settledBy settled fateBy fate atGap inOrder pspFate hear carriedOut refused receivedBy received
+unfolding part rest put joined lengthsOf any least sumTo upTo ahead next bodyAt segmentAt segments wanted broken settledBy settled fateBy fate atGap inOrder pspFate hear carriedOut refused receivedBy received
 longer = refl
 
 order : (received broken-card (ip []) (short 49151 6144 127) ≡ refused 1 broken-card (short 49151 6144 127))
@@ -196,7 +196,7 @@ without-number : (received (card fresh) (ip (clear A)) (lent before)
     × (received (card (at 4 2048)) (ip (sized 8 1)) (lent (full 2048)) ≡ accepts 0 0 4097 0 (card (at 4 0)) (full 2048) [] [])
     × (received (card (at 0 2)) (ip (take 19 (clear A))) (lent afterA) ≡ refuses 10 (card (at 0 2)) afterA)
     × (received (card (at 0 2)) (ip (set (clear A) 10 0x00)) (lent afterA) ≡ refuses 11 (card (at 0 2)) afterA)
-unfolding part rest put joined lengths any least sumTo upTo bodyAt segmentAt segments wanted broken inOrder passAll unnumberedFate hear
+unfolding part rest put joined lengthsOf any least sumTo upTo bodyAt segmentAt segments wanted broken inOrder passAll unnumberedFate hear
     carriedOut refused receivedBy received
 without-number = (refl, refl, refl, refl, refl, refl, refl, refl)
 
@@ -207,7 +207,7 @@ over-udp : (received (card fresh) (inUdp A) (lent before)
     × (received (card (at 0 2)) (inUdp B) (lent afterA)
     ≡ accepts 1 9 0 0 (card (at 1 0)) afterA (0x21 ∷ 0x22 ∷ 0x23 ∷ 0x24 ∷ 0x25 ∷ 0x26 ∷ 0x27 ∷ 0x28 ∷ 0x29 ∷ []) (9 ∷ []))
     × (received (card (at 1 0)) (inUdp B) (lent afterA) ≡ refuses 12 (card (at 1 0)) afterA)
-unfolding part rest put joined lengths any least sumTo upTo ahead next bodyAt segmentAt segments wanted broken
+unfolding part rest put joined lengthsOf any least sumTo upTo ahead next bodyAt segmentAt segments wanted broken
     settledBy settled fateBy fate atGap inOrder pspFate hear carriedOut refused receivedBy received
 over-udp = (refl, refl, refl)
 

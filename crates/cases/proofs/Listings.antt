@@ -5,7 +5,7 @@ use mathlib.Core.Path.{_≡_, refl}
 use mathlib.Core.Bool.{true}
 use mathlib.Core.List.{List, [], _∷_, _++_}
 use lib.ListN.{length, replicate}
-use Rattle.octets.specs.Stretch.{part, rest, put, joined, lengths, cutBy}
+use Rattle.octets.specs.Stretch.{part, rest, put, joined, lengthsOf, cutBy}
 use Rattle.octets.specs.Count.{any, least, sumTo, upTo}
 use Rattle.flow.specs.declared.Flow.{Flow}
 use Rattle.flow.specs.Numbers.{ahead, next}
@@ -36,7 +36,7 @@ pub listed : listing capture
     ++ ascii "4 close 0 0 0 0 0\n"
 unfolding listing listingBy lineAt line columns decimal digits column fileRefusal bodyStart nthEntry begin runOne standing answerAt answer after
     opened closed broken received receivedBy carriedOut refused hear pspFate settledBy settled fateBy fate atGap inOrder wanted bodyAt segmentAt segments
-    ahead next part rest put joined lengths any least sumTo upTo
+    ahead next part rest put joined lengthsOf any least sumTo upTo
 listed = refl
 
 pub traced : trace capture
@@ -57,7 +57,7 @@ pub traced : trace capture
     ++ ascii "4 close 0 0 0 0 0\n"
 unfolding trace traceBy tracedAt framesText frameLine rowsText rowText rowLine flowText flowLine hex cutBy lineAt line columns decimal digits column fileRefusal bodyStart nthEntry begin runOne standing answerAt answer after
     opened closed broken received receivedBy carriedOut refused hear pspFate settledBy settled fateBy fate atGap inOrder wanted bodyAt segmentAt segments
-    ahead next part rest put joined lengths any least sumTo upTo
+    ahead next part rest put joined lengthsOf any least sumTo upTo
 traced = refl
 
 -- Two channels use the same flow number at the same time, and each has half a frame: the frame of the first comes out whole, and the close of
@@ -111,7 +111,7 @@ pub two-traced : trace two-channels
     ++ ascii " row 1 259 2\n"
 unfolding trace traceBy tracedAt framesText frameLine rowsText rowText rowLine flowText flowLine hex cutBy lineAt line columns decimal digits column fileOf fileRefusal bodyStart nthEntry begin runOne standing answerAt answer after
     opened closed broken received receivedBy carriedOut refused hear pspFate settledBy settled fateBy fate atGap inOrder wanted bodyAt segmentAt segments
-    ahead next part rest put joined lengths any least sumTo upTo
+    ahead next part rest put joined lengthsOf any least sumTo upTo
 two-traced = refl
 
 -- A file with one byte left over prints one line, traced or not.
@@ -164,7 +164,7 @@ pub gap-traced : trace gapped
     ++ ascii " row 1 257 1\n"
 unfolding trace traceBy tracedAt framesText frameLine rowsText rowText rowLine flowText flowLine hex cutBy lineAt line columns decimal digits column fileOf fileRefusal bodyStart nthEntry begin runOne standing answerAt answer after
     opened closed broken received receivedBy carriedOut refused hear pspFate settledBy settled fateBy fate atGap inOrder wanted bodyAt segmentAt segments
-    ahead next part rest put joined lengths any least sumTo upTo
+    ahead next part rest put joined lengthsOf any least sumTo upTo
 gap-traced = refl
 
 -- A core that speaks UDP (W1, kind 5): A over UDP; a control message of its own, with T set; B over IP; what is over IP given as if it were
@@ -203,7 +203,7 @@ pub either-traced : trace by-either
 unfolding trace traceBy tracedAt framesText frameLine rowsText rowText rowLine flowText flowLine hex cutBy lineAt line columns decimal
     digits column fileOf fileRefusal bodyStart nthEntry begin runOne standing answerAt answer after opened closed broken received receivedBy
     carriedOut refused hear pspFate settledBy settled fateBy fate atGap inOrder wanted bodyAt segmentAt segments ahead next part rest put
-    joined lengths any least sumTo upTo
+    joined lengthsOf any least sumTo upTo
 either-traced = refl
 
 -- six rows, and four flows in the last

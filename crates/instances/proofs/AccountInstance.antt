@@ -5,7 +5,7 @@ use mathlib.Core.Path.{_≡_, refl}
 use mathlib.Core.Bool.{false}
 use mathlib.Core.List.{List, [], _∷_, _++_}
 use lib.ListN.{length, replicate}
-use Rattle.octets.specs.Stretch.{part, rest, put, joined, lengths, cutBy}
+use Rattle.octets.specs.Stretch.{part, rest, put, joined, lengthsOf, cutBy}
 use Rattle.octets.specs.Count.{any, least, sumTo, upTo}
 use Rattle.flow.specs.Numbers.{ahead, next}
 use Rattle.packet.specs.Header.{inUdp}
@@ -49,7 +49,7 @@ byte-account-instance : (countedBy bytesTaken empty slices-change ≡ 18)
     × (countedBy bytesDelivered empty slices-change ≡ 15)
     × (countedBy bytesDropped empty slices-change ≡ 0)
     × (heldInAll (tableAfterAll empty slices-change) ≡ 3)
-unfolding part rest put joined lengths cutBy any least sumTo upTo ahead next bodyAt segmentAt segments wanted broken opened settledBy settled fateBy fate atGap inOrder pspFate hear carriedOut refused receivedBy received answer after countedBy tableAfterAll
+unfolding part rest put joined lengthsOf cutBy any least sumTo upTo ahead next bodyAt segmentAt segments wanted broken opened settledBy settled fateBy fate atGap inOrder pspFate hear carriedOut refused receivedBy received answer after countedBy tableAfterAll
 byte-account-instance = (refl, refl, refl, refl)
 
 -- the slice that is a byte short was refused by 1
@@ -60,7 +60,7 @@ abbrev before-it : List Lent
 before-it = with-slice [] (opens (asking kind.Psp 0x101)) ∷ with-slice (replicate 49152 0) (hand-udp A) ∷ []
 
 refused-by-1 : (answer (cardFor (tableAfterAll empty before-it) short-slice) (hand B)) .code ≡ 1
-unfolding part rest put joined lengths cutBy any least sumTo upTo ahead next bodyAt segmentAt segments wanted broken opened settledBy settled fateBy fate atGap inOrder pspFate hear carriedOut refused receivedBy received answer after tableAfterAll
+unfolding part rest put joined lengthsOf cutBy any least sumTo upTo ahead next bodyAt segmentAt segments wanted broken opened settledBy settled fateBy fate atGap inOrder pspFate hear carriedOut refused receivedBy received answer after tableAfterAll
 refused-by-1 = refl
 
 -- then a D-MPT session with a packet over UDP, of two MPEG packets, one of which carries nothing, and the close of the other session, which
@@ -81,13 +81,13 @@ closes-counted : (countedBy bytesTaken empty and-closes ≡ 394)
     × (countedBy bytesDelivered empty and-closes ≡ 203)
     × (countedBy bytesDropped empty and-closes ≡ 191)
     × (heldInAll (tableAfterAll empty and-closes) ≡ 0)
-unfolding part rest put joined lengths cutBy any least sumTo upTo ahead next bodyAt segmentAt segments wanted mpegAt mpegs broken opened
+unfolding part rest put joined lengthsOf cutBy any least sumTo upTo ahead next bodyAt segmentAt segments wanted mpegAt mpegs broken opened
     closed settledBy settled fateBy fate atGap inOrder pspFate passAll dmptFate hear carriedOut refused receivedBy received answer after
     countedBy tableAfterAll
 closes-counted = (refl, refl, refl, refl)
 
 never-broken-instance : (broken (tableAfterAll empty slices-change) ≡ false) × (length (tableAfterAll empty slices-change .rows) ≡ 6)
-unfolding part rest put joined lengths cutBy any least sumTo upTo ahead next bodyAt segmentAt segments wanted broken opened settledBy settled fateBy fate atGap inOrder pspFate hear carriedOut refused receivedBy received answer after tableAfterAll
+unfolding part rest put joined lengthsOf cutBy any least sumTo upTo ahead next bodyAt segmentAt segments wanted broken opened settledBy settled fateBy fate atGap inOrder pspFate hear carriedOut refused receivedBy received answer after tableAfterAll
 never-broken-instance = (refl, refl)
 
 -- one slice through all calls, and the close: which bytes come in, are delivered, are dropped, and that none is held at the end
@@ -100,14 +100,14 @@ each-byte-instance : (gathered takenBy (emptyCard (replicate 49152 0)) calls
     ≡ 0x11 ∷ 0x12 ∷ 0x13 ∷ 0x14 ∷ 0x15 ∷ 0x16 ∷ 0x21 ∷ 0x22 ∷ 0x23 ∷ 0x24 ∷ 0x25 ∷ 0x26 ∷ 0x27 ∷ 0x28 ∷ 0x29 ∷ [])
     × (gathered droppedBy (emptyCard (replicate 49152 0)) calls ≡ 0x71 ∷ 0x72 ∷ 0x73 ∷ [])
     × (bytesHeld (afterAll (emptyCard (replicate 49152 0)) calls) ≡ [])
-unfolding part rest put joined lengths cutBy any least sumTo upTo ahead next bodyAt segmentAt segments wanted broken opened closed settledBy settled fateBy fate atGap inOrder pspFate hear carriedOut refused receivedBy received answer after afterAll gathered
+unfolding part rest put joined lengthsOf cutBy any least sumTo upTo ahead next bodyAt segmentAt segments wanted broken opened closed settledBy settled fateBy fate atGap inOrder pspFate hear carriedOut refused receivedBy received answer after afterAll gathered
 each-byte-instance = (refl, refl, refl, refl)
 
 closed-unbroken : broken (afterAll (emptyCard (replicate 49152 0)) calls .table) ≡ false
-unfolding part rest put joined lengths cutBy any least sumTo upTo ahead next bodyAt segmentAt segments wanted broken opened closed settledBy settled fateBy fate atGap inOrder pspFate hear carriedOut refused receivedBy received answer after afterAll
+unfolding part rest put joined lengthsOf cutBy any least sumTo upTo ahead next bodyAt segmentAt segments wanted broken opened closed settledBy settled fateBy fate atGap inOrder pspFate hear carriedOut refused receivedBy received answer after afterAll
 closed-unbroken = refl
 
 -- a close is not given the holding slice: what was held stands there still, in the place of row 0, flow 1, which begins at 2,048
 close-leaves-places : part (afterAll (emptyCard (replicate 49152 0)) calls .holding) 2048 4 ≡ 0x71 ∷ 0x72 ∷ 0x73 ∷ 0 ∷ []
-unfolding part rest put joined lengths cutBy any least sumTo upTo ahead next bodyAt segmentAt segments wanted broken opened closed settledBy settled fateBy fate atGap inOrder pspFate hear carriedOut refused receivedBy received answer after afterAll
+unfolding part rest put joined lengthsOf cutBy any least sumTo upTo ahead next bodyAt segmentAt segments wanted broken opened closed settledBy settled fateBy fate atGap inOrder pspFate hear carriedOut refused receivedBy received answer after afterAll
 close-leaves-places = refl

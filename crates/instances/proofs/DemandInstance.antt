@@ -7,7 +7,7 @@ use mathlib.Core.Bool.{Bool, true, false, true≢false}
 use mathlib.Core.List.{List, [], _∷_, map}
 use native.Mathlib.Omega.{arith}
 use lib.ListN.{length, getD, drop, replicate, length-replicate}
-use Rattle.octets.specs.Stretch.{part, rest, put, joined, lengths, cutBy}
+use Rattle.octets.specs.Stretch.{part, rest, put, joined, lengthsOf, cutBy}
 use Rattle.octets.specs.Count.{any, least, sumTo, upTo}
 use Rattle.octets.specs.Each.{Each}
 use Rattle.flow.specs.Numbers.{ahead, next, numberAt}
@@ -128,7 +128,7 @@ abbrev pub before : List Call
 before = opens (asking kind.Psp 0x102) ∷ hand (inUdp others-half) ∷ []
 
 pub opens-101 : (answer (afterAll (emptyCard (replicate 49152 0)) before) (opens (asking kind.Psp 0x101))) .code ≡ 0
-unfolding part rest put joined lengths any least sumTo upTo ahead next bodyAt segmentAt segments wanted broken opened settledBy settled fateBy fate atGap inOrder pspFate hear carriedOut refused receivedBy received answer after afterAll
+unfolding part rest put joined lengthsOf any least sumTo upTo ahead next bodyAt segmentAt segments wanted broken opened settledBy settled fateBy fate atGap inOrder pspFate hear carriedOut refused receivedBy received answer after afterAll
 opens-101 = refl
 
 pub overtaken-long : LongEnough kind.Psp 0x101 1 (replicate 49152 0) overtaken-calls
@@ -167,7 +167,7 @@ overtaken =
 
 -- The first, second and fourth frame come out, as they were; the third does not, for its second packet came after a later one.
 pub demand-3-instance : comesOut sending overtaken ≡ (0x11 ∷ 0x12 ∷ 0x13 ∷ []) ∷ (0x21 ∷ []) ∷ (0x41 ∷ 0x42 ∷ []) ∷ []
-unfolding part rest put joined lengths cutBy any least sumTo upTo ahead next bodyAt segmentAt segments wanted broken opened closed settledBy settled fateBy fate atGap inOrder pspFate hear carriedOut refused receivedBy received answer after afterAll framesOut
+unfolding part rest put joined lengthsOf cutBy any least sumTo upTo ahead next bodyAt segmentAt segments wanted broken opened closed settledBy settled fateBy fate atGap inOrder pspFate hear carriedOut refused receivedBy received answer after afterAll framesOut
 demand-3-instance = refl
 
 pub their-packets : (carriers frames packets 0 ≡ 0 ∷ 1 ∷ []) × (carriers frames packets 1 ≡ 1 ∷ []) × (carriers frames packets 2 ≡ 1 ∷ 2 ∷ []) × (carriers frames packets 3 ≡ 3 ∷ [])
@@ -189,7 +189,7 @@ overtaken-verdicts =
     ∷ []
 
 pub gaps-instance : verdictsOut kind.Psp 0x101 1 (openedCard sending overtaken) overtaken-calls ≡ overtaken-verdicts
-unfolding part rest put joined lengths cutBy any least sumTo upTo ahead next bodyAt segmentAt segments wanted broken opened closed settledBy settled fateBy fate atGap inOrder pspFate hear carriedOut refused receivedBy received answer after afterAll verdictsOut
+unfolding part rest put joined lengthsOf cutBy any least sumTo upTo ahead next bodyAt segmentAt segments wanted broken opened closed settledBy settled fateBy fate atGap inOrder pspFate hear carriedOut refused receivedBy received answer after afterAll verdictsOut
 gaps-instance = refl
 
 pub gaps-expected : verdictsOf (overtaken .arrivals) ≡ overtaken-verdicts
@@ -260,5 +260,5 @@ better =
 
 pub fewer-lost-instance : (comesOut sending worse ≡ (0x11 ∷ 0x12 ∷ 0x13 ∷ []) ∷ (0x21 ∷ []) ∷ (0x41 ∷ 0x42 ∷ []) ∷ [])
     × (comesOut sending better ≡ (0x11 ∷ 0x12 ∷ 0x13 ∷ []) ∷ (0x21 ∷ []) ∷ (0x31 ∷ 0x32 ∷ 0x33 ∷ []) ∷ (0x41 ∷ 0x42 ∷ []) ∷ [])
-unfolding part rest put joined lengths cutBy any least sumTo upTo ahead next bodyAt segmentAt segments wanted broken opened closed settledBy settled fateBy fate atGap inOrder pspFate hear carriedOut refused receivedBy received answer after afterAll framesOut
+unfolding part rest put joined lengthsOf cutBy any least sumTo upTo ahead next bodyAt segmentAt segments wanted broken opened closed settledBy settled fateBy fate atGap inOrder pspFate hear carriedOut refused receivedBy received answer after afterAll framesOut
 fewer-lost-instance = (refl, refl)

@@ -4,7 +4,7 @@ use mathlib.Core.Path.{_≡_, refl}
 use mathlib.Core.Bool.{true}
 use mathlib.Core.List.{List, [], _∷_, _++_}
 use lib.ListN.{replicate}
-use Rattle.octets.specs.Stretch.{part, rest, put, joined, lengths, cutBy}
+use Rattle.octets.specs.Stretch.{part, rest, put, joined, lengthsOf, cutBy}
 use Rattle.octets.specs.Count.{any, least, sumTo, upTo}
 use Rattle.flow.specs.Numbers.{ahead, next}
 use Rattle.flow.specs.Flow.{fresh}
@@ -61,7 +61,7 @@ dmpt-told =
 
 -- The packet is for a D-MPT session ..
 pub dmpt-goes : (dmpt-card ≡ dmpt-told) × (isDmpt (termsAt (dmpt-card .table) (rowOf (dmpt-card .table) (ip dmpt-packet)) .kind) ≡ true)
-unfolding part rest put joined lengths any least sumTo upTo ahead next bodyAt segmentAt segments wanted broken opened settledBy settled fateBy fate atGap inOrder pspFate hear carriedOut refused receivedBy received after afterAll
+unfolding part rest put joined lengthsOf any least sumTo upTo ahead next bodyAt segmentAt segments wanted broken opened settledBy settled fateBy fate atGap inOrder pspFate hear carriedOut refused receivedBy received after afterAll
 dmpt-goes = (refl, refl)
 
 -- .. and accepted: the first MPEG packet is found, the second is dropped, and the card is as it was; over UDP too.
@@ -75,7 +75,7 @@ pub dmpt-instance : ((answer dmpt-card (hand dmpt-packet)) .code ≡ 0)
     × (after dmpt-card (hand dmpt-packet) ≡ dmpt-told)
     × (framesOf (answer dmpt-card (hand-udp dmpt-packet)) ≡ mpeg-some ∷ [])
     × (after dmpt-card (hand-udp dmpt-packet) ≡ dmpt-told)
-unfolding part rest put joined lengths cutBy any least sumTo upTo ahead next bodyAt segmentAt segments wanted mpegAt mpegs broken opened
+unfolding part rest put joined lengthsOf cutBy any least sumTo upTo ahead next bodyAt segmentAt segments wanted mpegAt mpegs broken opened
     settledBy settled fateBy fate atGap inOrder pspFate passAll dmptFate hear carriedOut refused receivedBy received answer after afterAll
 dmpt-instance = (refl, refl, refl, refl, refl, refl, refl)
 

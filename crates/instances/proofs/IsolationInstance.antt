@@ -6,7 +6,7 @@ use mathlib.Core.Path.{_≡_, refl}
 use mathlib.Core.Bool.{true, false}
 use mathlib.Core.List.{List, [], _∷_}
 use lib.ListN.{replicate}
-use Rattle.octets.specs.Stretch.{part, rest, put, joined, lengths}
+use Rattle.octets.specs.Stretch.{part, rest, put, joined, lengthsOf}
 use Rattle.octets.specs.Count.{any, least, sumTo, upTo}
 use Rattle.flow.specs.Numbers.{ahead, next}
 use Rattle.packet.specs.Segments.{bodyAt, segmentAt, segments}
@@ -66,7 +66,7 @@ same-own = refl
 
 opens-both : (answer (cardAfter (replicate 49152 0) one-before) (opens (asking kind.Psp 0x101)) .code ≡ 0)
     × (answer (cardAfter (replicate 49152 5) others-first) (opens (asking kind.Psp 0x101)) .code ≡ 0)
-unfolding part rest put joined lengths any least sumTo upTo ahead next bodyAt segmentAt segments wanted broken opened closed settledBy settled fateBy fate atGap inOrder pspFate hear carriedOut refused receivedBy received answer after afterAll
+unfolding part rest put joined lengthsOf any least sumTo upTo ahead next bodyAt segmentAt segments wanted broken opened closed settledBy settled fateBy fate atGap inOrder pspFate hear carriedOut refused receivedBy received answer after afterAll
 opens-both = (refl, refl)
 
 abbrev answered : List Told
@@ -79,7 +79,7 @@ answered =
 
 isolation-instance : (told 0x101 (after (cardAfter (replicate 49152 0) one-before) (opens (asking kind.Psp 0x101))) alone-calls ≡ answered)
     × (told 0x101 (after (cardAfter (replicate 49152 5) others-first) (opens (asking kind.Psp 0x101))) among-others ≡ answered)
-unfolding part rest put joined lengths any least sumTo upTo ahead next bodyAt segmentAt segments wanted broken opened closed settledBy settled fateBy fate atGap inOrder pspFate hear carriedOut refused receivedBy received answer after afterAll told
+unfolding part rest put joined lengthsOf any least sumTo upTo ahead next bodyAt segmentAt segments wanted broken opened closed settledBy settled fateBy fate atGap inOrder pspFate hear carriedOut refused receivedBy received answer after afterAll told
 isolation-instance = (refl, refl)
 
 -- Session 2 is open in row 1 of the one table and in row 0 of the other, and no other session in either: opening 3 succeeds, opening 2 again and opening 0 does not.

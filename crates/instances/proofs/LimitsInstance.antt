@@ -5,7 +5,7 @@ use Prim.Native.Nat.{ℕ, zero, suc}
 use mathlib.Core.Path.{_≡_, refl}
 use mathlib.Core.List.{List, [], _∷_, _++_}
 use lib.ListN.{replicate}
-use Rattle.octets.specs.Stretch.{part, rest, put, joined, lengths, cutBy}
+use Rattle.octets.specs.Stretch.{part, rest, put, joined, lengthsOf, cutBy}
 use Rattle.octets.specs.Count.{any, least, sumTo, upTo}
 use Rattle.flow.specs.Numbers.{ahead, next}
 use Rattle.packet.specs.Segments.{bodyAt, segmentAt, segments}
@@ -41,7 +41,7 @@ within-limits-instance : ((answer opened-card (hand as-many)) .frames ≡ 127)
     × ((answer (handed-card opened-card (beginning 2047 ∷ [])) (hand as-long)) .frames ≡ 3)
     × ((answer (handed-card opened-card (beginning 2047 ∷ [])) (hand as-long)) .bytes ≡ 6133)
     × ((answer (handed-card opened-card (beginning 2047 ∷ [])) (lent (inUdp as-long))) .bytes ≡ 6133)
-unfolding part rest put joined lengths cutBy any least sumTo upTo ahead next bodyAt segmentAt segments wanted broken opened settledBy settled fateBy fate atGap inOrder pspFate hear carriedOut refused receivedBy received answer after handed-card
+unfolding part rest put joined lengthsOf cutBy any least sumTo upTo ahead next bodyAt segmentAt segments wanted broken opened settledBy settled fateBy fate atGap inOrder pspFate hear carriedOut refused receivedBy received answer after handed-card
 within-limits-instance = (refl, refl, refl, refl, refl)
 
 -- a packet that comes again; one over UDP with T set, and one by a transport that there is not; an open of an open session, a close of a
@@ -58,5 +58,5 @@ refusals-instance : ((answer (handed-card opened-card (A ∷ B ∷ [])) (lent (i
     × ((answer opened-card (closes 0x102)) .code ≡ 25)
     × ((after opened-card (opens (asking kind.Psp 0x101))) .table ≡ opened-card .table)
     × ((after opened-card (closes 0x102)) .table ≡ opened-card .table)
-unfolding part rest put joined lengths cutBy any least sumTo upTo ahead next bodyAt segmentAt segments wanted broken opened closed settledBy settled fateBy fate atGap inOrder pspFate hear carriedOut refused receivedBy received answer after handed-card
+unfolding part rest put joined lengthsOf cutBy any least sumTo upTo ahead next bodyAt segmentAt segments wanted broken opened closed settledBy settled fateBy fate atGap inOrder pspFate hear carriedOut refused receivedBy received answer after handed-card
 refusals-instance = (refl, refl, refl, refl, refl, refl, refl, refl, refl, refl, refl, refl)

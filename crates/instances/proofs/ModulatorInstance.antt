@@ -8,7 +8,7 @@ use mathlib.Core.List.{List, [], _∷_, _++_, map}
 use native.Mathlib.Omega.{arith}
 use lib.ListN.{length, getD, replicate, length-replicate}
 use Rattle.octets.specs.Bytes.{AllBytes}
-use Rattle.octets.specs.Stretch.{part, rest, put, joined, lengths, cutBy}
+use Rattle.octets.specs.Stretch.{part, rest, put, joined, lengthsOf, cutBy}
 use Rattle.octets.specs.Each.{Each}
 use Rattle.octets.specs.Count.{any, least, sumTo, upTo}
 use Rattle.flow.specs.Numbers.{ahead, next, numberAt}
@@ -115,7 +115,7 @@ run =
     }
 
 pub comes-out : six ∷ seven ∷ [] ≡ comesOut sending run
-unfolding part rest put joined lengths cutBy any least sumTo upTo ahead next bodyAt segmentAt segments wanted broken opened closed settledBy settled fateBy fate atGap inOrder pspFate hear carriedOut refused receivedBy received answer after afterAll framesOut
+unfolding part rest put joined lengthsOf cutBy any least sumTo upTo ahead next bodyAt segmentAt segments wanted broken opened closed settledBy settled fateBy fate atGap inOrder pspFate hear carriedOut refused receivedBy received answer after afterAll framesOut
 comes-out = refl
 
 -- What comes out of the first call is added before the first packet, what comes out of the second before the third; the second and those behind the third are null packets.
@@ -149,7 +149,7 @@ may-travel =
 
 -- The modem gets the first and the third frame.
 pub core-to-modulator-instance : ((reading (leaves sending run modulation)) .sound ≡ true) × ((reading (leaves sending run modulation)) .frames ≡ six ∷ seven ∷ [])
-unfolding part rest joined lengths upTo nullPacket same allFill good mayBegin leftAt packetOf carried countAfter none found withoutFlag withFlag readPacket readFrom packetsIn reading packetNext afterNext runPackets
+unfolding part rest joined lengthsOf upTo nullPacket same allFill good mayBegin leftAt packetOf carried countAfter none found withoutFlag withFlag readPacket readFrom packetsIn reading packetNext afterNext runPackets
 core-to-modulator-instance = (refl, refl)
 
 -- Bytes that no run gives: a packet of 0xFF alone under the PID of frames; 0xFF between two frames; a null packet while a frame has begun; a count that is not

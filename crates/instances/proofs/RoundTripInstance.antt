@@ -6,7 +6,7 @@ use mathlib.Core.Bool.{true, false}
 use mathlib.Core.List.{List, [], _∷_}
 use native.Mathlib.Omega.{arith}
 use lib.ListN.{length, replicate, length-replicate}
-use Rattle.octets.specs.Stretch.{part, rest, put, joined, lengths, cutBy}
+use Rattle.octets.specs.Stretch.{part, rest, put, joined, lengthsOf, cutBy}
 use Rattle.octets.specs.Count.{any, least, sumTo, upTo}
 use Rattle.octets.specs.Each.{Each}
 use Rattle.flow.specs.Numbers.{ahead, next}
@@ -66,8 +66,8 @@ pub round-trip-long : LongEnough kind.Psp 0x101 1 (replicate 49152 0) (hand-udp 
 unfolding rest
 round-trip-long =
     let out : 6144 ≤ length {A = ℕ} (replicate 6144 0) = omega (arith, length-replicate {A = ℕ} 6144 0) in
-    let lens : 127 ≤ length {A = ℕ} (replicate 127 0) = omega (arith, length-replicate {A = ℕ} 127 0) in
-    (omega (arith, length-replicate {A = ℕ} 49152 0), ((λ e. (out, lens)), ((λ e. (out, lens)), tt)))
+    let lengths : 127 ≤ length {A = ℕ} (replicate 127 0) = omega (arith, length-replicate {A = ℕ} 127 0) in
+    (omega (arith, length-replicate {A = ℕ} 49152 0), ((λ e. (out, lengths)), ((λ e. (out, lengths)), tt)))
 
 pub round-trip-arrive : packetsTo kind.Psp 0x101 1 (hand-udp A ∷ hand B ∷ []) ≡ packetsGiven given-m12
 unfolding rest packetsTo goOut
@@ -88,5 +88,5 @@ in-order-m12 =
 -- What comes out is what was given.
 pub round-trip-instance : (framesOut kind.Psp 0x101 1 (after (afterAll (emptyCard (in-order-m12 .holding)) (in-order-m12 .before)) (opens (asking kind.Psp 0x101))) (in-order-m12 .calls) ≡ of6 ∷ of9 ∷ [])
     × (framesGiven given-m12 ≡ of6 ∷ of9 ∷ [])
-unfolding part rest put joined lengths cutBy any least sumTo upTo ahead next bodyAt segmentAt segments wanted broken opened settledBy settled fateBy fate atGap inOrder pspFate hear carriedOut refused receivedBy received answer after afterAll framesOut
+unfolding part rest put joined lengthsOf cutBy any least sumTo upTo ahead next bodyAt segmentAt segments wanted broken opened settledBy settled fateBy fate atGap inOrder pspFate hear carriedOut refused receivedBy received answer after afterAll framesOut
 round-trip-instance = (refl, refl)

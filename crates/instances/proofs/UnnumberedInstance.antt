@@ -6,7 +6,7 @@ use mathlib.Core.Path.{_≡_, refl}
 use mathlib.Core.Bool.{false}
 use mathlib.Core.List.{List, [], _∷_, map}
 use lib.ListN.{set, replicate}
-use Rattle.octets.specs.Stretch.{part, rest, put, joined, lengths, cutBy}
+use Rattle.octets.specs.Stretch.{part, rest, put, joined, lengthsOf, cutBy}
 use Rattle.octets.specs.Count.{any, least, sumTo, upTo}
 use Rattle.flow.specs.Numbers.{ahead, next}
 use Rattle.packet.specs.Header.{ip, inUdp, sub, sSet}
@@ -53,7 +53,7 @@ pub nothing-joined : (told (card (hand A ∷ [])) (hand (clear B)) ≡ 0 ∷ 0 �
     × (told (card (hand A ∷ [])) (hand (saying 0x80 0x00 (clear B))) ≡ 0 ∷ 0 ∷ 0 ∷ 9 ∷ 0 ∷ [])
     × (told (card (hand A ∷ hand (clear B) ∷ [])) (hand B) ≡ 0 ∷ 0 ∷ 0 ∷ 7 ∷ 0 ∷ [])
     × (told (card (hand A ∷ hand (clear B) ∷ [])) (hand (clear B)) ≡ 0 ∷ 0 ∷ 0 ∷ 7 ∷ 0 ∷ [])
-unfolding part rest put joined lengths any least sumTo upTo ahead next bodyAt segmentAt segments wanted broken opened settledBy settled
+unfolding part rest put joined lengthsOf any least sumTo upTo ahead next bodyAt segmentAt segments wanted broken opened settledBy settled
     fateBy fate atGap inOrder pspFate passAll unnumberedFate hear carriedOut refused receivedBy received answer after afterAll
 nothing-joined = (refl, refl, refl, refl, refl)
 
@@ -61,7 +61,7 @@ nothing-joined = (refl, refl, refl, refl, refl)
 -- frame of 9 arrived, before any packet sent after them, and it does not come out.
 pub premise-needed : (told (card (hand A ∷ [])) (hand (clear (whole3 0))) ≡ 0 ∷ 1 ∷ 3 ∷ 2 ∷ 0 ∷ [])
     × (told (card (hand A ∷ hand (clear (whole3 0)) ∷ [])) (hand B) ≡ 0 ∷ 0 ∷ 0 ∷ 7 ∷ 0 ∷ [])
-unfolding part rest put joined lengths any least sumTo upTo ahead next bodyAt segmentAt segments wanted broken opened settledBy settled
+unfolding part rest put joined lengthsOf any least sumTo upTo ahead next bodyAt segmentAt segments wanted broken opened settledBy settled
     fateBy fate atGap inOrder pspFate passAll unnumberedFate hear carriedOut refused receivedBy received answer after afterAll
 premise-needed = (refl, refl)
 
@@ -71,14 +71,14 @@ pub stays-fresh : (framesOf (answer (card []) (hand (clear A))) ≡ (0x11 ∷ 0x
     × (told (card []) (hand (clear A)) ≡ 0 ∷ 1 ∷ 6 ∷ 2 ∷ 0 ∷ [])
     × (card (hand (clear A) ∷ hand-udp (clear A) ∷ []) ≡ card [])
     × (told (card (hand (clear A) ∷ [])) (hand (saying 0x90 0x00 B)) ≡ 0 ∷ 0 ∷ 0 ∷ 7 ∷ 0 ∷ [])
-unfolding part rest put joined lengths cutBy any least sumTo upTo ahead next bodyAt segmentAt segments wanted broken opened settledBy
+unfolding part rest put joined lengthsOf cutBy any least sumTo upTo ahead next bodyAt segmentAt segments wanted broken opened settledBy
     settled fateBy fate atGap inOrder pspFate passAll unnumberedFate hear carriedOut refused receivedBy received answer after afterAll
 stays-fresh = (refl, refl, refl, refl)
 
 -- One on flow 2 leaves what flow 1 holds: B gives its frame of 9.
 pub another-flow : (told (card (hand A ∷ [])) (hand (set A 4 0x02)) ≡ 0 ∷ 1 ∷ 6 ∷ 2 ∷ 0 ∷ [])
     × (told (card (hand A ∷ hand (set A 4 0x02) ∷ [])) (hand B) ≡ 0 ∷ 1 ∷ 9 ∷ 0 ∷ 0 ∷ [])
-unfolding part rest put joined lengths any least sumTo upTo ahead next bodyAt segmentAt segments wanted broken opened settledBy settled
+unfolding part rest put joined lengthsOf any least sumTo upTo ahead next bodyAt segmentAt segments wanted broken opened settledBy settled
     fateBy fate atGap inOrder pspFate passAll unnumberedFate hear carriedOut refused receivedBy received answer after afterAll
 another-flow = (refl, refl)
 
@@ -99,7 +99,7 @@ pub whole-ones : (told (card []) (hand (one 0xC8 0x00 2048)) ≡ 0 ∷ 1 ∷ 204
     × (sSet (sub (ip four)) ≡ false)
     × (wholeOnes (segments entryWidth (sub (ip four))) ≡ (0x41 ∷ 0x42 ∷ []) ∷ (0x51 ∷ []) ∷ [])
     × (others (segments entryWidth (sub (ip four))) ≡ (0x31 ∷ []) ∷ (0x61 ∷ 0x62 ∷ 0x63 ∷ []) ∷ [])
-unfolding part rest put joined lengths cutBy any least sumTo upTo ahead next bodyAt segmentAt segments wanted broken opened settledBy
+unfolding part rest put joined lengthsOf cutBy any least sumTo upTo ahead next bodyAt segmentAt segments wanted broken opened settledBy
     settled fateBy fate atGap inOrder pspFate passAll unnumberedFate hear carriedOut refused receivedBy received answer after afterAll
     chosen
 whole-ones = (refl, refl, refl, refl, refl, refl, refl, refl)
@@ -121,7 +121,7 @@ pub account-without : (countedBy bytesTaken empty lent ≡ 15)
     × (countedBy bytesDropped empty lent ≡ 6)
     × (heldInAll (tableAfterAll empty lent) ≡ 0)
     × (gathered droppedBy (emptyCard (replicate 49152 0)) calls ≡ 0x21 ∷ 0x22 ∷ 0x31 ∷ 0x61 ∷ 0x62 ∷ 0x63 ∷ [])
-unfolding part rest put joined lengths cutBy any least sumTo upTo ahead next bodyAt segmentAt segments wanted broken opened settledBy
+unfolding part rest put joined lengthsOf cutBy any least sumTo upTo ahead next bodyAt segmentAt segments wanted broken opened settledBy
     settled fateBy fate atGap inOrder pspFate passAll unnumberedFate hear carriedOut refused receivedBy received answer after countedBy
     tableAfterAll gathered
 account-without = (refl, refl, refl, refl, refl)

@@ -9,9 +9,9 @@ use native.Mathlib.Omega.{arith}
 use lib.Dec.{eqb}
 use lib.ListN.{length, length-append}
 use borrow.Author.Tests.{lt-ltb, le-ltb, eq-eqb, ne-eqb, eqb-true}
-use Rattle.octets.specs.Stretch.{part, put, joined, lengths}
+use Rattle.octets.specs.Stretch.{part, put, joined, lengthsOf}
 use Rattle.octets.specs.Count.{upTo}
-use Rattle.octets.proofs.Stretches.{length-part, length-put, length-lengths, put-nil, put-put, put-same, part-put, part-none, joined-append, lengths-append}
+use Rattle.octets.proofs.Stretches.{length-part, length-put, length-lengthsOf, put-nil, put-put, put-same, part-put, part-none, joined-append, lengthsOf-append}
 use Rattle.packet.specs.Segments.{beginsIn, endsIn, lengthIn, Segment}
 use Rattle.join.specs.declared.Tally.{Tally}
 use Rattle.join.specs.Join.{Fate, delivering, dropping, keeping, andThen, settledBy, settled, fateBy, fate, atGap, inOrder}
@@ -23,7 +23,7 @@ use Rattle.join.proofs.Account.{Accounts, in-order-next}
 module _ (place : ℕ) (a : Tally) (s : Slices) (bytes : List ℕ) (r : Tally) where
   pub placed-dropping : r .held ≡ 0 → r .frames ≡ a .frames → r .bytes ≡ a .bytes → r .dropped ≡ a .dropped + length bytes →
       Placed (dropping bytes) place a s r s
-  unfolding joined lengths
+  unfolding joined lengthsOf
   placed-dropping h f b d =
       record {
         held-now = h;
@@ -39,8 +39,8 @@ module _ (place : ℕ) (a : Tally) (s : Slices) (bytes : List ℕ) (r : Tally) w
       s′ .lengths ≡ put (s .lengths) (a .frames) (length bytes ∷ []) →
       r .held ≡ 0 → r .frames ≡ a .frames + 1 → r .bytes ≡ a .bytes + length bytes → r .dropped ≡ a .dropped →
       Placed (delivering bytes) place a s r s′
-  unfolding joined lengths
-  placed-delivering s′ same out lens h f b d =
+  unfolding joined lengthsOf
+  placed-delivering s′ same out lengths h f b d =
       record {
         held-now = h;
         frames-more = f;
@@ -48,14 +48,14 @@ module _ (place : ℕ) (a : Tally) (s : Slices) (bytes : List ℕ) (r : Tally) w
         dropped-more = omega arith;
         holding-now = same ∙ sym (put-nil (s .holding) place);
         output-now = rw (append-nil bytes) out;
-        lengths-now = lens;
+        lengths-now = lengths;
       }
 
   pub placed-keeping : (s′ : Slices) → s′ .holding ≡ put (s .holding) place bytes → s′ .output ≡ s .output → s′ .lengths ≡ s .lengths →
       r .held ≡ length bytes → r .frames ≡ a .frames → r .bytes ≡ a .bytes → r .dropped ≡ a .dropped →
       Placed (keeping bytes) place a s r s′
-  unfolding joined lengths
-  placed-keeping s′ hold out lens h f b d =
+  unfolding joined lengthsOf
+  placed-keeping s′ hold out lengths h f b d =
       record {
         held-now = h;
         frames-more = omega arith;
@@ -63,7 +63,7 @@ module _ (place : ℕ) (a : Tally) (s : Slices) (bytes : List ℕ) (r : Tally) w
         dropped-more = omega arith;
         holding-now = hold;
         output-now = out ∙ sym (put-nil (s .output) (a .bytes));
-        lengths-now = lens ∙ sym (put-nil (s .lengths) (a .frames));
+        lengths-now = lengths ∙ sym (put-nil (s .lengths) (a .frames));
       }
 
 -- Joined bytes, by the two tests.
@@ -120,10 +120,10 @@ placed-then {f} {g} {place} {a} {b} {c} {s} {s′} {s″} room places p same q =
           (grown (s .output) (a .bytes) (joined (f .delivered)) (joined (g .delivered)) (s′ .output) (s″ .output) (b .bytes)
           (omega (arith, p .bytes-more)) (p .output-now) (p .bytes-more) (q .output-now));
       lengths-now =
-          rw (lengths-append (f .delivered) (g .delivered))
-          (grown (s .lengths) (a .frames) (lengths (f .delivered)) (lengths (g .delivered)) (s′ .lengths) (s″ .lengths) (b .frames)
-          (omega (arith, p .frames-more, length-lengths (f .delivered))) (p .lengths-now)
-          (omega (arith, p .frames-more, length-lengths (f .delivered))) (q .lengths-now));
+          rw (lengthsOf-append (f .delivered) (g .delivered))
+          (grown (s .lengths) (a .frames) (lengthsOf (f .delivered)) (lengthsOf (g .delivered)) (s′ .lengths) (s″ .lengths) (b .frames)
+          (omega (arith, p .frames-more, length-lengthsOf (f .delivered))) (p .lengths-now)
+          (omega (arith, p .frames-more, length-lengthsOf (f .delivered))) (q .lengths-now));
     }
 
 -- Before the first segment: what the flow holds stands in its place, and a gap drops it.
@@ -234,7 +234,7 @@ module _ {f : Fate} {place : ℕ} {s s′ : Slices} {b : Tally} {bytes frames mo
   output-long h = rw (p .output-now) (length-put (s .output) 0 (joined (f .delivered)) (omega (arith, a .all)))
 
   pub lengths-long : frames ≤ length (s .lengths) → length (s′ .lengths) ≡ length (s .lengths)
-  lengths-long h = rw (p .lengths-now) (length-put (s .lengths) 0 (lengths (f .delivered)) (omega (arith, a .frames-few, length-lengths (f .delivered))))
+  lengths-long h = rw (p .lengths-now) (length-put (s .lengths) 0 (lengthsOf (f .delivered)) (omega (arith, a .frames-few, length-lengthsOf (f .delivered))))
 
   -- the held bytes are read back
   pub held-there : place + most ≤ length (s .holding) → part (s′ .holding) place (b .held) ≡ f .held

@@ -34,43 +34,43 @@ pub whole-size : (most entry size : ℕ) → most ≤ longest → (size + (bBit 
 whole-size most entry size small e short = omega arith
 
 -- one length more behind those that are written
-pub written-more : (lens lens′ : List ℕ) (at : ℕ) (f : ℕ → ℕ) (n : ℕ) → at + n < length lens → lens′ ≡ put lens at (upTo f n) →
-    put lens′ (at + n) (f n ∷ []) ≡ put lens at (upTo f (n + 1))
-written-more lens lens′ at f n room e =
+pub written-more : (lengths lengths′ : List ℕ) (at : ℕ) (f : ℕ → ℕ) (n : ℕ) → at + n < length lengths → lengths′ ≡ put lengths at (upTo f n) →
+    put lengths′ (at + n) (f n ∷ []) ≡ put lengths at (upTo f (n + 1))
+written-more lengths lengths′ at f n room e =
     let m = length-up-to f n in
     rw (e, up-to-more f n)
-    (ap (λ (i : ℕ). put (put lens at (upTo f n)) (at + i) (f n ∷ [])) (sym m)
-    ∙ put-put lens at (upTo f n) (f n ∷ []) (omega arith))
+    (ap (λ (i : ℕ). put (put lengths at (upTo f n)) (at + i) (f n ∷ [])) (sym m)
+    ∙ put-put lengths at (upTo f n) (f n ∷ []) (omega arith))
 
 -- The loop's invariant.
-pub record Running (most width : ℕ) (sub : List ℕ) (k count at : ℕ) (lens lens′ : List ℕ) (frames bytes : ℕ) : Type 0 where
+pub record Running (most width : ℕ) (sub : List ℕ) (k count at : ℕ) (lengths lengths′ : List ℕ) (frames bytes : ℕ) : Type 0 where
   pub within : k + frames ≤ count
-  pub ran : Ran most width sub k at lens lens′ frames bytes
+  pub ran : Ran most width sub k at lengths lengths′ frames bytes
   pub small : bytes ≤ longest * frames
 
-pub run-begin : (most width : ℕ) (sub : List ℕ) (k count at : ℕ) (lens : List ℕ) → k ≤ count → Running most width sub k count at lens lens 0 0
+pub run-begin : (most width : ℕ) (sub : List ℕ) (k count at : ℕ) (lengths : List ℕ) → k ≤ count → Running most width sub k count at lengths lengths 0 0
 unfolding upTo
-run-begin most width sub k count at lens l =
+run-begin most width sub k count at lengths l =
     record {
       within = omega arith;
       ran =
           record {
             each = λ i h. absurd (omega arith);
             total = sym (sum-none (λ i. lengthAt width sub (k + i)));
-            written = sym (put-nil lens at);
+            written = sym (put-nil lengths at);
           };
       small = omega arith;
     }
 
-module _ {most width : ℕ} {sub : List ℕ} {k count at : ℕ} {lens lens′ : List ℕ} {frames bytes : ℕ}
-    (r : Running most width sub k count at lens lens′ frames bytes) (small : most ≤ longest) (room : at + count ≤ length lens + k) where
-  pub run-length : length lens′ ≡ length lens
+module _ {most width : ℕ} {sub : List ℕ} {k count at : ℕ} {lengths lengths′ : List ℕ} {frames bytes : ℕ}
+    (r : Running most width sub k count at lengths lengths′ frames bytes) (small : most ≤ longest) (room : at + count ≤ length lengths + k) where
+  pub run-length : length lengths′ ≡ length lengths
   run-length =
       let f : ℕ → ℕ = λ i. lengthAt width sub (k + i) in
-      rw (r .ran .written) (length-put lens at (upTo f frames) (omega (arith, length-up-to f frames, r .within)))
+      rw (r .ran .written) (length-put lengths at (upTo f frames) (omega (arith, length-up-to f frames, r .within)))
 
   pub run-turn : {entry size : ℕ} → k + frames < count → entry ≡ entryAt width sub (k + frames) → Whole most entry → size ≡ lengthIn entry →
-      Running most width sub k count at lens (set lens′ (at + frames) size) (frames + 1) (bytes + size)
+      Running most width sub k count at lengths (set lengths′ (at + frames) size) (frames + 1) (bytes + size)
   run-turn {entry} {size} more e w z =
       let f : ℕ → ℕ = λ i. lengthAt width sub (k + i) in
       let this : Whole most (entryAt width sub (k + frames)) = rw e at w in
@@ -88,9 +88,9 @@ module _ {most width : ℕ} {sub : List ℕ} {k count at : ℕ} {lens lens′ : 
                   (eq-or-lt-of-le (let b : i ≤ frames = omega arith in b));
               total = rw (sum-more f frames, r .ran .total, size-is) refl;
               written =
-                  set-put lens′ (at + frames) size (omega (arith, run-length, r .within))
-                  ∙ ap (λ (n : ℕ). put lens′ (at + frames) (n ∷ [])) size-is
-                  ∙ written-more lens lens′ at f frames (omega (arith, r .within)) (r .ran .written);
+                  set-put lengths′ (at + frames) size (omega (arith, run-length, r .within))
+                  ∙ ap (λ (n : ℕ). put lengths′ (at + frames) (n ∷ [])) size-is
+                  ∙ written-more lengths lengths′ at f frames (omega (arith, r .within)) (r .ran .written);
             };
         small = omega (arith, r .small);
       }
@@ -102,9 +102,9 @@ pub whole-placed : (most place : ℕ) (a : Tally) (s : Slices) (sub : List ℕ) 
     r .held ≡ 0 → r .frames ≡ a .frames + 1 → r .bytes ≡ a .bytes + lengthIn entry → r .dropped ≡ a .dropped →
     Placed (fate most (part (s .holding) place (a .held)) (record { begins = beginsIn entry; ends = endsIn entry; body = part sub from (lengthIn entry) }))
     place a s r s′
-whole-placed most place a s sub from entry w none inside r s′ same out lens h f b d =
+whole-placed most place a s sub from entry w none inside r s′ same out lengths h f b d =
     let body = part sub from (lengthIn entry) in
     let n : length body ≡ lengthIn entry = length-part sub from (lengthIn entry) inside in
     let empty : part (s .holding) place (a .held) ≡ [] = rw none (part-none (s .holding) place) in
     rw (empty, fate-begins most [] (record { begins = beginsIn entry; ends = endsIn entry; body = body }) (w .begins), settled-whole most (endsIn entry) body (rw n (w .short)) (w .ends))
-    (placed-delivering place a s body r s′ same out (rw n lens) h f (rw n b) d)
+    (placed-delivering place a s body r s′ same out (rw n lengths) h f (rw n b) d)

@@ -268,10 +268,10 @@ module _ (t : Task) (ready : Ready t) where
         rw (← part-part (t .sub) from bytes size)
         (sym (ap (λ (i : ℕ). put (runOutput bytes) (tally .bytes + i) more) (sym body)
         ∙ put-put (s′ .output) (tally .bytes) (part (t .sub) from bytes) more (rw body room))) in
-        let lens = sym (written-more (s′ .lengths) (put (s′ .lengths) (tally .frames) (upTo behindAt n)) (tally .frames) behindAt n places refl) in
+        let lengths = sym (written-more (s′ .lengths) (put (s′ .lengths) (tally .frames) (upTo behindAt n)) (tally .frames) behindAt n places refl) in
         let entry = entryAt (t .width) (t .sub) (k + n) in
         let q = whole-placed (t .most) (t .place) (runTally n bytes) (runSlices n bytes) (t .sub) (from + bytes) entry whole none inside
-        (runTally (n + 1) (bytes + size)) (runSlices (n + 1) (bytes + size)) refl out lens none (omega arith) (omega arith) refl in
+        (runTally (n + 1) (bytes + size)) (runSlices (n + 1) (bytes + size)) refl out lengths none (omega arith) (omega arith) refl in
         let turned = walk-turn u there entry size (runTally (n + 1) (bytes + size)) (runSlices (n + 1) (bytes + size)) refl refl q in
         let a : from + bytes + size ≡ from + (bytes + size) = omega arith in
         let b : k + n + 1 ≡ k + (n + 1) = omega arith in
@@ -284,14 +284,14 @@ module _ (t : Task) (ready : Ready t) where
         rw (← add-one n, sum-more behindAt n)
         (run-more n (sumTo behindAt n) (run-at n (omega arith) (λ i h. each i (omega arith))) (omega arith) (each n (omega arith)))
 
-    pub walk-run : {lens′ : List ℕ} {frames bytes : ℕ} → k + frames ≤ segmentCount (t .sub) →
-        Ran (t .most) (t .width) (t .sub) k (tally .frames) (s′ .lengths) lens′ frames bytes →
-        Walking t (asSlices (s′ .holding) (runOutput bytes) lens′) (runTally frames bytes) (from + bytes) (k + frames)
-    walk-run {lens′} {frames} {bytes} l r = rw (r .written, r .total) (run-at frames l (r .each))
+    pub walk-run : {lengths′ : List ℕ} {frames bytes : ℕ} → k + frames ≤ segmentCount (t .sub) →
+        Ran (t .most) (t .width) (t .sub) k (tally .frames) (s′ .lengths) lengths′ frames bytes →
+        Walking t (asSlices (s′ .holding) (runOutput bytes) lengths′) (runTally frames bytes) (from + bytes) (k + frames)
+    walk-run {lengths′} {frames} {bytes} l r = rw (r .written, r .total) (run-at frames l (r .each))
 
     -- there is room for them
-    pub run-room : {lens′ : List ℕ} {frames bytes : ℕ} → k + frames ≤ segmentCount (t .sub) →
-        Ran (t .most) (t .width) (t .sub) k (tally .frames) (s′ .lengths) lens′ frames bytes →
+    pub run-room : {lengths′ : List ℕ} {frames bytes : ℕ} → k + frames ≤ segmentCount (t .sub) →
+        Ran (t .most) (t .width) (t .sub) k (tally .frames) (s′ .lengths) lengths′ frames bytes →
         (tally .bytes + bytes ≤ length (s′ .output)) × (from + bytes ≤ length (t .sub))
     run-room l r =
         let w′ = walk-run l r in

@@ -5,7 +5,7 @@ use mathlib.Core.Path.{_≡_}
 use mathlib.Core.Bool.{true}
 use mathlib.Core.List.{List}
 use lib.ListN.{length}
-use Rattle.octets.specs.Stretch.{put, joined, lengths}
+use Rattle.octets.specs.Stretch.{put, joined, lengthsOf}
 use Rattle.octets.specs.Count.{sumTo, upTo}
 use Rattle.flow.specs.Flow.{longest}
 use Rattle.packet.specs.Segments.{entryAt, beginsIn, endsIn, lengthIn, lengthAt}
@@ -31,7 +31,7 @@ pub record Placed (f : Fate) (place : ℕ) (before : Tally) (s : Slices) (after 
   pub dropped-more : after .dropped ≡ before .dropped + length (f .dropped)
   pub holding-now : s′ .holding ≡ put (s .holding) place (f .held)
   pub output-now : s′ .output ≡ put (s .output) (before .bytes) (joined (f .delivered))
-  pub lengths-now : s′ .lengths ≡ put (s .lengths) (before .frames) (lengths (f .delivered))
+  pub lengths-now : s′ .lengths ≡ put (s .lengths) (before .frames) (lengthsOf (f .delivered))
 
 -- The slices are long enough, and the place lies in the holding slice.
 pub record Roomy (place : ℕ) (s : Slices) : Type 0 where
@@ -58,7 +58,7 @@ pub record Whole (most entry : ℕ) : Type 0 where
   pub short : lengthIn entry ≤ most
 
 -- so many whole frames from segment k on, so long together, and their lengths written from place `at` on
-pub record Ran (most width : ℕ) (sub : List ℕ) (k at : ℕ) (lens lens′ : List ℕ) (frames bytes : ℕ) : Type 0 where
+pub record Ran (most width : ℕ) (sub : List ℕ) (k at : ℕ) (lengths lengths′ : List ℕ) (frames bytes : ℕ) : Type 0 where
   pub each : (i : ℕ) → i < frames → Whole most (entryAt width sub (k + i))
   pub total : bytes ≡ sumTo (λ i. lengthAt width sub (k + i)) frames
-  pub written : lens′ ≡ put lens at (upTo (λ i. lengthAt width sub (k + i)) frames)
+  pub written : lengths′ ≡ put lengths at (upTo (λ i. lengthAt width sub (k + i)) frames)

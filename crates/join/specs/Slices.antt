@@ -17,4 +17,4 @@ pub record Slices : Type 0 where
   pub lengths : List ℕ
 
 abbrev pub asSlices : List ℕ → List ℕ → List ℕ → Slices
-asSlices holding output lens = record { holding = holding; output = output; lengths = lens }
+asSlices holding output lengths = record { holding = holding; output = output; lengths = lengths }

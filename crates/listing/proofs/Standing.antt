@@ -48,8 +48,8 @@ never-broken file zero = empty-unbroken
 never-broken file (suc k) = run-keeps (standing file k) (nthEntry file k) (never-broken file k)
 
 -- the frames of a call are those that its caller finds, also where the slices were not lent to it: then there are none
-none-either : (lens output more-lens more-output : List ℕ) → framesFound 0 lens output ≡ framesFound 0 more-lens more-output
-none-either lens output more-lens more-output = none-found lens output ∙ sym (none-found more-lens more-output)
+none-either : (lengths output more-lengths more-output : List ℕ) → framesFound 0 lengths output ≡ framesFound 0 more-lengths more-output
+none-either lengths output more-lengths more-output = none-found lengths output ∙ sym (none-found more-lengths more-output)
 
 frames-same : (r : Running) (e : Entry) → framesFound (answerTo r e .frames) (runOne r e .lengths) (runOne r e .output) ≡ framesOf (answerTo r e)
 unfolding runOne answer
@@ -66,10 +66,10 @@ frames-of-entry file k = frames-same (standing file k) (nthEntry file k)
 
 -- they are few and short
 abbrev pub Short : ℕ → List ℕ → Type 0
-Short count lens = (count ≤ mostFrames) × (sumTo (byteAt lens) count ≤ mostBytes)
+Short count lengths = (count ≤ mostFrames) × (sumTo (byteAt lengths) count ≤ mostBytes)
 
-none-short : (lens : List ℕ) → Short 0 lens
-none-short lens = (omega arith, omega (arith, sum-none (byteAt lens)))
+none-short : (lengths : List ℕ) → Short 0 lengths
+none-short lengths = (omega arith, omega (arith, sum-none (byteAt lengths)))
 
 pub frames-short : (r : Running) (e : Entry) → Short (answerTo r e .frames) (runOne r e .lengths)
 unfolding runOne answer

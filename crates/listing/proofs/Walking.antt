@@ -22,7 +22,7 @@ use Rattle.listing.specs.Listing.{heading, line, lineAt, refusedLine, li
 use Rattle.listing.specs.Walk.{asRunning, Counts, RunsTo, numbersOf, Stands, Begins, Unused, headingRoom, lineRoom, listingRoom}
 use Rattle.listing.proofs.Lines.{line-same}
 
-module _ {file : List ℕ} {w : Walk} {holding output lens : List ℕ} (s : Stands file w holding output lens) (more : w .index < entryCount headLength file) where
+module _ {file : List ℕ} {w : Walk} {holding output lengths : List ℕ} (s : Stands file w holding output lengths) (more : w .index < entryCount headLength file) where
   pub stands-at : StandsAt file (w .index) (w .start)
   stands-at = record { sound = s .sound; not-past = more; its-start = s .its-start }
 
@@ -44,19 +44,19 @@ module _ {file : List ℕ} {w : Walk} {holding output lens : List ℕ} (s : Stan
     pub body-fits : w .start + length body < 18446744073709551616
     body-fits = omega (arith, body-inside stands-at (ap length b ∙ body-long stands-at), is-sound file (s .sound) .short)
 
-    module _ (r : Received) (holding′ output′ lens′ : List ℕ) (ran : RunsTo (asRunning (w .table) holding output lens) (record { kind = kind; body = body }) r holding′ output′ lens′) where
+    module _ (r : Received) (holding′ output′ lengths′ : List ℕ) (ran : RunsTo (asRunning (w .table) holding output lengths) (record { kind = kind; body = body }) r holding′ output′ lengths′) where
       counts-are : Counts r (answerAt file (w .index))
       unfolding answerAt
       counts-are =
           subst (λ (x : Running). Counts r (answerTo x (nthEntry file (w .index)))) (s .its-run)
-          (subst (λ (e : Entry). Counts r (answerTo (asRunning (w .table) holding output lens) e)) entry-same (ran .its-counts))
+          (subst (λ (e : Entry). Counts r (answerTo (asRunning (w .table) holding output lengths) e)) entry-same (ran .its-counts))
 
-      run-is : asRunning (r .table) holding′ output′ lens′ ≡ standing file (w .index + 1)
+      run-is : asRunning (r .table) holding′ output′ lengths′ ≡ standing file (w .index + 1)
       unfolding standing
       run-is =
-          let further : asRunning (r .table) holding′ output′ lens′ ≡ standing file (suc (w .index)) =
+          let further : asRunning (r .table) holding′ output′ lengths′ ≡ standing file (suc (w .index)) =
           ran .stands
-          ∙ ap (runOne (asRunning (w .table) holding output lens)) entry-same
+          ∙ ap (runOne (asRunning (w .table) holding output lengths)) entry-same
           ∙ ap (λ (x : Running). runOne x (nthEntry file (w .index))) (s .its-run) in
           further ∙ ap (standing file) (sym (add-one (w .index)))
 
@@ -69,7 +69,7 @@ module _ {file : List ℕ} {w : Walk} {holding output lens : List ℕ} (s : Stan
           wrote-as (line-same (w .index) kind r (answerAt file (w .index)) counts-are
           ∙ ap (λ (x : ℕ). line (w .index) x (answerAt file (w .index))) k) wrote
 
-      pub stands-next : Stands file (record { index = w .index + 1; start = w .start + length body; table = r .table }) holding′ output′ lens′
+      pub stands-next : Stands file (record { index = w .index + 1; start = w .start + length body; table = r .table }) holding′ output′ lengths′
       stands-next =
           record {
             sound = s .sound;
@@ -79,28 +79,28 @@ module _ {file : List ℕ} {w : Walk} {holding output lens : List ℕ} (s : Stan
           }
 
 -- Before the first entry the run stands as it begins.
-pub stands-first : {file holding output lens : List ℕ} {w : Walk} → Unused file holding output lens → Begins file w → Stands file w holding output lens
+pub stands-first : {file holding output lengths : List ℕ} {w : Walk} → Unused file holding output lengths → Begins file w → Stands file w holding output lengths
 unfolding standing begin
-stands-first {file} {holding} {output} {lens} {w} f b =
+stands-first {file} {holding} {output} {lengths} {w} f b =
     record {
       sound = f .sound;
       within = omega (arith, b .at-first);
       its-start = b .first-start ∙ ap (bodyStart headLength entryLength file) (sym (b .at-first));
       its-run =
-          ap (λ (t : Table). asRunning t holding output lens) (b .empty-table)
-          ∙ ap (λ (l : List ℕ). asRunning empty l output lens) (f .holding-zero)
-          ∙ ap (λ (l : List ℕ). asRunning empty (replicate holdingSize 0) l lens) (f .output-zero)
-          ∙ ap (asRunning empty (replicate holdingSize 0) (replicate mostBytes 0)) (f .lens-zero)
+          ap (λ (t : Table). asRunning t holding output lengths) (b .empty-table)
+          ∙ ap (λ (l : List ℕ). asRunning empty l output lengths) (f .holding-zero)
+          ∙ ap (λ (l : List ℕ). asRunning empty (replicate holdingSize 0) l lengths) (f .output-zero)
+          ∙ ap (asRunning empty (replicate holdingSize 0) (replicate mostBytes 0)) (f .lengths-zero)
           ∙ ap (standing file) (sym (b .at-first));
     }
 
 -- The lines of a sound file, one after another, from the place behind the heading on.
-pub record Listing (file heading-text : List ℕ) (first : ℕ) (text : List ℕ) (next : ℕ) (w : Walk) (holding output lens : List ℕ) : Type 0 where
-  pub stands : Stands file w holding output lens
+pub record Listing (file heading-text : List ℕ) (first : ℕ) (text : List ℕ) (next : ℕ) (w : Walk) (holding output lengths : List ℕ) : Type 0 where
+  pub stands : Stands file w holding output lengths
   pub lines : Pieces (lineAt file) (entryCount headLength file) lineRoom heading-text first text next (w .index)
 
-pub listing-begin : {file heading-text : List ℕ} {first : ℕ} {w : Walk} {holding output lens : List ℕ} → Stands file w holding output lens → w .index ≡ 0 →
-    first ≤ length heading-text → Listing file heading-text first heading-text first w holding output lens
+pub listing-begin : {file heading-text : List ℕ} {first : ℕ} {w : Walk} {holding output lengths : List ℕ} → Stands file w holding output lengths → w .index ≡ 0 →
+    first ≤ length heading-text → Listing file heading-text first heading-text first w holding output lengths
 listing-begin {file} {heading-text} {first} {w} s z inside =
     record {
       stands = s;
@@ -109,15 +109,15 @@ listing-begin {file} {heading-text} {first} {w} s z inside =
           (pieces-begin (lineAt file) (entryCount headLength file) lineRoom heading-text first inside);
     }
 
-module _ {file heading-text : List ℕ} {first : ℕ} {text : List ℕ} {next : ℕ} {w : Walk} {holding output lens : List ℕ}
-    (l : Listing file heading-text first text next w holding output lens) where
+module _ {file heading-text : List ℕ} {first : ℕ} {text : List ℕ} {next : ℕ} {w : Walk} {holding output lengths : List ℕ}
+    (l : Listing file heading-text first text next w holding output lengths) where
   pub line-room : w .index < entryCount headLength file → listingRoom ≤ length heading-text → first ≤ headingRoom → next + lineRoom ≤ length text
   line-room more room short =
       pieces-room (l .lines) more (omega (arith, room, short, is-sound file (l .stands .sound) .few))
 
-  pub listing-turn : {text′ : List ℕ} {next′ : ℕ} {w′ : Walk} {holding′ output′ lens′ : List ℕ} → w .index < entryCount headLength file →
+  pub listing-turn : {text′ : List ℕ} {next′ : ℕ} {w′ : Walk} {holding′ output′ lengths′ : List ℕ} → w .index < entryCount headLength file →
       Wrote text text′ next next′ (lineAt file (w .index)) → next′ ≤ next + lineRoom →
-      Stands file w′ holding′ output′ lens′ → w′ .index ≡ w .index + 1 → Listing file heading-text first text′ next′ w′ holding′ output′ lens′
+      Stands file w′ holding′ output′ lengths′ → w′ .index ≡ w .index + 1 → Listing file heading-text first text′ next′ w′ holding′ output′ lengths′
   listing-turn {text′} {next′} {w′} more wrote few s further =
       record {
         stands = s;

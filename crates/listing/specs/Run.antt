@@ -47,9 +47,9 @@ outputAfter (closes id) output a = output
 outputAfter (hands x) output a = a .output
 
 abbrev pub lengthsAfter : Call → List ℕ → Answer → List ℕ
-lengthsAfter (opens r) lens a = lens
-lengthsAfter (closes id) lens a = lens
-lengthsAfter (hands x) lens a = a .lengths
+lengthsAfter (opens r) lengths a = lengths
+lengthsAfter (closes id) lengths a = lengths
+lengthsAfter (hands x) lengths a = a .lengths
 
 -- an entry: its answer, and how things stand afterwards
 abbrev pub answerTo : Running → Entry → Answer

@@ -17,7 +17,7 @@ use Rattle.listing.specs.Run.{Running, answerTo, runOne, standing}
 
 -- a table and the slices, as a run has them
 abbrev pub asRunning : Table → List ℕ → List ℕ → List ℕ → Running
-asRunning t holding output lens = record { card = record { table = t; holding = holding }; output = output; lengths = lens }
+asRunning t holding output lengths = record { card = record { table = t; holding = holding }; output = output; lengths = lengths }
 
 -- the answer of a call that delivers nothing
 abbrev pub answered : ℕ → ℕ → Table → Received
@@ -32,20 +32,20 @@ pub record Counts (r : Received) (a : Answer) : Type 0 where
   pub its-gap : r .gap ≡ a .gap
 
 -- an entry was run: its numbers, and how things stand afterwards
-pub record RunsTo (before : Running) (e : Entry) (r : Received) (holding output lens : List ℕ) : Type 0 where
+pub record RunsTo (before : Running) (e : Entry) (r : Received) (holding output lengths : List ℕ) : Type 0 where
   pub its-counts : Counts r (answerTo before e)
-  pub stands : asRunning (r .table) holding output lens ≡ runOne before e
+  pub stands : asRunning (r .table) holding output lengths ≡ runOne before e
 
 -- the numbers of a call's answer, as a line has them
 abbrev pub numbersOf : Received → Answer
 numbersOf r = record { code = r .code; frames = r .frames; bytes = r .bytes; dropped = r .dropped; gap = r .gap; output = []; lengths = [] }
 
 -- A walk stands before an entry of a sound file, or behind the last: where that entry's body starts, and how the run stands there.
-pub record Stands (file : List ℕ) (w : Walk) (holding output lens : List ℕ) : Type 0 where
+pub record Stands (file : List ℕ) (w : Walk) (holding output lengths : List ℕ) : Type 0 where
   pub sound : fileRefusal file ≡ 0
   pub within : w .index ≤ entryCount headLength file
   pub its-start : w .start ≡ bodyStart headLength entryLength file (w .index)
-  pub its-run : asRunning (w .table) holding output lens ≡ standing file (w .index)
+  pub its-run : asRunning (w .table) holding output lengths ≡ standing file (w .index)
 
 -- before the first entry, with an empty table
 pub record Begins (file : List ℕ) (w : Walk) : Type 0 where
@@ -54,11 +54,11 @@ pub record Begins (file : List ℕ) (w : Walk) : Type 0 where
   pub empty-table : w .table ≡ empty
 
 -- a sound file, and slices of zeros to run it with
-pub record Unused (file holding output lens : List ℕ) : Type 0 where
+pub record Unused (file holding output lengths : List ℕ) : Type 0 where
   pub sound : fileRefusal file ≡ 0
   pub holding-zero : holding ≡ replicate holdingSize 0
   pub output-zero : output ≡ replicate mostBytes 0
-  pub lens-zero : lens ≡ replicate mostFrames 0
+  pub lengths-zero : lengths ≡ replicate mostFrames 0
 
 -- The room that texts need: a number with its space, the longest word for a kind, the columns of an answer, a line, the
 -- heading, a whole listing.

@@ -10,7 +10,7 @@ use lib.ListN.{length, length-append, length-take, length-drop, take, drop, repl
 use lib.Seq.{drop-append-add, drop-append-seam, take-append-le, take-append-add}
 use borrow.Author.Tests.{le-leb, lt-leb, ne-eqb}
 use Rattle.octets.specs.Each.{Each}
-use Rattle.octets.specs.Stretch.{part, rest, joined, lengths}
+use Rattle.octets.specs.Stretch.{part, rest, joined, lengthsOf}
 use Rattle.octets.proofs.Stretches.{joined-append}
 use Rattle.mpeg.specs.Packet.{header, framesPid, payloadLength, pointedLength, filledTo, fillByte, nextCount}
 use Rattle.mpeg.specs.Write.{leftAt, packetOf, carried, countAfter, dataPacket, carries}
@@ -48,22 +48,22 @@ rest-begun {b} {t} waiting m =
     ∙ drop-append-seam b (t ++ joined waiting)
 
 -- .. and how many of them end the frame that has begun
-pub left-done : (done fs : List (List ℕ)) (k : ℕ) → leftAt (lengths (done ++ fs)) (length (joined done) + k) ≡ leftAt (lengths fs) k
-unfolding leftAt lengths joined
-left-done [] fs k = ap (leftAt (lengths fs)) (let e : 0 + k ≡ k = omega arith in e)
+pub left-done : (done fs : List (List ℕ)) (k : ℕ) → leftAt (lengthsOf (done ++ fs)) (length (joined done) + k) ≡ leftAt (lengthsOf fs) k
+unfolding leftAt lengthsOf joined
+left-done [] fs k = ap (leftAt (lengthsOf fs)) (let e : 0 + k ≡ k = omega arith in e)
 left-done (f ∷ done) fs k =
     let e : length (f ++ joined done) + k - length f ≡ length (joined done) + k = omega (arith, length-append f (joined done)) in
     let h : length f ≤ length (f ++ joined done) + k = omega (arith, length-append f (joined done)) in
     rw (le-leb (length f) (length (f ++ joined done) + k) h, e) (left-done done fs k)
 
-left-none : (waiting : List (List ℕ)) → leftAt (lengths waiting) 0 ≡ 0
-unfolding leftAt lengths
+left-none : (waiting : List (List ℕ)) → leftAt (lengthsOf waiting) 0 ≡ 0
+unfolding leftAt lengthsOf
 left-none [] = refl
 left-none ([] ∷ waiting) = left-none waiting
 left-none ((x ∷ f) ∷ waiting) = rw (lt-leb (suc (length f)) 0 (omega arith)) refl
 
-left-begun : {b t : List ℕ} (waiting : List (List ℕ)) → Mid b t → leftAt (lengths (one b t ++ waiting)) (length b) ≡ length t
-unfolding leftAt lengths
+left-begun : {b t : List ℕ} (waiting : List (List ℕ)) → Mid b t → leftAt (lengthsOf (one b t ++ waiting)) (length b) ≡ length t
+unfolding leftAt lengthsOf
 left-begun waiting between = left-none waiting
 left-begun waiting (within x b y t) =
     let long : length (x ∷ b ++ y ∷ t) ≡ suc (length b) + suc (length t) = length-append (x ∷ b) (y ∷ t) in
@@ -183,8 +183,8 @@ module _ {q : Backlog} {done waiting : List (List ℕ)} {b t : List ℕ} (at : A
 
   pub at-left : leftIn q ≡ length t
   at-left =
-      ap (λ (fs : List (List ℕ)). leftAt (lengths fs) (q .place)) (at .frames-are)
-      ∙ ap (leftAt (lengths (done ++ (one b t ++ waiting)))) (at .place-is)
+      ap (λ (fs : List (List ℕ)). leftAt (lengthsOf fs) (q .place)) (at .frames-are)
+      ∙ ap (leftAt (lengthsOf (done ++ (one b t ++ waiting)))) (at .place-is)
       ∙ left-done done (one b t ++ waiting) (length b)
       ∙ left-begun waiting (at .mid)
 

@@ -21,10 +21,10 @@ long n = 0xC0 ∷ 0x01 ∷ n / 256 ∷ n % 256 ∷ replicate (n + 2) 0xAA
 
 -- these frames, and what the call makes of them; the output is a packet long, or as long as is said
 abbrev asked : ℕ → List ℕ → List ℕ → ℕ → ℕ → Asked
-asked space bytes lens place count = record { bytes = bytes; lens = lens; place = place; count = count; output = replicate space 0 }
+asked space bytes lengths place count = record { bytes = bytes; lengths = lengths; place = place; count = count; output = replicate space 0 }
 
 abbrev outcome : List ℕ → List ℕ → ℕ → ℕ → WriteOutcome
-outcome bytes lens place count = written (asked 188 bytes lens place count)
+outcome bytes lengths place count = written (asked 188 bytes lengths place count)
 
 abbrev sent : ℕ → ℕ → List ℕ → WriteOutcome
 sent place count packet = record { answer = record { code = 0; place = place; count = count; null = false }; output = packet }
@@ -93,7 +93,7 @@ three-in-one = refl
 -- Frames that may not be written, and what their bytes and lengths have otherwise: the first byte is 0xFF; the field says one byte more, one byte less;
 -- 5 bytes, and none; 2,049 bytes, where 2,048 may be; the lengths are one byte short of the bytes, and one byte beyond them; the second frame is bad.
 abbrev answer : List ℕ → List ℕ → ℕ
-answer bytes lens = (outcome bytes lens 0 0) .answer .code
+answer bytes lengths = (outcome bytes lengths 0 0) .answer .code
 
 judged : (answer (set short 0 0xFE) (6 ∷ []) ≡ 0) × (answer (set short 0 0xFF) (6 ∷ []) ≡ 52) × (answer (set short 3 1) (6 ∷ []) ≡ 52)
     × (answer (0xC0 ∷ 0x01 ∷ 0x00 ∷ 0x00 ∷ 0x11 ∷ 0x22 ∷ 0x33 ∷ []) (7 ∷ []) ≡ 52) × (answer (0xC0 ∷ 0x01 ∷ 0x00 ∷ 0x00 ∷ 0x11 ∷ []) (5 ∷ []) ≡ 52)

@@ -12,7 +12,7 @@ use lib.ListN.{length, set, length-append, List·getD-append}
 use lib.Seq.{drop-drop, drop-append-seam}
 use Rattle.octets.specs.Bytes.{byteAt, be16At}
 use Rattle.octets.specs.Each.{Each}
-use Rattle.octets.specs.Stretch.{rest, put, joined, lengths}
+use Rattle.octets.specs.Stretch.{rest, put, joined, lengthsOf}
 use Rattle.octets.proofs.Stretches.{byte-rest, put-nil, put-put-front, length-put, set-put}
 use Rattle.flow.specs.Flow.{longest}
 use Rattle.mpeg.specs.Frame.{fieldAt, besideField, saidLength, good}
@@ -73,19 +73,19 @@ unfolding saidLengths
 lengths-none bytes = refl
 
 -- The loop that writes them.
-pub record Telling (bytes lens : List ℕ) (count : ℕ) (lens′ : List ℕ) (from k : ℕ) : Type 0 where
+pub record Telling (bytes lengths : List ℕ) (count : ℕ) (lengths′ : List ℕ) (from k : ℕ) : Type 0 where
   pub within : k ≤ count
   pub place : from ≡ saidEnd k bytes
-  pub told : lens′ ≡ put lens 0 (saidLengths k bytes)
+  pub told : lengths′ ≡ put lengths 0 (saidLengths k bytes)
 
-pub tell-begin : (bytes lens : List ℕ) (count : ℕ) → Telling bytes lens count lens 0 0
-tell-begin bytes lens count =
-    record { within = omega arith; place = sym (end-none bytes); told = sym (ap (put lens 0) (lengths-none bytes) ∙ put-nil lens 0) }
+pub tell-begin : (bytes lengths : List ℕ) (count : ℕ) → Telling bytes lengths count lengths 0 0
+tell-begin bytes lengths count =
+    record { within = omega arith; place = sym (end-none bytes); told = sym (ap (put lengths 0) (lengths-none bytes) ∙ put-nil lengths 0) }
 
-module _ {bytes lens : List ℕ} {count : ℕ} {lens′ : List ℕ} {from k : ℕ} (t : Telling bytes lens count lens′ from k)
-    (room : count ≤ length lens) (laid : Laid count bytes) where
-  pub tell-long : length lens′ ≡ length lens
-  tell-long = ap length (t .told) ∙ length-put lens 0 (saidLengths k bytes) (omega (arith, length-said k bytes, t .within))
+module _ {bytes lengths : List ℕ} {count : ℕ} {lengths′ : List ℕ} {from k : ℕ} (t : Telling bytes lengths count lengths′ from k)
+    (room : count ≤ length lengths) (laid : Laid count bytes) where
+  pub tell-long : length lengths′ ≡ length lengths
+  tell-long = ap length (t .told) ∙ length-put lengths 0 (saidLengths k bytes) (omega (arith, length-said k bytes, t .within))
 
   module _ (more : k < count) where
     said-is : be16At bytes (from + fieldAt) + besideField ≡ saidAt k bytes
@@ -112,7 +112,7 @@ module _ {bytes lens : List ℕ} {count : ℕ} {lens′ : List ℕ} {from k : �
       pub end-small : from + said ≤ length bytes
       end-small = omega (arith, tell-inside, said-is)
 
-      pub tell-turn : Telling bytes lens count (set lens′ k said) (from + said) (k + 1)
+      pub tell-turn : Telling bytes lengths count (set lengths′ k said) (from + said) (k + 1)
       tell-turn =
           let one = add-one k in
           let size = length-said k bytes in
@@ -120,16 +120,16 @@ module _ {bytes lens : List ℕ} {count : ℕ} {lens′ : List ℕ} {from k : �
             within = omega arith;
             place = omega (arith, e, said-is, t .place, end-suc k bytes) ∙ ap (λ (n : ℕ). saidEnd n bytes) (sym one);
             told =
-                set-put lens′ k said (omega (arith, tell-long))
-                ∙ ap (λ (n : ℕ). put lens′ k (n ∷ [])) (e ∙ said-is)
+                set-put lengths′ k said (omega (arith, tell-long))
+                ∙ ap (λ (n : ℕ). put lengths′ k (n ∷ [])) (e ∙ said-is)
                 ∙ ap (λ (l : List ℕ). put l k (saidAt k bytes ∷ [])) (t .told)
-                ∙ ap (λ (n : ℕ). put (put lens 0 (saidLengths k bytes)) n (saidAt k bytes ∷ [])) (sym size)
-                ∙ put-put-front lens (saidLengths k bytes) (saidAt k bytes ∷ []) (omega arith)
-                ∙ ap (put lens 0) (sym (lengths-suc k bytes) ∙ ap (λ (n : ℕ). saidLengths n bytes) (sym one));
+                ∙ ap (λ (n : ℕ). put (put lengths 0 (saidLengths k bytes)) n (saidAt k bytes ∷ [])) (sym size)
+                ∙ put-put-front lengths (saidLengths k bytes) (saidAt k bytes ∷ []) (omega arith)
+                ∙ ap (put lengths 0) (sym (lengths-suc k bytes) ∙ ap (λ (n : ℕ). saidLengths n bytes) (sym one));
           }
 
-  pub tell-end : count ≤ k → lens′ ≡ put lens 0 (saidLengths count bytes)
-  tell-end done = t .told ∙ ap (λ (n : ℕ). put lens 0 (saidLengths n bytes)) (let e : k ≡ count = omega (arith, t .within) in e)
+  pub tell-end : count ≤ k → lengths′ ≡ put lengths 0 (saidLengths count bytes)
+  tell-end done = t .told ∙ ap (λ (n : ℕ). put lengths 0 (saidLengths n bytes)) (let e : k ≡ count = omega (arith, t .within) in e)
 
 -- Good frames say their lengths, whatever stands behind them.
 said-front : (frame behind : List ℕ) → good frame ≡ true → saidLength (frame ++ behind) ≡ length frame
@@ -150,8 +150,8 @@ module _ (frame : List ℕ) (frames : List (List ℕ)) (behind : List ℕ) (g : 
       ap (rest (frame ++ joined frames ++ behind)) said-first ∙ ap (λ (l : List ℕ). rest l (length frame)) (append-assoc frame (joined frames) behind)
       ∙ rest-append frame (joined frames ++ behind)
 
-pub said-lengths : (frames : List (List ℕ)) (behind : List ℕ) → Each GoodFrame frames → saidLengths (length frames) (joined frames ++ behind) ≡ lengths frames
-unfolding saidLengths lengths
+pub said-lengths : (frames : List (List ℕ)) (behind : List ℕ) → Each GoodFrame frames → saidLengths (length frames) (joined frames ++ behind) ≡ lengthsOf frames
+unfolding saidLengths lengthsOf
 said-lengths [] behind g = refl
 said-lengths (f ∷ frames) behind g =
     rw (said-others f frames behind (g .0), said-first f frames behind (g .0)) (ap (λ (l : List ℕ). length f ∷ l) (said-lengths frames behind (g .1)))

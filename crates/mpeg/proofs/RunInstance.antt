@@ -6,7 +6,7 @@ use mathlib.Core.Path.{_≡_, refl}
 use mathlib.Core.Bool.{true}
 use mathlib.Core.List.{List, [], _∷_, _++_}
 use lib.ListN.{replicate}
-use Rattle.octets.specs.Stretch.{part, rest, joined, lengths}
+use Rattle.octets.specs.Stretch.{part, rest, joined, lengthsOf}
 use Rattle.octets.specs.Count.{upTo}
 use Rattle.mpeg.specs.Packet.{nullPacket, same, allFill, none}
 use Rattle.mpeg.specs.Frame.{good, mayBegin}
@@ -49,7 +49,7 @@ packets =
 
 -- the writer writes these packets
 written : runPackets (noBacklog 14) bursts ≡ packets
-unfolding runPackets packetNext afterNext packetOf carried countAfter nullPacket leftAt part rest joined lengths
+unfolding runPackets packetNext afterNext packetOf carried countAfter nullPacket leftAt part rest joined lengthsOf
 written = refl
 
 -- .. and the reader reads them
@@ -60,5 +60,5 @@ read-back = refl
 
 -- so much has been sent, and these frames whole
 sent : ((runEnd (noBacklog 14) bursts) .place ≡ 738) × (sentWhole (allFrames bursts) 738 ≡ A ∷ B ∷ C ∷ D ∷ [])
-unfolding runEnd afterNext carried countAfter leftAt rest joined lengths allFrames sentWhole
+unfolding runEnd afterNext carried countAfter leftAt rest joined lengthsOf allFrames sentWhole
 sent = (refl, refl)

@@ -11,7 +11,7 @@ use lib.ListN.{length, length-append}
 use lib.Seq.{take-append-seam, drop-append-seam}
 use borrow.Author.Tests.{le-ltb, le-leb, ltb-false, eqb-true}
 use Rattle.refusal.specs.Refusal.{first}
-use Rattle.octets.specs.Stretch.{part, rest, joined, lengths, cutBy}
+use Rattle.octets.specs.Stretch.{part, rest, joined, lengthsOf, cutBy}
 use Rattle.octets.specs.Each.{Each}
 use Rattle.octets.proofs.Counts.{or-false-left, or-false-right}
 use Rattle.octets.proofs.Elements.{each-too}
@@ -38,8 +38,8 @@ behind-is : (f behind : List ℕ) → rest (f ++ behind) (length f) ≡ behind
 unfolding rest
 behind-is f behind = drop-append-seam f behind
 
-pub frames-pass : (frames : List (List ℕ)) → Each (λ f. good f ≡ true) frames → badFrames (lengths frames) (joined frames) ≡ false
-unfolding badFrames lengths joined
+pub frames-pass : (frames : List (List ℕ)) → Each (λ f. good f ≡ true) frames → badFrames (lengthsOf frames) (joined frames) ≡ false
+unfolding badFrames lengthsOf joined
 frames-pass [] g = refl
 frames-pass (f ∷ more) g =
     let long : ltb (length (f ++ joined more)) (length f) ≡ false = le-ltb (length (f ++ joined more)) (length f) (omega (arith, length-append f (joined more))) in
@@ -49,9 +49,9 @@ not-not : (b : Bool) → not b ≡ false → b ≡ true
 not-not true h = refl
 not-not false h = sym h
 
-pub passed-are-frames : (lens bytes : List ℕ) → badFrames lens bytes ≡ false →
-    (lengths (cutBy lens bytes) ≡ lens) × (joined (cutBy lens bytes) ≡ bytes) × Each (λ f. good f ≡ true) (cutBy lens bytes)
-unfolding badFrames part rest lengths joined cutBy
+pub passed-are-frames : (lengths bytes : List ℕ) → badFrames lengths bytes ≡ false →
+    (lengthsOf (cutBy lengths bytes) ≡ lengths) × (joined (cutBy lengths bytes) ≡ bytes) × Each (λ f. good f ≡ true) (cutBy lengths bytes)
+unfolding badFrames part rest lengthsOf joined cutBy
 passed-are-frames [] bytes h = (refl, sym (nil-of bytes (eqb-true (length bytes) 0 (not-not (eqb (length bytes) 0) h))), tt)
 passed-are-frames (n ∷ more) bytes h =
     let few : n ≤ length bytes = ltb-false (length bytes) n (or-false-left (ltb (length bytes) n) (not (good (part bytes 0 n)) || badFrames more (rest bytes n)) h) in

@@ -128,7 +128,7 @@ left-first n more bytes place there behind = by (true-or-false (leb n place)) (t
         omega (arith, left-inside n more place some (leb-false n place t), there)
 
 -- .. and of all
-pub left-there : (lens bytes : List ℕ) (place : ℕ) → badFrames lens bytes ≡ false → leftAt lens place ≤ length bytes - place
+pub left-there : (lengths bytes : List ℕ) (place : ℕ) → badFrames lengths bytes ≡ false → leftAt lengths place ≤ length bytes - place
 unfolding leftAt
 left-there [] bytes place h = omega arith
 left-there (n ∷ more) bytes place h =
@@ -158,40 +158,40 @@ unfolding rest
 rest-all l = refl
 
 -- The loop that goes through all frames: k of them are sound and end at `start`, and the last of those that start before the place ends at `begun`.
-pub record Surveying (bytes lens : List ℕ) (place begun start k : ℕ) : Type 0 where
-  pub in-lens : k ≤ length lens
+pub record Surveying (bytes lengths : List ℕ) (place begun start k : ℕ) : Type 0 where
+  pub in-lengths : k ≤ length lengths
   pub in-bytes : start ≤ length bytes
-  pub to-come : badFrames lens bytes ≡ badFrames (rest lens k) (rest bytes start)
-  pub ahead : start ≤ place → (begun ≤ place) × (leftAt lens place ≡ leftAt (rest lens k) (place - start))
-  pub behind : place < start → leftAt lens place ≡ begun - place
+  pub to-come : badFrames lengths bytes ≡ badFrames (rest lengths k) (rest bytes start)
+  pub ahead : start ≤ place → (begun ≤ place) × (leftAt lengths place ≡ leftAt (rest lengths k) (place - start))
+  pub behind : place < start → leftAt lengths place ≡ begun - place
 
-pub survey-begin : (bytes lens : List ℕ) (place : ℕ) → Surveying bytes lens place place 0 0
-survey-begin bytes lens place =
+pub survey-begin : (bytes lengths : List ℕ) (place : ℕ) → Surveying bytes lengths place place 0 0
+survey-begin bytes lengths place =
     let same : place - 0 ≡ place = omega arith in
     record {
-      in-lens = omega arith;
+      in-lengths = omega arith;
       in-bytes = omega arith;
-      to-come = rw (rest-all lens, rest-all bytes) refl;
-      ahead = λ h. (omega arith, rw (rest-all lens, same) refl);
+      to-come = rw (rest-all lengths, rest-all bytes) refl;
+      ahead = λ h. (omega arith, rw (rest-all lengths, same) refl);
       behind = λ h. absurd (omega (arith, h));
     }
 
-module _ {bytes lens : List ℕ} {place begun start k : ℕ} (s : Surveying bytes lens place begun start k) where
-  module _ (n : ℕ) (more : k < length lens) (e : n ≡ byteAt lens k) where
-    next : rest lens k ≡ n ∷ rest lens (k + 1)
-    next = rest-next lens k more ∙ ap (λ (m : ℕ). m ∷ rest lens (k + 1)) (sym e)
+module _ {bytes lengths : List ℕ} {place begun start k : ℕ} (s : Surveying bytes lengths place begun start k) where
+  module _ (n : ℕ) (more : k < length lengths) (e : n ≡ byteAt lengths k) where
+    next : rest lengths k ≡ n ∷ rest lengths (k + 1)
+    next = rest-next lengths k more ∙ ap (λ (m : ℕ). m ∷ rest lengths (k + 1)) (sym e)
 
-    these : badFrames lens bytes ≡ (badFirst (rest bytes start) n || badFrames (rest lens (k + 1)) (rest bytes (start + n)))
+    these : badFrames lengths bytes ≡ (badFirst (rest bytes start) n || badFrames (rest lengths (k + 1)) (rest bytes (start + n)))
     these =
-        s .to-come ∙ ap (λ (l : List ℕ). badFrames l (rest bytes start)) next ∙ bad-next n (rest lens (k + 1)) (rest bytes start)
-        ∙ ap (λ (l : List ℕ). badFirst (rest bytes start) n || badFrames (rest lens (k + 1)) l) (rest-rest bytes start n)
+        s .to-come ∙ ap (λ (l : List ℕ). badFrames l (rest bytes start)) next ∙ bad-next n (rest lengths (k + 1)) (rest bytes start)
+        ∙ ap (λ (l : List ℕ). badFirst (rest bytes start) n || badFrames (rest lengths (k + 1)) l) (rest-rest bytes start n)
 
     -- it is bad: the frames passed are not all
-    pub survey-stop : true ≡ badFirst (rest bytes start) n → true ≡ badFrames lens bytes
+    pub survey-stop : true ≡ badFirst (rest bytes start) n → true ≡ badFrames lengths bytes
     survey-stop h = sym (these ∙ rw (← h) refl)
 
-    pub survey-not-all : true ≡ badFirst (rest bytes start) n → notAll k start lens bytes ≡ badFrames lens bytes
-    survey-not-all h = rw (lt-ltb k (length lens) more) (survey-stop h)
+    pub survey-not-all : true ≡ badFirst (rest bytes start) n → notAll k start lengths bytes ≡ badFrames lengths bytes
+    survey-not-all h = rw (lt-ltb k (length lengths) more) (survey-stop h)
 
     module _ (sound : false ≡ badFirst (rest bytes start) n) where
       fits : Sized (rest bytes start) n
@@ -200,24 +200,24 @@ module _ {bytes lens : List ℕ} {place begun start k : ℕ} (s : Surveying byte
       pub survey-inside : start + n ≤ length bytes
       survey-inside = omega (arith, fits .there, s .in-bytes, length-rest bytes start)
 
-      left-next : start ≤ place → leftAt lens place ≡ leftAt (n ∷ rest lens (k + 1)) (place - start)
+      left-next : start ≤ place → leftAt lengths place ≡ leftAt (n ∷ rest lengths (k + 1)) (place - start)
       left-next h = s .ahead h .1 ∙ ap (λ (l : List ℕ). leftAt l (place - start)) next
 
       -- it starts before the place
-      pub survey-begun : (begun′ : ℕ) → start < place → begun′ ≡ start + n → Surveying bytes lens place begun′ (start + n) (k + 1)
+      pub survey-begun : (begun′ : ℕ) → start < place → begun′ ≡ start + n → Surveying bytes lengths place begun′ (start + n) (k + 1)
       survey-begun begun′ l f =
           record {
-            in-lens = omega arith;
+            in-lengths = omega arith;
             in-bytes = survey-inside;
             to-come = these ∙ rw (← sound) refl;
             ahead = λ h. (
               omega (arith, f, h),
               left-next (omega (arith, l))
-                  ∙ left-past n (rest lens (k + 1)) (place - start) (omega (arith, h))
-                  ∙ ap (leftAt (rest lens (k + 1))) (further h),
+                  ∙ left-past n (rest lengths (k + 1)) (place - start) (omega (arith, h))
+                  ∙ ap (leftAt (rest lengths (k + 1))) (further h),
             );
             behind = λ h.
-                left-next (omega (arith, l)) ∙ left-inside n (rest lens (k + 1)) (place - start) (omega (arith, l)) (omega (arith, l, h)) ∙ left-of;
+                left-next (omega (arith, l)) ∙ left-inside n (rest lengths (k + 1)) (place - start) (omega (arith, l)) (omega (arith, l, h)) ∙ left-of;
           }
         where
           further : start + n ≤ place → place - start - n ≡ place - (start + n)
@@ -227,10 +227,10 @@ module _ {bytes lens : List ℕ} {place begun start k : ℕ} (s : Surveying byte
           left-of = omega (arith, f, l)
 
       -- it starts there, or behind
-      pub survey-kept : (begun′ : ℕ) → place ≤ start → begun′ ≡ begun → Surveying bytes lens place begun′ (start + n) (k + 1)
+      pub survey-kept : (begun′ : ℕ) → place ≤ start → begun′ ≡ begun → Surveying bytes lengths place begun′ (start + n) (k + 1)
       survey-kept begun′ l f =
           record {
-            in-lens = omega arith;
+            in-lengths = omega arith;
             in-bytes = survey-inside;
             to-come = these ∙ rw (← sound) refl;
             ahead = λ h. absurd (omega (arith, h, l, fits .enough));
@@ -239,15 +239,15 @@ module _ {bytes lens : List ℕ} {place begun start k : ℕ} (s : Surveying byte
                 let here = eqb-true place start q in
                 let ended : 0 ≡ begun′ - place = omega (arith, f, s .ahead (omega (arith, here)) .0) in
                 left-next (omega (arith, here))
-                ∙ left-starts n (rest lens (k + 1)) (place - start) (omega (arith, fits .enough)) (omega (arith, here)) ∙ ended)
+                ∙ left-starts n (rest lengths (k + 1)) (place - start) (omega (arith, fits .enough)) (omega (arith, here)) ∙ ended)
                 (λ (q : eqb place start ≡ false). s .behind (omega (arith, l, eqb-false place start q)) ∙ ap (λ (b : ℕ). b - place) (sym f))
                 (true-or-false (eqb place start));
           }
 
-  module _ (done : length lens ≤ k) where
-    left-over : not (eqb start (length bytes)) ≡ badFrames lens bytes
+  module _ (done : length lengths ≤ k) where
+    left-over : not (eqb start (length bytes)) ≡ badFrames lengths bytes
     unfolding badFrames
-    left-over = sym (s .to-come ∙ rw (rest-none lens k done, length-rest bytes start) (ap not (by (true-or-false (eqb start (length bytes))))))
+    left-over = sym (s .to-come ∙ rw (rest-none lengths k done, length-rest bytes start) (ap not (by (true-or-false (eqb start (length bytes))))))
       where
         by : (eqb start (length bytes) ≡ true) ⊎ (eqb start (length bytes) ≡ false) → eqb (length bytes - start) 0 ≡ eqb start (length bytes)
         by (inl e) = eq-eqb (length bytes - start) 0 (omega (arith, eqb-true start (length bytes) e)) ∙ sym e
@@ -255,15 +255,15 @@ module _ {bytes lens : List ℕ} {place begun start k : ℕ} (s : Surveying byte
             let other = eqb-false start (length bytes) d in
             ne-eqb (length bytes - start) 0 (λ z. other (omega (arith, z, s .in-bytes))) ∙ sym d
 
-    pub survey-all : notAll k start lens bytes ≡ badFrames lens bytes
-    survey-all = rw (le-ltb k (length lens) done) left-over
+    pub survey-all : notAll k start lengths bytes ≡ badFrames lengths bytes
+    survey-all = rw (le-ltb k (length lengths) done) left-over
 
-    pub survey-left : begun - place ≡ leftAt lens place
+    pub survey-left : begun - place ≡ leftAt lengths place
     unfolding leftAt
     survey-left = ⊎-elim
         (λ (t : leb start place ≡ true).
         let a = s .ahead (leb-true start place t) in
         let ended : begun - place ≡ 0 = omega (arith, a .0) in
-        ended ∙ sym (a .1 ∙ ap (λ (l : List ℕ). leftAt l (place - start)) (rest-none lens k done)))
+        ended ∙ sym (a .1 ∙ ap (λ (l : List ℕ). leftAt l (place - start)) (rest-none lengths k done)))
         (λ (t : leb start place ≡ false). sym (s .behind (leb-false start place t)))
         (true-or-false (leb start place))

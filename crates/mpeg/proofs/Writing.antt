@@ -34,12 +34,12 @@ carries-waiting r waiting h =
     (true-or-false (leb payloadLength r))
 
 module _ (a : Asked) where
-  pub write-bad : true ≡ badFrames (a .lens) (a .bytes) →
+  pub write-bad : true ≡ badFrames (a .lengths) (a .bytes) →
       _≡_ {A = WriteOutcome} (record { answer = record { code = 52; place = a .place; count = a .count; null = false }; output = a .output }) (written a)
   unfolding written writtenBy refused
   write-bad h = rw (sym h) refl
 
-  module _ (sound : false ≡ badFrames (a .lens) (a .bytes)) where
+  module _ (sound : false ≡ badFrames (a .lengths) (a .bytes)) where
     pub write-small : length (a .output) < mpegLength →
         _≡_ {A = WriteOutcome} (record { answer = record { code = 51; place = a .place; count = a .count; null = false }; output = a .output }) (written a)
     unfolding written writtenBy refused
@@ -66,7 +66,7 @@ module _ (a : Asked) where
       -- bytes wait
       module _ (some : a .place < length (a .bytes)) (left : ℕ) (found : left ≡ leftFor a) where
         pub waits : Waiting (a .bytes) (a .place) left (a .output)
-        waits = record { something = some; all-there = omega (arith, found, left-there (a .lens) (a .bytes) (a .place) (sym sound)); room = room }
+        waits = record { something = some; all-there = omega (arith, found, left-there (a .lengths) (a .bytes) (a .place) (sym sound)); room = room }
 
         waiting-some : 0 < length (waitingFor a)
         waiting-some = omega (arith, some, length-rest (a .bytes) (a .place))

@@ -11,7 +11,7 @@ use lib.Dec.{eqb, ltb, leb}
 use lib.ListN.{length}
 use Rattle.refusal.specs.Refusal.{Refusal, _when_, first}
 use Rattle.octets.specs.Bytes.{byteAt}
-use Rattle.octets.specs.Stretch.{part, rest, put, joined, lengths}
+use Rattle.octets.specs.Stretch.{part, rest, put, joined, lengthsOf}
 use Rattle.octets.specs.Count.{upTo}
 use Rattle.packet.specs.Dmpt.{mpegLength}
 use Rattle.mpeg.specs.declared.reader.ReadBack.{ReadBack}
@@ -132,7 +132,7 @@ reading bytes =
 pub record AskedRead : Type 0 where
   pub packets : List ℕ
   pub output : List ℕ
-  pub lens : List ℕ
+  pub lengths : List ℕ
 
 abbrev pub framesRead : AskedRead → List (List ℕ)
 framesRead a = (reading (a .packets)) .frames
@@ -140,25 +140,25 @@ framesRead a = (reading (a .packets)) .frames
 abbrev pub readRefusals : AskedRead → List Refusal
 readRefusals a =
     53 when not ((reading (a .packets)) .sound)
-    ∷ 51 when (ltb (length (a .output)) (length (joined (framesRead a))) || ltb (length (a .lens)) (length (framesRead a)))
+    ∷ 51 when (ltb (length (a .output)) (length (joined (framesRead a))) || ltb (length (a .lengths)) (length (framesRead a)))
     ∷ []
 
 -- everything that a call answers and leaves: the frames back to back at the front of one slice and their lengths at the front of the other
 pub record ReadOutcome : Type 0 where
   pub answer : ReadBack
   pub output : List ℕ
-  pub lens : List ℕ
+  pub lengths : List ℕ
 
 unfoldable pub gotBack : AskedRead → ReadOutcome
 gotBack a =
     record {
       answer = record { code = 0; frames = length (framesRead a); bytes = length (joined (framesRead a)) };
       output = put (a .output) 0 (joined (framesRead a));
-      lens = put (a .lens) 0 (lengths (framesRead a));
+      lengths = put (a .lengths) 0 (lengthsOf (framesRead a));
     }
 
 unfoldable pub notRead : ℕ → AskedRead → ReadOutcome
-notRead code a = record { answer = record { code = code; frames = 0; bytes = 0 }; output = a .output; lens = a .lens }
+notRead code a = record { answer = record { code = code; frames = 0; bytes = 0 }; output = a .output; lengths = a .lengths }
 
 unfoldable pub readBy : ℕ → AskedRead → ReadOutcome
 readBy zero a = gotBack a

@@ -8,7 +8,7 @@ use lib.Dec.{leb}
 use lib.ListN.{length, replicate}
 use Rattle.octets.specs.Bytes.{AllBytes}
 use Rattle.octets.specs.Each.{Each}
-use Rattle.octets.specs.Stretch.{rest, put, joined, lengths, cutBy}
+use Rattle.octets.specs.Stretch.{rest, put, joined, lengthsOf, cutBy}
 use Rattle.packet.specs.Dmpt.{mpegLength}
 use Rattle.mpeg.specs.Packet.{nullPacket}
 use Rattle.mpeg.specs.Frame.{good, Good}
@@ -37,7 +37,7 @@ abbrev pub waitingIn : Backlog → List ℕ
 waitingIn q = rest (joined (q .frames)) (q .place)
 
 abbrev pub leftIn : Backlog → ℕ
-leftIn q = leftAt (lengths (q .frames)) (q .place)
+leftIn q = leftAt (lengthsOf (q .frames)) (q .place)
 
 unfoldable pub packetNext : Backlog → List ℕ
 packetNext q = packetOf (q .count) (leftIn q) (waitingIn q)
@@ -104,7 +104,7 @@ AllComeBack =
 -- `calls-make-runs`: a call with frames that may be written and room for a packet is a step of a run.
 abbrev pub askedFor : Backlog → List ℕ → Asked
 askedFor q output =
-    record { bytes = joined (q .frames); lens = lengths (q .frames); place = q .place; count = q .count; output = output }
+    record { bytes = joined (q .frames); lengths = lengthsOf (q .frames); place = q .place; count = q .count; output = output }
 
 pub record IsStep (q : Backlog) (output : List ℕ) : Type 0 where
   pub not-refused : (written (askedFor q output)) .answer .code ≡ 0
@@ -117,9 +117,9 @@ CallsMakeRuns = (q : Backlog) (output : List ℕ) → Each Good (q .frames) → 
 
 -- `judged-by-frames`: 52 is given exactly where bytes and lengths are not those of frames that may be written.
 pub record JudgedByFrames : Type 0 where
-  pub frames-pass : (frames : List (List ℕ)) → Each (λ f. good f ≡ true) frames → badFrames (lengths frames) (joined frames) ≡ false
-  pub passed-are-frames : (lens bytes : List ℕ) → badFrames lens bytes ≡ false →
-      (lengths (cutBy lens bytes) ≡ lens) × (joined (cutBy lens bytes) ≡ bytes) × Each (λ f. good f ≡ true) (cutBy lens bytes)
+  pub frames-pass : (frames : List (List ℕ)) → Each (λ f. good f ≡ true) frames → badFrames (lengthsOf frames) (joined frames) ≡ false
+  pub passed-are-frames : (lengths bytes : List ℕ) → badFrames lengths bytes ≡ false →
+      (lengthsOf (cutBy lengths bytes) ≡ lengths) × (joined (cutBy lengths bytes) ≡ bytes) × Each (λ f. good f ≡ true) (cutBy lengths bytes)
 
 -- `sent-may-go`: frames that have been sent whole may be taken away from the front, with their bytes taken off the place: the same packet comes next, and behind
 -- it things stand as before.

@@ -17,7 +17,7 @@ use Rattle.mpeg.specs.Frame.{good}
 -- what a call is given
 pub record Asked : Type 0 where
   pub bytes : List ℕ
-  pub lens : List ℕ
+  pub lengths : List ℕ
   pub place : ℕ
   pub count : ℕ
   pub output : List ℕ
@@ -30,7 +30,7 @@ badFrames (n ∷ more) bytes = ltb (length bytes) n || (not (good (part bytes 0 
 
 abbrev pub writeRefusals : Asked → List Refusal
 writeRefusals a =
-    52 when badFrames (a .lens) (a .bytes)
+    52 when badFrames (a .lengths) (a .bytes)
     ∷ 51 when ltb (length (a .output)) mpegLength
     ∷ []
 
@@ -74,7 +74,7 @@ abbrev pub waitingFor : Asked → List ℕ
 waitingFor a = rest (a .bytes) (a .place)
 
 abbrev pub leftFor : Asked → ℕ
-leftFor a = leftAt (a .lens) (a .place)
+leftFor a = leftAt (a .lengths) (a .place)
 
 unfoldable pub wrote : Asked → WriteOutcome
 wrote a =

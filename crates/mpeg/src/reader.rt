@@ -59,9 +59,9 @@ pub fn read(packets: &[u8], output: &mut [u8], lengths: &mut [u16]) -> ReadBack
         (record {
           packets = now (packets .entry);
           output = now (output .entry);
-          lens = now (lengths .entry);
+          lengths = now (lengths .entry);
         })
-        (record { answer = r; output = now (output .exit); lens = now (lengths .exit) }) ⌝ }
+        (record { answer = r; output = now (output .exit); lengths = now (lengths .exit) }) ⌝ }
 {
     let standing = survey(packets);
     if !standing.sound {

@@ -208,7 +208,7 @@ pub fn write(frames: &[u8], lengths: &[u16], place: usize, count: u8, output: &m
     ensures { λ r. ⌜ PermitsWrite
         (record {
           bytes = now (frames .entry);
-          lens = now (lengths .entry);
+          lengths = now (lengths .entry);
           place = place;
           count = count;
           output = now (output .entry);

@@ -9,9 +9,9 @@ use lib.ListN.{length, take}
 use borrow.Author.Tests.{le-ltb}
 use Rattle.octets.specs.Bytes.{byteAt}
 use Rattle.octets.specs.Count.{sumTo}
-use Rattle.octets.specs.Stretch.{part, put, joined, lengths, cutBy}
+use Rattle.octets.specs.Stretch.{part, put, joined, lengthsOf, cutBy}
 use Rattle.octets.proofs.Counts.{true-or-false}
-use Rattle.octets.proofs.Stretches.{part-put, length-lengths, cut-joined, total, total-lengths, total-part, part-all}
+use Rattle.octets.proofs.Stretches.{part-put, length-lengthsOf, cut-joined, total, total-lengthsOf, total-part, part-all}
 use Rattle.text.specs.Text.{Wrote}
 use Rattle.text.proofs.Writing.{wrote-as}
 use Rattle.listing.specs.Listing.{refusedLine}
@@ -22,9 +22,9 @@ use Rattle.mpegframes.specs.Frames.{framesFile, gotBack, mostRead, textR
 use Rattle.mpeg.proofs.Passes.{reading-fits}
 
 -- The call, with rooms for as much as is read: the frames, or 53.
-module _ (packets output lens : List ℕ) (short : length packets ≤ mostRead) (output-long : length output ≡ mostRead) (lens-long : length lens ≡ mostRead) where
+module _ (packets output lengths : List ℕ) (short : length packets ≤ mostRead) (output-long : length output ≡ mostRead) (lengths-long : length lengths ≡ mostRead) where
   abbrev asked : AskedRead
-  asked = record { packets = packets; output = output; lens = lens }
+  asked = record { packets = packets; output = output; lengths = lengths }
 
   abbrev frames : List (List ℕ)
   frames = (reading packets) .frames
@@ -38,13 +38,13 @@ module _ (packets output lens : List ℕ) (short : length packets ≤ mostRead) 
   read-sound : (reading packets) .sound ≡ true → read asked ≡ got-back asked
   unfolding read readBy
   read-sound e =
-      rw (e, le-ltb (length output) (length (joined frames)) (omega (arith, bytes-fit, output-long)), le-ltb (length lens) (length frames) (omega (arith, frames-fit, lens-long))) refl
+      rw (e, le-ltb (length output) (length (joined frames)) (omega (arith, bytes-fit, output-long)), le-ltb (length lengths) (length frames) (omega (arith, frames-fit, lengths-long))) refl
 
   read-unsound : (reading packets) .sound ≡ false → read asked ≡ notRead 53 asked
   unfolding read readBy
   read-unsound e = rw e refl
 
-  module _ (r : ReadBack) (output′ lens′ : List ℕ) (o : record { answer = r; output = output′; lens = lens′ } ≡ read asked) where
+  module _ (r : ReadBack) (output′ lengths′ : List ℕ) (o : record { answer = r; output = output′; lengths = lengths′ } ≡ read asked) where
     pub back-refused : (r .code ≡ 0 → ⊥) → refusedLine (r .code) ≡ gotBack packets
     unfolding got-back notRead gotBack
     back-refused some = by (true-or-false ((reading packets) .sound))
@@ -62,7 +62,7 @@ module _ (packets output lens : List ℕ) (short : length packets ≤ mostRead) 
           by (inl e) = e
           by (inr e) = let is-53 : r .code ≡ 53 = ap (λ (x : ReadOutcome). x .answer .code) (o ∙ read-unsound e) in absurd (omega (arith, is-53, z))
 
-      is-back : record { answer = r; output = output′; lens = lens′ } ≡ got-back asked
+      is-back : record { answer = r; output = output′; lengths = lengths′ } ≡ got-back asked
       is-back = o ∙ read-sound is-sound
 
       pub bytes-are : r .bytes ≡ length (joined frames)
@@ -80,32 +80,32 @@ module _ (packets output lens : List ℕ) (short : length packets ≤ mostRead) 
           ∙ ap (part (put output 0 (joined frames)) 0) bytes-are
           ∙ part-put output 0 (joined frames) (omega (arith, bytes-fit, output-long))
 
-      pub front-lengths : take (r .frames) lens′ ≡ lengths frames
+      pub front-lengths : take (r .frames) lengths′ ≡ lengthsOf frames
       unfolding got-back part
       front-lengths =
-          ap (λ (x : ReadOutcome). part (x .lens) 0 (r .frames)) is-back
-          ∙ ap (part (put lens 0 (lengths frames)) 0) (count-is ∙ sym (length-lengths frames))
-          ∙ part-put lens 0 (lengths frames) (omega (arith, length-lengths frames, frames-fit, lens-long))
+          ap (λ (x : ReadOutcome). part (x .lengths) 0 (r .frames)) is-back
+          ∙ ap (part (put lengths 0 (lengthsOf frames)) 0) (count-is ∙ sym (length-lengthsOf frames))
+          ∙ part-put lengths 0 (lengthsOf frames) (omega (arith, length-lengthsOf frames, frames-fit, lengths-long))
 
       -- what packing them asks for, and gives
       sum-is : (l : List ℕ) → sumTo (byteAt l) (length l) ≡ total l
       sum-is l = sym (total-part l (length l) (omega arith)) ∙ ap total (part-all l)
 
       pub pack-asks : (text : List ℕ) → textRoom ≤ length text →
-          (sumTo (byteAt (take (r .frames) lens′)) (length (take (r .frames) lens′)) ≤ length (take (r .bytes) output′))
-          × (length (take (r .bytes) output′) + 2 * length (take (r .frames) lens′) ≤ length text)
+          (sumTo (byteAt (take (r .frames) lengths′)) (length (take (r .frames) lengths′)) ≤ length (take (r .bytes) output′))
+          × (length (take (r .bytes) output′) + 2 * length (take (r .frames) lengths′) ≤ length text)
       pack-asks text room =
           rw (front-bytes, front-lengths) (
-            omega (arith, sum-is (lengths frames), total-lengths frames),
-            omega (arith, length-lengths frames, bytes-fit, frames-fit, room),
+            omega (arith, sum-is (lengthsOf frames), total-lengthsOf frames),
+            omega (arith, length-lengthsOf frames, bytes-fit, frames-fit, room),
           )
 
-      pub pack-gives : {text text′ : List ℕ} {next : ℕ} → Wrote text text′ 0 next (framesFile (cutBy (take (r .frames) lens′) (take (r .bytes) output′))) →
+      pub pack-gives : {text text′ : List ℕ} {next : ℕ} → Wrote text text′ 0 next (framesFile (cutBy (take (r .frames) lengths′) (take (r .bytes) output′))) →
           Wrote text text′ 0 next (gotBack packets)
       unfolding gotBack
       pack-gives w =
           wrote-as
           (ap (λ (l : List ℕ). framesFile (cutBy l (take (r .bytes) output′))) front-lengths
-          ∙ ap (λ (l : List ℕ). framesFile (cutBy (lengths frames) l)) (front-bytes ∙ sym (append-nil (joined frames)))
+          ∙ ap (λ (l : List ℕ). framesFile (cutBy (lengthsOf frames) l)) (front-bytes ∙ sym (append-nil (joined frames)))
           ∙ ap framesFile (cut-joined frames [])
           ∙ ap (λ (b : Bool). cond b (framesFile frames) (refusedLine 53)) (sym is-sound)) w

@@ -5,7 +5,7 @@ use mathlib.Core.Bool.{true, false}
 use mathlib.Core.List.{List, [], _∷_}
 use lib.Dec.{eqb, ltb}
 use Rattle.octets.specs.Bytes.{be16At, be32At, two, four}
-use Rattle.octets.specs.Stretch.{part, rest, put, joined, lengths, cutBy}
+use Rattle.octets.specs.Stretch.{part, rest, put, joined, lengthsOf, cutBy}
 use Rattle.octets.specs.Count.{any, least, sumTo, upTo}
 
 numbers : (be16At (0x12 ∷ 0x34 ∷ 0x56 ∷ []) 1 ≡ 0x3456) × (be32At (0x12 ∷ 0x34 ∷ 0x56 ∷ 0x78 ∷ []) 0 ≡ 0x12345678)
@@ -20,9 +20,9 @@ stretches : (part list 1 3 ≡ 11 ∷ 12 ∷ 13 ∷ []) × (rest list 3 ≡ 13 �
 unfolding part rest put
 stretches = (refl, refl, refl, refl)
 
-back-to-back : (joined ((1 ∷ 2 ∷ []) ∷ (3 ∷ []) ∷ []) ≡ 1 ∷ 2 ∷ 3 ∷ []) × (lengths ((1 ∷ 2 ∷ []) ∷ (3 ∷ []) ∷ []) ≡ 2 ∷ 1 ∷ [])
+back-to-back : (joined ((1 ∷ 2 ∷ []) ∷ (3 ∷ []) ∷ []) ≡ 1 ∷ 2 ∷ 3 ∷ []) × (lengthsOf ((1 ∷ 2 ∷ []) ∷ (3 ∷ []) ∷ []) ≡ 2 ∷ 1 ∷ [])
     × (cutBy (2 ∷ 1 ∷ []) (1 ∷ 2 ∷ 3 ∷ 4 ∷ []) ≡ (1 ∷ 2 ∷ []) ∷ (3 ∷ []) ∷ [])
-unfolding joined lengths cutBy
+unfolding joined lengthsOf cutBy
 back-to-back = (refl, refl, refl)
 
 counts : (any (eqb 3) 3 ≡ false) × (any (eqb 3) 4 ≡ true) × (least (ltb 1) 9 ≡ 2) × (least (ltb 9) 9 ≡ 9) × (sumTo (λ k. k) 4 ≡ 6)

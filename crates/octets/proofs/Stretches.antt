@@ -9,7 +9,7 @@ use mathlib.Core.List.{List, [], _∷_, _++_, map, append-assoc, append-nil}
 use lib.ListN.{length, take, drop, set, length-append, length-take, length-drop, take-append-drop, List·getD-append}
 use lib.Seq.{length-take-le, take-length, take-take, take-append-le, take-at, take-all, drop-at, drop-cons, drop-drop, set-split, append-snoc, take-add, take-append-seam, drop-append-seam, getD-drop, getD-take, getD-append-add, ext-getD}
 use Rattle.octets.specs.Bytes.{byteAt}
-use Rattle.octets.specs.Stretch.{part, rest, put, joined, lengths, cutBy}
+use Rattle.octets.specs.Stretch.{part, rest, put, joined, lengthsOf, cutBy}
 use Rattle.octets.specs.Count.{sumTo}
 
 -- Stretches read out.
@@ -292,19 +292,19 @@ part-joined f head tail before x behind =
     (append-assoc (head ++ front ++ f x) back tail) in
     rw (whole, ← length-append head front) (part-between (head ++ front) (f x) (back ++ tail))
 
-pub lengths-append : (a b : List (List ℕ)) → lengths (a ++ b) ≡ lengths a ++ lengths b
-unfolding lengths
-lengths-append [] b = refl
-lengths-append (s ∷ a) b = ap (λ (l : List ℕ). length s ∷ l) (lengths-append a b)
+pub lengthsOf-append : (a b : List (List ℕ)) → lengthsOf (a ++ b) ≡ lengthsOf a ++ lengthsOf b
+unfolding lengthsOf
+lengthsOf-append [] b = refl
+lengthsOf-append (s ∷ a) b = ap (λ (l : List ℕ). length s ∷ l) (lengthsOf-append a b)
 
-pub length-lengths : (a : List (List ℕ)) → length (lengths a) ≡ length a
-unfolding lengths
-length-lengths [] = refl
-length-lengths (s ∷ a) = ap suc (length-lengths a)
+pub length-lengthsOf : (a : List (List ℕ)) → length (lengthsOf a) ≡ length a
+unfolding lengthsOf
+length-lengthsOf [] = refl
+length-lengthsOf (s ∷ a) = ap suc (length-lengthsOf a)
 
 -- whoever has the lengths finds the stretches again, whatever stands behind them
-pub cut-joined : (a : List (List ℕ)) (behind : List ℕ) → cutBy (lengths a) (joined a ++ behind) ≡ a
-unfolding joined lengths cutBy
+pub cut-joined : (a : List (List ℕ)) (behind : List ℕ) → cutBy (lengthsOf a) (joined a ++ behind) ≡ a
+unfolding joined lengthsOf cutBy
 cut-joined [] behind = refl
 cut-joined (s ∷ a) behind =
     rw (append-assoc s (joined a) behind, take-append-seam s (joined a ++ behind), drop-append-seam s (joined a ++ behind))
@@ -343,7 +343,7 @@ total-part l (suc i) h =
     ∙ ap (λ (n : ℕ). n + byteAt l i) (total-part l i (omega (arith, h)))
 
 -- the lengths of stretches add up to what they have back to back
-pub total-lengths : (a : List (List ℕ)) → total (lengths a) ≡ length (joined a)
-unfolding lengths joined
-total-lengths [] = refl
-total-lengths (s ∷ a) = omega (arith, total-lengths a, length-append s (joined a))
+pub total-lengthsOf : (a : List (List ℕ)) → total (lengthsOf a) ≡ length (joined a)
+unfolding lengthsOf joined
+total-lengthsOf [] = refl
+total-lengthsOf (s ∷ a) = omega (arith, total-lengthsOf a, length-append s (joined a))

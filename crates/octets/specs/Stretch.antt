@@ -23,9 +23,9 @@ unfoldable pub joined : List (List ℕ) → List ℕ
 joined [] = []
 joined (s ∷ more) = s ++ joined more
 
-unfoldable pub lengths : List (List ℕ) → List ℕ
-lengths [] = []
-lengths (s ∷ more) = length s ∷ lengths more
+unfoldable pub lengthsOf : List (List ℕ) → List ℕ
+lengthsOf [] = []
+lengthsOf (s ∷ more) = length s ∷ lengthsOf more
 
 -- the other way: bytes taken apart again into stretches of the given lengths; what is left over belongs to none
 unfoldable pub cutBy : List ℕ → List ℕ → List (List ℕ)

@@ -64,23 +64,23 @@ module _ {X : Type 0} (l : Load X) (fitting : Fitting l) where
 
 -- The loop's invariant.
 abbrev pub without : List ℕ → List ℕ → Slices
-without out lens = asSlices [] out lens
+without out lengths = asSlices [] out lengths
 
-pub record Carrying {X : Type 0} (l : Load X) (out lens out′ lens′ : List ℕ) (tally : Tally) (k : ℕ) : Type 0 where
+pub record Carrying {X : Type 0} (l : Load X) (out lengths out′ lengths′ : List ℕ) (tally : Tally) (k : ℕ) : Type 0 where
   pub within : k ≤ l .count
-  pub placed : Placed (fateAt l k) 0 nothingYet (without out lens) tally (without out′ lens′)
+  pub placed : Placed (fateAt l k) 0 nothingYet (without out lengths) tally (without out′ lengths′)
 
 -- the counts before the first piece
-pub carry-begin : {X : Type 0} (l : Load X) (out lens : List ℕ) (tally : Tally) →
-    tally ≡ record { held = 0; frames = 0; bytes = 0; dropped = length (l .held) } → Carrying l out lens out lens tally 0
+pub carry-begin : {X : Type 0} (l : Load X) (out lengths : List ℕ) (tally : Tally) →
+    tally ≡ record { held = 0; frames = 0; bytes = 0; dropped = length (l .held) } → Carrying l out lengths out lengths tally 0
 unfolding inOrder upTo
-carry-begin l out lens tally e =
+carry-begin l out lengths tally e =
     rw e
-    (record { within = omega arith; placed = placed-dropping 0 nothingYet (without out lens) (l .held) _ refl refl refl (omega arith) })
+    (record { within = omega arith; placed = placed-dropping 0 nothingYet (without out lengths) (l .held) _ refl refl refl (omega arith) })
 
-module _ {X : Type 0} (l : Load X) (fitting : Fitting l) {out lens : List ℕ}
-    (room : mostBytes ≤ length out) (places : mostFrames ≤ length lens)
-    {out′ lens′ : List ℕ} {tally : Tally} {k : ℕ} (c : Carrying l out lens out′ lens′ tally k) where
+module _ {X : Type 0} (l : Load X) (fitting : Fitting l) {out lengths : List ℕ}
+    (room : mostBytes ≤ length out) (places : mostFrames ≤ length lengths)
+    {out′ lengths′ : List ℕ} {tally : Tally} {k : ℕ} (c : Carrying l out lengths out′ lengths′ tally k) where
   account : Accounts (length (l .held) + sumTo (l .size) k) k 0 (fateAt l k)
   account = fate-accounts l fitting k (c .within)
 
@@ -88,13 +88,13 @@ module _ {X : Type 0} (l : Load X) (fitting : Fitting l) {out lens : List ℕ}
   few = omega (arith, fitting .bytes-few, sum-below (l .size) k (l .count) (c .within))
 
   -- the slices are as long as they were
-  pub carry-lengths : (length out′ ≡ length out) × (length lens′ ≡ length lens)
+  pub carry-lengths : (length out′ ≡ length out) × (length lengths′ ≡ length lengths)
   carry-lengths = (
     output-long (c .placed) account (omega (arith, few)),
     lengths-long (c .placed) account (omega (arith, c .within, fitting .frames-few)),
   )
 
-  pub carry-room : (mostBytes ≤ length out′) × (mostFrames ≤ length lens′)
+  pub carry-room : (mostBytes ≤ length out′) × (mostFrames ≤ length lengths′)
   carry-room = (omega (arith, carry-lengths .0), omega (arith, carry-lengths .1))
 
   pub carry-within : Within tally
@@ -117,10 +117,10 @@ module _ {X : Type 0} (l : Load X) (fitting : Fitting l) {out lens : List ℕ}
           frames-few = omega (arith, n .frames-few, fitting .frames-few);
         }
 
-    pub carry-turn : (r : Tally) (out″ lens″ : List ℕ) →
-        Placed (passedOn (l .goes (l .piece k)) (l .body (l .piece k))) 0 tally (without out′ lens′) r (without out″ lens″) →
-        Carrying l out lens out″ lens″ r (k + 1)
-    carry-turn r out″ lens″ q =
+    pub carry-turn : (r : Tally) (out″ lengths″ : List ℕ) →
+        Placed (passedOn (l .goes (l .piece k)) (l .body (l .piece k))) 0 tally (without out′ lengths′) r (without out″ lengths″) →
+        Carrying l out lengths out″ lengths″ r (k + 1)
+    carry-turn r out″ lengths″ q =
         let n = placed-counted (c .placed) account in
         record {
           within = omega arith;
@@ -130,14 +130,14 @@ module _ {X : Type 0} (l : Load X) (fitting : Fitting l) {out lens : List ℕ}
         }
 
   pub carry-end : l .count ≤ k →
-      Placed (passAll (l .goes) (l .body) (l .held) (upTo (l .piece) (l .count))) 0 nothingYet (without out lens) tally (without out′ lens′)
+      Placed (passAll (l .goes) (l .body) (l .held) (upTo (l .piece) (l .count))) 0 nothingYet (without out lengths) tally (without out′ lengths′)
   unfolding passAll
   carry-end over = let done : k ≡ l .count = omega (arith, c .within) in rw done at (c .placed)
 
 -- A fate that holds nothing leaves any holding slice as it was.
-pub placed-anywhere : {f : Fate} {out lens out′ lens′ : List ℕ} {a b : Tally} →
-    Placed f 0 a (without out lens) b (without out′ lens′) → f .held ≡ [] →
-    (hold : List ℕ) (place : ℕ) → Placed f place a (asSlices hold out lens) b (asSlices hold out′ lens′)
+pub placed-anywhere : {f : Fate} {out lengths out′ lengths′ : List ℕ} {a b : Tally} →
+    Placed f 0 a (without out lengths) b (without out′ lengths′) → f .held ≡ [] →
+    (hold : List ℕ) (place : ℕ) → Placed f place a (asSlices hold out lengths) b (asSlices hold out′ lengths′)
 placed-anywhere {f} p none hold place =
     record {
       held-now = p .held-now;

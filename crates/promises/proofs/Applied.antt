@@ -4,7 +4,7 @@ use Prim.Native.Nat.{ℕ}
 use mathlib.Core.Path.{_≡_, refl}
 use mathlib.Core.List.{List, [], _∷_, _++_}
 use lib.ListN.{length, replicate}
-use Rattle.octets.specs.Stretch.{part, rest, put, joined, lengths, cutBy}
+use Rattle.octets.specs.Stretch.{part, rest, put, joined, lengthsOf, cutBy}
 use Rattle.octets.specs.Count.{any, least, sumTo, upTo}
 use Rattle.flow.specs.declared.Flow.{Flow}
 use Rattle.flow.specs.Flow.{fresh}
@@ -55,7 +55,7 @@ abbrev comes : Arrival
 comes = record { packet = inUdp four; output = replicate 6144 0; lengths = replicate 127 0 }
 
 delivers-alone : DeliversAlone waiting comes
-unfolding part rest put joined lengths any least sumTo upTo bodyAt segmentAt segments wanted broken inOrder passAll unnumberedFate hear
+unfolding part rest put joined lengthsOf any least sumTo upTo bodyAt segmentAt segments wanted broken inOrder passAll unnumberedFate hear
     carriedOut refused receivedBy received answer
 delivers-alone = unnumbered-delivers waiting comes refl refl refl
 
@@ -103,7 +103,7 @@ alone =
     }
 
 delivers-beside : DeliversAlone beside alone
-unfolding part rest put joined lengths any least sumTo upTo bodyAt segmentAt segments wanted broken inOrder passAll unnumberedFate hear
+unfolding part rest put joined lengthsOf any least sumTo upTo bodyAt segmentAt segments wanted broken inOrder passAll unnumberedFate hear
     carriedOut refused receivedBy received answer
 delivers-beside = unnumbered-delivers beside alone refl refl refl
 

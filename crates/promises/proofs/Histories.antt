@@ -38,9 +38,9 @@ psp-check packet z =
     let both = none-apart (beforeSession packet) (pspRefusals entryWidth (sub packet)) (n .1) in
     (none-first (beforeSession packet) (both .0), none-first (pspRefusals entryWidth (sub packet)) (both .1))
 
-enough : (holding out lens : List ℕ) → holdingSize ≤ length holding → mostBytes ≤ length out → mostFrames ≤ length lens → tooSmall (asSlices holding out lens) ≡ false
-enough holding out lens h o l =
-    rw (le-ltb (length holding) holdingSize h, le-ltb (length out) mostBytes o, le-ltb (length lens) mostFrames l) refl
+enough : (holding out lengths : List ℕ) → holdingSize ≤ length holding → mostBytes ≤ length out → mostFrames ≤ length lengths → tooSmall (asSlices holding out lengths) ≡ false
+enough holding out lengths h o l =
+    rw (le-ltb (length holding) holdingSize h, le-ltb (length out) mostBytes o, le-ltb (length lengths) mostFrames l) refl
 
 module _ (session flow : ℕ) (inside : flow < flows) where
   -- what is known of a card in the middle of such a history

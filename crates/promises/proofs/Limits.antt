@@ -6,8 +6,8 @@ use mathlib.Core.List.{List, []}
 use native.Mathlib.Omega.{arith}
 use lib.ListN.{length}
 use Rattle.octets.specs.Each.{Each}
-use Rattle.octets.specs.Stretch.{part, rest, put, joined, lengths, cutBy}
-use Rattle.octets.proofs.Stretches.{length-lengths, part-none, part-put, put-front, cut-joined}
+use Rattle.octets.specs.Stretch.{part, rest, put, joined, lengthsOf, cutBy}
+use Rattle.octets.proofs.Stretches.{length-lengthsOf, part-none, part-put, put-front, cut-joined}
 use Rattle.packet.specs.Header.{Packet, sub}
 use Rattle.table.specs.declared.Table.{Table}
 use Rattle.table.specs.Rows.{termsAt}
@@ -24,18 +24,18 @@ use Rattle.promises.proofs.Sizes.{Sized, packet-sized}
 
 -- Frames and their lengths, put at the front of two slices, are found there. (Of the output no room is asked: `put` at the front has the whole of
 -- what it puts.)
-pub frames-back : (frames : List (List ℕ)) (lens out : List ℕ) → length frames ≤ length lens →
-    framesFound (length frames) (put lens 0 (lengths frames)) (put out 0 (joined frames)) ≡ frames
-frames-back frames lens out room =
-    let n = length-lengths frames in
-    let read : part (put lens 0 (lengths frames)) 0 (length frames) ≡ lengths frames =
-    ap (part (put lens 0 (lengths frames)) 0) (sym n) ∙ part-put lens 0 (lengths frames) (omega (arith, n)) in
+pub frames-back : (frames : List (List ℕ)) (lengths out : List ℕ) → length frames ≤ length lengths →
+    framesFound (length frames) (put lengths 0 (lengthsOf frames)) (put out 0 (joined frames)) ≡ frames
+frames-back frames lengths out room =
+    let n = length-lengthsOf frames in
+    let read : part (put lengths 0 (lengthsOf frames)) 0 (length frames) ≡ lengthsOf frames =
+    ap (part (put lengths 0 (lengthsOf frames)) 0) (sym n) ∙ part-put lengths 0 (lengthsOf frames) (omega (arith, n)) in
     rw (read, put-front out (joined frames)) (cut-joined frames (rest out (0 + length (joined frames))))
 
 -- where no frame is counted, none is found
-none-found : (lens out : List ℕ) → framesFound 0 lens out ≡ []
+none-found : (lengths out : List ℕ) → framesFound 0 lengths out ≡ []
 unfolding cutBy
-none-found lens out = rw (part-none lens 0) refl
+none-found lengths out = rw (part-none lengths 0) refl
 
 -- The frames that the caller of the data call finds.
 sized-by : (c : ℕ) (t : Table) (packet : Packet) (s : Slices) → received t packet s .answer .code ≡ c →
@@ -47,7 +47,7 @@ sized-by zero t packet s e =
     let r = rowOf t packet in
     let after = sub packet in
     let frames = heardBy t r after s .fate .delivered in
-    let found : framesFound (length frames) (put (s .lengths) 0 (lengths frames)) (put (s .output) 0 (joined frames)) ≡ frames =
+    let found : framesFound (length frames) (put (s .lengths) 0 (lengthsOf frames)) (put (s .output) 0 (joined frames)) ≡ frames =
     frames-back frames (s .lengths) (s .output) (omega (arith, b .frames-few, large-enough s (a .large) .lengths-enough)) in
     rw (received-accepted t packet s e, found)
     (packet-sized (termsAt t r) (judgedOf (flowOf t r after) after .gap) (heldBy t r after s) after (omega arith) (a .passed))

@@ -43,9 +43,9 @@ pub when-refused : {A : Type 0} (n : ℕ) → (n ≡ 0 → ⊥) → (x y : A) �
 when-refused n some x y = rw (ne-eqb n 0 some) refl
 
 -- where no frame is reported, none is found
-pub no-frames : (lens out : List ℕ) → joined (framesFound 0 lens out) ≡ []
+pub no-frames : (lengths out : List ℕ) → joined (framesFound 0 lengths out) ≡ []
 unfolding joined
-no-frames lens out = ap joined (none-found lens out)
+no-frames lengths out = ap joined (none-found lengths out)
 
 module _ {m : List ℕ → ℕ} {kept : List ℕ → ℕ → Flow → ℕ} (w : Keeps m kept) (c : Card) (good : Good c) where
   -- Opening takes a free row, and a free row of a table that is not broken holds nothing.

@@ -5,7 +5,7 @@ use mathlib.Core.Bool.{Bool, cond, _||_}
 use mathlib.Core.List.{List, [], _∷_, _++_}
 use lib.Dec.{eqb, ltb}
 use lib.ListN.{length}
-use Rattle.octets.specs.Stretch.{joined, lengths}
+use Rattle.octets.specs.Stretch.{joined, lengthsOf}
 use Rattle.octets.specs.Count.{sumTo}
 use Rattle.refusal.specs.Refusal.{Refusal, first, _when_}
 use Rattle.flow.specs.declared.Flow.{Flow}
@@ -33,7 +33,7 @@ begun q = record { terms = termsOf (freshRow q); flow = λ k. fresh; held = λ k
 -- What a packet of it is refused by, in order: 1 by the lengths of the three slices, 2 to 4, 6, 7 and 9 to 11 by its kind, 12 by the
 -- packet's flow. (13 and 5 are left out: no card that calls can have come to is broken, and the session is open.)
 abbrev pub short : ℕ → ℕ → ℕ → Bool
-short holding out lens = ltb holding holdingSize || ltb out mostBytes || ltb lens mostFrames
+short holding out lengths = ltb holding holdingSize || ltb out mostBytes || ltb lengths mostFrames
 
 -- the flow that a packet of it names
 abbrev pub flowOfIt : Session → List ℕ → ℕ
@@ -43,8 +43,8 @@ abbrev pub behindId : Session → List ℕ → List Refusal
 behindId a sub = packetRefusals (a .terms) sub ++ (12 when (judgedOf (a .flow (flowOfIt a sub)) sub) .late ∷ [])
 
 abbrev pub refusal : ℕ → Session → Packet → ℕ → ℕ → ℕ
-refusal holding a packet out lens =
-    first (1 when short holding out lens ∷ beforeSession packet ++ behindId a (sub packet))
+refusal holding a packet out lengths =
+    first (1 when short holding out lengths ∷ beforeSession packet ++ behindId a (sub packet))
 
 -- What its flow makes of a packet, and the session afterwards.
 abbrev pub hears : Session → List ℕ → Heard
@@ -67,7 +67,7 @@ toldOf h =
       dropped = length (h .fate .dropped);
       gap = h .judged .gap;
       output = joined (h .fate .delivered);
-      lengths = lengths (h .fate .delivered);
+      lengths = lengthsOf (h .fate .delivered);
     }
 
 abbrev pub toldOnly : ℕ → ℕ → Told
@@ -88,7 +88,7 @@ sessionAt (suc n) a sub = a
 -- What it is told in answer to its own calls, up to its close. `holding` is the length of the holding slice.
 unfoldable pub toldAlone : ℕ → Session → List Own → List Told
 toldAlone holding a [] = []
-toldAlone holding a (gets packet out lens ∷ more) =
-    let n = refusal holding a packet out lens in
+toldAlone holding a (gets packet out lengths ∷ more) =
+    let n = refusal holding a packet out lengths in
     toldAt n a (sub packet) ∷ toldAlone holding (sessionAt n a (sub packet)) more
 toldAlone holding a (ends ∷ more) = toldOnly 0 (heldBySession a) ∷ []

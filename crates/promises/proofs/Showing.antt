@@ -9,9 +9,9 @@ use native.Mathlib.Omega.{arith}
 use lib.Dec.{eqb, ltb}
 use lib.ListN.{length}
 use borrow.Author.Tests.{eqb-true, eqb-false, eq-eqb, ne-eqb, lt-ltb}
-use Rattle.octets.specs.Stretch.{part, put, joined, lengths}
+use Rattle.octets.specs.Stretch.{part, put, joined, lengthsOf}
 use Rattle.octets.proofs.Counts.{true-or-false}
-use Rattle.octets.proofs.Stretches.{part-none, part-put, length-lengths}
+use Rattle.octets.proofs.Stretches.{part-none, part-put, length-lengthsOf}
 use Rattle.refusal.specs.Refusal.{Refusal, first, _when_}
 use Rattle.refusal.proofs.Laws.{and-right, first-stopped}
 use Rattle.flow.specs.declared.Flow.{Flow}
@@ -67,9 +67,9 @@ carried-told : (r k : ℕ) (h : Heard) (t : Table) (s : Slices) → length (join
 unfolding carriedOut
 carried-told r k h t s bytes frames =
     let d = h .fate .delivered in
-    let n = length-lengths d in
-    let read : part (put (s .lengths) 0 (lengths d)) 0 (length d) ≡ lengths d =
-    ap (part (put (s .lengths) 0 (lengths d)) 0) (sym n) ∙ part-put (s .lengths) 0 (lengths d) (omega (arith, n)) in
+    let n = length-lengthsOf d in
+    let read : part (put (s .lengths) 0 (lengthsOf d)) 0 (length d) ≡ lengthsOf d =
+    ap (part (put (s .lengths) 0 (lengthsOf d)) 0) (sym n) ∙ part-put (s .lengths) 0 (lengthsOf d) (omega (arith, n)) in
     rw (part-put (s .output) 0 (joined d) (omega arith), read) refl
 
 -- A packet of the session.

@@ -107,7 +107,7 @@ abbrev pub held2 : List ℕ
 held2 = 0x21 ∷ 0x22 ∷ []
 
 abbrev pub m12 : Job
-m12 = record { session = 0x101; flow = 1; bytes = of6 ++ of9; lens = 6 ∷ 9 ∷ [] }
+m12 = record { session = 0x101; flow = 1; bytes = of6 ++ of9; lengths = 6 ∷ 9 ∷ [] }
 
 abbrev pub limit16 : Turn
 limit16 = record { limit = 16; output = replicate 20 0 }

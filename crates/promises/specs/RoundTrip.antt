@@ -33,7 +33,7 @@ pub record Given : Type 0 where
   pub enough : length (job .bytes) ≤ length turns
 
 abbrev pub framesGiven : Given → List (List ℕ)
-framesGiven g = cutBy (g .job .lens) (g .job .bytes)
+framesGiven g = cutBy (g .job .lengths) (g .job .bytes)
 
 -- the sender's packets, as they go out, and where they go
 abbrev pub packetsGiven : Given → List Packet

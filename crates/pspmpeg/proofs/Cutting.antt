@@ -8,15 +8,15 @@ use lib.ListN.{length, take, drop, set, length-drop}
 use lib.Seq.{length-take-le}
 use Rattle.octets.specs.Bytes.{byteAt}
 use Rattle.octets.specs.Count.{sumTo}
-use Rattle.octets.specs.Stretch.{part, put, joined, lengths, cutBy}
+use Rattle.octets.specs.Stretch.{part, put, joined, lengthsOf, cutBy}
 use Rattle.octets.proofs.Counts.{sum-none, sum-more}
-use Rattle.octets.proofs.Stretches.{length-part, part-none, part-part-front, part-more, length-put, put-nil, put-put, set-put, length-lengths, total, total-part}
+use Rattle.octets.proofs.Stretches.{length-part, part-none, part-part-front, part-more, length-put, put-nil, put-put, set-put, length-lengthsOf, total, total-part}
 use Rattle.card.specs.Receive.{framesFound}
 use Rattle.pspmpeg.specs.declared.gather.Gathered.{Gathered}
 use Rattle.pspmpeg.specs.Inside.{Adds, FitsFound}
 
-pub lengths-cut : (l bytes : List ℕ) → total l ≤ length bytes → lengths (cutBy l bytes) ≡ l
-unfolding lengths cutBy
+pub lengths-cut : (l bytes : List ℕ) → total l ≤ length bytes → lengthsOf (cutBy l bytes) ≡ l
+unfolding lengthsOf cutBy
 lengths-cut [] bytes h = refl
 lengths-cut (n ∷ l) bytes h =
     let front : length (take n bytes) ≡ n = length-take-le n bytes (omega (arith, h)) in
@@ -29,77 +29,77 @@ joined-cut [] bytes = refl
 joined-cut (n ∷ l) bytes = ap (λ (x : List ℕ). take n bytes ++ x) (joined-cut l (drop n bytes)) ∙ part-part-front bytes n (total l)
 
 -- the frames that a call has left in two slices
-module _ (output lens : List ℕ) (more : ℕ) (lens-there : more ≤ length lens) (bytes-there : sumTo (byteAt lens) more ≤ length output) where
-  total-is : total (part lens 0 more) ≡ sumTo (byteAt lens) more
-  total-is = total-part lens more lens-there
+module _ (output lengths : List ℕ) (more : ℕ) (lengths-there : more ≤ length lengths) (bytes-there : sumTo (byteAt lengths) more ≤ length output) where
+  total-is : total (part lengths 0 more) ≡ sumTo (byteAt lengths) more
+  total-is = total-part lengths more lengths-there
 
-  pub found-lengths : lengths (framesFound more lens output) ≡ part lens 0 more
-  found-lengths = lengths-cut (part lens 0 more) output (omega (arith, total-is, bytes-there))
+  pub found-lengths : lengthsOf (framesFound more lengths output) ≡ part lengths 0 more
+  found-lengths = lengths-cut (part lengths 0 more) output (omega (arith, total-is, bytes-there))
 
-  pub found-joined : joined (framesFound more lens output) ≡ part output 0 (sumTo (byteAt lens) more)
-  found-joined = joined-cut (part lens 0 more) output ∙ ap (part output 0) total-is
+  pub found-joined : joined (framesFound more lengths output) ≡ part output 0 (sumTo (byteAt lengths) more)
+  found-joined = joined-cut (part lengths 0 more) output ∙ ap (part output 0) total-is
 
-  pub found-many : length (framesFound more lens output) ≡ more
+  pub found-many : length (framesFound more lengths output) ≡ more
   found-many =
-      sym (length-lengths (framesFound more lens output)) ∙ ap length found-lengths ∙ length-part lens 0 more (omega (arith, lens-there))
+      sym (length-lengthsOf (framesFound more lengths output)) ∙ ap length found-lengths ∙ length-part lengths 0 more (omega (arith, lengths-there))
 
-  pub found-long : length (joined (framesFound more lens output)) ≡ sumTo (byteAt lens) more
-  found-long = ap length found-joined ∙ length-part output 0 (sumTo (byteAt lens) more) (omega (arith, bytes-there))
+  pub found-long : length (joined (framesFound more lengths output)) ≡ sumTo (byteAt lengths) more
+  found-long = ap length found-joined ∙ length-part output 0 (sumTo (byteAt lengths) more) (omega (arith, bytes-there))
 
 -- Their lengths, put one by one behind those before.
-pub record Appending (lens sizes₀ sizes : List ℕ) (count more sum i : ℕ) : Type 0 where
+pub record Appending (lengths sizes₀ sizes : List ℕ) (count more sum i : ℕ) : Type 0 where
   pub within : i ≤ more
-  pub sizes-now : sizes ≡ put sizes₀ count (part lens 0 i)
-  pub sum-is : sum ≡ sumTo (byteAt lens) i
+  pub sizes-now : sizes ≡ put sizes₀ count (part lengths 0 i)
+  pub sum-is : sum ≡ sumTo (byteAt lengths) i
 
-pub append-begin : (lens sizes : List ℕ) (count more : ℕ) → Appending lens sizes sizes count more 0 0
-append-begin lens sizes count more =
+pub append-begin : (lengths sizes : List ℕ) (count more : ℕ) → Appending lengths sizes sizes count more 0 0
+append-begin lengths sizes count more =
     record {
       within = omega arith;
-      sizes-now = sym (ap (put sizes count) (part-none lens 0) ∙ put-nil sizes count);
-      sum-is = sym (sum-none (byteAt lens));
+      sizes-now = sym (ap (put sizes count) (part-none lengths 0) ∙ put-nil sizes count);
+      sum-is = sym (sum-none (byteAt lengths));
     }
 
-module _ {lens sizes₀ sizes : List ℕ} {count more sum i : ℕ} (a : Appending lens sizes₀ sizes count more sum i)
-    (lens-there : more ≤ length lens) (sizes-fit : count + more ≤ length sizes₀) where
-  so-long : length (part lens 0 i) ≡ i
-  so-long = length-part lens 0 i (omega (arith, a .within, lens-there))
+module _ {lengths sizes₀ sizes : List ℕ} {count more sum i : ℕ} (a : Appending lengths sizes₀ sizes count more sum i)
+    (lengths-there : more ≤ length lengths) (sizes-fit : count + more ≤ length sizes₀) where
+  so-long : length (part lengths 0 i) ≡ i
+  so-long = length-part lengths 0 i (omega (arith, a .within, lengths-there))
 
   pub sizes-same : length sizes ≡ length sizes₀
-  sizes-same = ap length (a .sizes-now) ∙ length-put sizes₀ count (part lens 0 i) (omega (arith, so-long, a .within, sizes-fit))
+  sizes-same = ap length (a .sizes-now) ∙ length-put sizes₀ count (part lengths 0 i) (omega (arith, so-long, a .within, sizes-fit))
 
-  pub append-turn : i < more → (size : ℕ) → size ≡ byteAt lens i → {sizes′ : List ℕ} → sizes′ ≡ set sizes (count + i) size →
-      Appending lens sizes₀ sizes′ count more (sum + size) (i + 1)
+  pub append-turn : i < more → (size : ℕ) → size ≡ byteAt lengths i → {sizes′ : List ℕ} → sizes′ ≡ set sizes (count + i) size →
+      Appending lengths sizes₀ sizes′ count more (sum + size) (i + 1)
   append-turn h size e {sizes′} w =
       let below : count + i < length sizes = omega (arith, sizes-same, h, sizes-fit) in
-      let behind : count + i ≡ count + length (part lens 0 i) = omega (arith, so-long) in
+      let behind : count + i ≡ count + length (part lengths 0 i) = omega (arith, so-long) in
       record {
         within = omega (arith, h);
         sizes-now =
             w ∙ set-put sizes (count + i) size below
             ∙ ap (λ (l : List ℕ). put l (count + i) (size ∷ [])) (a .sizes-now)
-            ∙ ap (λ (n : ℕ). put (put sizes₀ count (part lens 0 i)) n (size ∷ [])) behind
-            ∙ put-put sizes₀ count (part lens 0 i) (size ∷ []) (omega (arith, so-long, a .within, sizes-fit))
-            ∙ ap (λ (n : ℕ). put sizes₀ count (part lens 0 i ++ (n ∷ []))) e
-            ∙ ap (put sizes₀ count) (sym (part-more lens i (omega (arith, h, lens-there))));
-        sum-is = omega (arith, a .sum-is, e, sum-more (byteAt lens) i);
+            ∙ ap (λ (n : ℕ). put (put sizes₀ count (part lengths 0 i)) n (size ∷ [])) behind
+            ∙ put-put sizes₀ count (part lengths 0 i) (size ∷ []) (omega (arith, so-long, a .within, sizes-fit))
+            ∙ ap (λ (n : ℕ). put sizes₀ count (part lengths 0 i ++ (n ∷ []))) e
+            ∙ ap (put sizes₀ count) (sym (part-more lengths i (omega (arith, h, lengths-there))));
+        sum-is = omega (arith, a .sum-is, e, sum-more (byteAt lengths) i);
       }
 
-  pub all-appended : more ≤ i → (sizes ≡ put sizes₀ count (part lens 0 more)) × (sum ≡ sumTo (byteAt lens) more)
+  pub all-appended : more ≤ i → (sizes ≡ put sizes₀ count (part lengths 0 more)) × (sum ≡ sumTo (byteAt lengths) more)
   all-appended past =
       let all : i ≡ more = omega (arith, a .within, past) in
-      (a .sizes-now ∙ ap (λ (n : ℕ). put sizes₀ count (part lens 0 n)) all, a .sum-is ∙ ap (sumTo (byteAt lens)) all)
+      (a .sizes-now ∙ ap (λ (n : ℕ). put sizes₀ count (part lengths 0 n)) all, a .sum-is ∙ ap (sumTo (byteAt lengths)) all)
 
-pub append-adds : {output lens bytes sizes bytes′ sizes′ : List ℕ} {more sum : ℕ} {g : Gathered} → FitsFound output lens more bytes sizes g →
-    bytes′ ≡ put bytes (g .bytes) (part output 0 sum) → (sizes′ ≡ put sizes (g .count) (part lens 0 more)) × (sum ≡ sumTo (byteAt lens) more) →
-    Adds (framesFound more lens output) bytes sizes bytes′ sizes′ g (record { count = g .count + more; bytes = g .bytes + sum })
-append-adds {output} {lens} {bytes} {sizes} {bytes′} {sizes′} {more} {sum} {g} f b (s, e) =
+pub append-adds : {output lengths bytes sizes bytes′ sizes′ : List ℕ} {more sum : ℕ} {g : Gathered} → FitsFound output lengths more bytes sizes g →
+    bytes′ ≡ put bytes (g .bytes) (part output 0 sum) → (sizes′ ≡ put sizes (g .count) (part lengths 0 more)) × (sum ≡ sumTo (byteAt lengths) more) →
+    Adds (framesFound more lengths output) bytes sizes bytes′ sizes′ g (record { count = g .count + more; bytes = g .bytes + sum })
+append-adds {output} {lengths} {bytes} {sizes} {bytes′} {sizes′} {more} {sum} {g} f b (s, e) =
     record {
       bytes-then = b ∙ ap (λ (n : ℕ). put bytes (g .bytes) (part output 0 n)) e
-          ∙ ap (put bytes (g .bytes)) (sym (found-joined output lens more (f .lens-there) (f .bytes-there)));
-      sizes-then = s ∙ ap (put sizes (g .count)) (sym (found-lengths output lens more (f .lens-there) (f .bytes-there)));
+          ∙ ap (put bytes (g .bytes)) (sym (found-joined output lengths more (f .lengths-there) (f .bytes-there)));
+      sizes-then = s ∙ ap (put sizes (g .count)) (sym (found-lengths output lengths more (f .lengths-there) (f .bytes-there)));
       counts-then =
-          ap (λ (n : ℕ). record { count = g .count + n; bytes = g .bytes + sum }) (sym (found-many output lens more (f .lens-there) (f .bytes-there)))
-          ∙ ap (λ (n : ℕ). record { count = g .count + length (framesFound more lens output); bytes = g .bytes + n })
-          (e ∙ sym (found-long output lens more (f .lens-there) (f .bytes-there)));
+          ap (λ (n : ℕ). record { count = g .count + n; bytes = g .bytes + sum }) (sym (found-many output lengths more (f .lengths-there) (f .bytes-there)))
+          ∙ ap (λ (n : ℕ). record { count = g .count + length (framesFound more lengths output); bytes = g .bytes + n })
+          (e ∙ sym (found-long output lengths more (f .lengths-there) (f .bytes-there)));
     }

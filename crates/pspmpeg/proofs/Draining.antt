@@ -10,7 +10,7 @@ use lib.Dec.{leb}
 use lib.ListN.{length, replicate, length-append, length-replicate}
 use lib.Seq.{take-append-seam, drop-append-seam}
 use borrow.Author.Tests.{leb-true, leb-false, le-ltb}
-use Rattle.octets.specs.Stretch.{part, rest, put, joined, lengths}
+use Rattle.octets.specs.Stretch.{part, rest, put, joined, lengthsOf}
 use Rattle.octets.proofs.Counts.{true-or-false}
 use Rattle.octets.proofs.Stretches.{length-part, part-short, length-rest, length-put, part-put, put-nil, put-put-front, joined-one-more}
 use Rattle.packet.specs.Dmpt.{mpegLength}
@@ -69,15 +69,15 @@ something [] some = absurd (not-suc-le-zero some)
 something (x ∷ l) some = refl
 
 -- The writer's answer depends on the frames, and on the room for a packet, which is there.
-module _ (bytes lens packet : List ℕ) (long : length packet ≡ mpegLength) (place count : ℕ) where
+module _ (bytes lengths packet : List ℕ) (long : length packet ≡ mpegLength) (place count : ℕ) where
   abbrev asked : Asked
-  asked = record { bytes = bytes; lens = lens; place = place; count = count; output = packet }
+  asked = record { bytes = bytes; lengths = lengths; place = place; count = count; output = packet }
 
-  pub written-sound : badFrames lens bytes ≡ false → written asked ≡ wrote asked
+  pub written-sound : badFrames lengths bytes ≡ false → written asked ≡ wrote asked
   unfolding written writtenBy
   written-sound h = rw (h, le-ltb (length packet) mpegLength (omega (arith, long))) refl
 
-  written-bad : badFrames lens bytes ≡ true → written asked ≡ refused 52 asked
+  written-bad : badFrames lengths bytes ≡ true → written asked ≡ refused 52 asked
   unfolding written writtenBy
   written-bad h = rw h refl
 
@@ -85,33 +85,33 @@ module _ (bytes lens packet : List ℕ) (long : length packet ≡ mpegLength) (p
     abbrev answered : WriteOutcome → ℕ
     answered o = o .answer .code
 
-    pub code-sound : r .code ≡ 0 → badFrames lens bytes ≡ false
+    pub code-sound : r .code ≡ 0 → badFrames lengths bytes ≡ false
     unfolding refused
-    code-sound z = by (true-or-false (badFrames lens bytes))
+    code-sound z = by (true-or-false (badFrames lengths bytes))
       where
-        by : (badFrames lens bytes ≡ true) ⊎ (badFrames lens bytes ≡ false) → badFrames lens bytes ≡ false
+        by : (badFrames lengths bytes ≡ true) ⊎ (badFrames lengths bytes ≡ false) → badFrames lengths bytes ≡ false
         by (inl h) = let is-52 : r .code ≡ 52 = ap answered (e ∙ written-bad h) in absurd (omega (arith, is-52, z))
         by (inr h) = h
 
-    pub code-bad : (r .code ≡ 0 → ⊥) → refusedLine (r .code) ≡ streamFrom bytes lens
+    pub code-bad : (r .code ≡ 0 → ⊥) → refusedLine (r .code) ≡ streamFrom bytes lengths
     unfolding refused wrote streamFrom
-    code-bad some = by (true-or-false (badFrames lens bytes))
+    code-bad some = by (true-or-false (badFrames lengths bytes))
       where
-        by : (badFrames lens bytes ≡ true) ⊎ (badFrames lens bytes ≡ false) → refusedLine (r .code) ≡ streamFrom bytes lens
+        by : (badFrames lengths bytes ≡ true) ⊎ (badFrames lengths bytes ≡ false) → refusedLine (r .code) ≡ streamFrom bytes lengths
         by (inl h) = ap (λ (n : ℕ). refusedLine n) (ap answered (e ∙ written-bad h)) ∙ rw h refl
         by (inr h) = absurd (some (ap answered (e ∙ written-sound h)))
 
-none-waits : (n : ℕ) (bytes lens : List ℕ) (place count : ℕ) → length (rest bytes place) ≡ 0 → packetsFrom n bytes lens place count ≡ []
+none-waits : (n : ℕ) (bytes lengths : List ℕ) (place count : ℕ) → length (rest bytes place) ≡ 0 → packetsFrom n bytes lengths place count ≡ []
 unfolding packetsFrom
-none-waits zero bytes lens place count e = refl
-none-waits (suc n) bytes lens place count e = rw (none-is (rest bytes place) e) refl
+none-waits zero bytes lengths place count e = refl
+none-waits (suc n) bytes lengths place count e = rw (none-is (rest bytes place) e) refl
 
-pub record Draining (bytes lens text₀ text : List ℕ) (place count at : ℕ) : Type 0 where
+pub record Draining (bytes lengths text₀ text : List ℕ) (place count at : ℕ) : Type 0 where
   pub written-so-far : List (List ℕ)
   pub steps-left : ℕ
   pub turns : ℕ
-  pub sound : badFrames lens bytes ≡ false
-  pub all-are : packetsFrom (length bytes) bytes lens 0 0 ≡ written-so-far ++ packetsFrom steps-left bytes lens place count
+  pub sound : badFrames lengths bytes ≡ false
+  pub all-are : packetsFrom (length bytes) bytes lengths 0 0 ≡ written-so-far ++ packetsFrom steps-left bytes lengths place count
   pub steps-enough : length bytes ≤ place + steps-left
   pub text-now : text ≡ put text₀ 0 (joined written-so-far)
   pub at-is : at ≡ length (joined written-so-far)
@@ -119,9 +119,9 @@ pub record Draining (bytes lens text₀ text : List ℕ) (place count at : ℕ) 
   pub full : (length bytes ≤ place) ⊎ (pointedLength * turns ≤ place)
   pub inside : at ≤ streamRoom
 
-pub drain-begin : (bytes lens text : List ℕ) → badFrames lens bytes ≡ false → Draining bytes lens text text 0 0 0
+pub drain-begin : (bytes lengths text : List ℕ) → badFrames lengths bytes ≡ false → Draining bytes lengths text text 0 0 0
 unfolding joined
-drain-begin bytes lens text h =
+drain-begin bytes lengths text h =
     record {
       written-so-far = [];
       steps-left = length bytes;
@@ -136,7 +136,7 @@ drain-begin bytes lens text h =
       inside = omega arith;
     }
 
-module _ {bytes lens text₀ text : List ℕ} {place count at : ℕ} (d : Draining bytes lens text₀ text place count at) (room : streamRoom ≤ length text₀) where
+module _ {bytes lengths text₀ text : List ℕ} {place count at : ℕ} (d : Draining bytes lengths text₀ text place count at) (room : streamRoom ≤ length text₀) where
   pub text-same : length text ≡ length text₀
   text-same = ap length (d .text-now) ∙ length-put text₀ 0 (joined (d .written-so-far)) (omega (arith, d .at-is, d .inside, room))
 
@@ -158,28 +158,28 @@ module _ {bytes lens text₀ text : List ℕ} {place count at : ℕ} (d : Draini
     waiting = rest bytes place
 
     abbrev left : ℕ
-    left = leftAt lens place
+    left = leftAt lengths place
 
     some-wait : 1 ≤ length waiting
     some-wait = omega (arith, length-rest bytes place, more)
 
     left-waits : left ≤ length waiting
-    left-waits = omega (arith, length-rest bytes place, left-there lens bytes place (d .sound))
+    left-waits = omega (arith, length-rest bytes place, left-there lengths bytes place (d .sound))
 
     pub goes-on : place < place + carried left waiting
     goes-on = omega (arith, carries-some left waiting some-wait .0)
 
     from-more : (n : ℕ) →
-        packetsFrom (suc n) bytes lens place count
-        ≡ packetOf count left waiting ∷ packetsFrom n bytes lens (place + carried left waiting) (countAfter count waiting)
+        packetsFrom (suc n) bytes lengths place count
+        ≡ packetOf count left waiting ∷ packetsFrom n bytes lengths (place + carried left waiting) (countAfter count waiting)
     unfolding packetsFrom
     from-more n = rw (something waiting some-wait) refl
 
     module _ (packet packet′ text′ : List ℕ) (r : Written) (long : length packet ≡ mpegLength)
-        (e : record { answer = r; output = packet′ } ≡ written (asked bytes lens packet long place count))
+        (e : record { answer = r; output = packet′ } ≡ written (asked bytes lengths packet long place count))
         (t : text′ ≡ put text at (part packet′ 0 mpegLength)) where
-      is-wrote : record { answer = r; output = packet′ } ≡ wrote (asked bytes lens packet long place count)
-      is-wrote = e ∙ written-sound bytes lens packet long place count (d .sound)
+      is-wrote : record { answer = r; output = packet′ } ≡ wrote (asked bytes lengths packet long place count)
+      is-wrote = e ∙ written-sound bytes lengths packet long place count (d .sound)
 
       pub next-place : r .place ≡ place + carried left waiting
       unfolding wrote
@@ -202,7 +202,7 @@ module _ {bytes lens text₀ text : List ℕ} {place count at : ℕ} (d : Draini
           ∙ ap (part (put packet 0 (packetOf count left waiting)) 0) (sym new-long)
           ∙ part-put packet 0 (packetOf count left waiting) (omega (arith, new-long, long))
 
-      pub drain-turn : Draining bytes lens text₀ text′ (r .place) (r .count) (at + mpegLength)
+      pub drain-turn : Draining bytes lengths text₀ text′ (r .place) (r .count) (at + mpegLength)
       drain-turn = by (d .steps-left) refl
         where
           new : List ℕ
@@ -211,16 +211,16 @@ module _ {bytes lens text₀ text : List ℕ} {place count at : ℕ} (d : Draini
           done : List (List ℕ)
           done = d .written-so-far
 
-          one-more : (n : ℕ) → packetsFrom (suc n) bytes lens place count ≡ new ∷ packetsFrom n bytes lens (r .place) (r .count)
-          one-more n = from-more n ∙ ap (λ (p : ℕ). new ∷ packetsFrom n bytes lens p (countAfter count waiting)) (sym next-place)
-              ∙ ap (λ (k : ℕ). new ∷ packetsFrom n bytes lens (r .place) k) (sym next-count)
+          one-more : (n : ℕ) → packetsFrom (suc n) bytes lengths place count ≡ new ∷ packetsFrom n bytes lengths (r .place) (r .count)
+          one-more n = from-more n ∙ ap (λ (p : ℕ). new ∷ packetsFrom n bytes lengths p (countAfter count waiting)) (sym next-place)
+              ∙ ap (λ (k : ℕ). new ∷ packetsFrom n bytes lengths (r .place) k) (sym next-count)
 
           still : (pointedLength ≤ carried left waiting) ⊎ (length waiting ≤ carried left waiting) →
               (length bytes ≤ r .place) ⊎ (pointedLength * (d .turns + 1) ≤ r .place)
           still (inl h) = inr (omega (arith, h, next-place, turns-few))
           still (inr h) = inl (omega (arith, h, next-place, length-rest bytes place))
 
-          by : (n : ℕ) → d .steps-left ≡ n → Draining bytes lens text₀ text′ (r .place) (r .count) (at + mpegLength)
+          by : (n : ℕ) → d .steps-left ≡ n → Draining bytes lengths text₀ text′ (r .place) (r .count) (at + mpegLength)
           by zero z = absurd (omega (arith, d .steps-enough, z, more))
           by (suc n) z =
               record {
@@ -230,8 +230,8 @@ module _ {bytes lens text₀ text : List ℕ} {place count at : ℕ} (d : Draini
                 sound = d .sound;
                 all-are =
                     d .all-are
-                    ∙ ap (λ (l : List (List ℕ)). done ++ l) (ap (λ (k : ℕ). packetsFrom k bytes lens place count) z ∙ one-more n)
-                    ∙ sym (append-assoc done (new ∷ []) (packetsFrom n bytes lens (r .place) (r .count)));
+                    ∙ ap (λ (l : List (List ℕ)). done ++ l) (ap (λ (k : ℕ). packetsFrom k bytes lengths place count) z ∙ one-more n)
+                    ∙ sym (append-assoc done (new ∷ []) (packetsFrom n bytes lengths (r .place) (r .count)));
                 steps-enough = omega (arith, d .steps-enough, z, next-place, goes-on);
                 text-now =
                     t ∙ ap (put text at) copied ∙ ap (λ (l : List ℕ). put l at new) (d .text-now)
@@ -244,21 +244,21 @@ module _ {bytes lens text₀ text : List ℕ} {place count at : ℕ} (d : Draini
                 inside = room-left;
               }
 
-  pub drain-end : length bytes ≤ place → Wrote text₀ text 0 at (streamFrom bytes lens)
+  pub drain-end : length bytes ≤ place → Wrote text₀ text 0 at (streamFrom bytes lengths)
   unfolding streamFrom
   drain-end past =
-      let none-left : packetsFrom (d .steps-left) bytes lens place count ≡ [] = none-more (d .steps-left) in
-      let all : packetsFrom (length bytes) bytes lens 0 0 ≡ d .written-so-far =
+      let none-left : packetsFrom (d .steps-left) bytes lengths place count ≡ [] = none-more (d .steps-left) in
+      let all : packetsFrom (length bytes) bytes lengths 0 0 ≡ d .written-so-far =
       d .all-are ∙ ap (λ (l : List (List ℕ)). d .written-so-far ++ l) none-left ∙ append-nil (d .written-so-far) in
-      wrote-as (ap joined (sym all) ∙ ap (λ (b : Bool). cond b (refusedLine 52) (joined (packetsFrom (length bytes) bytes lens 0 0))) (sym (d .sound)))
+      wrote-as (ap joined (sym all) ∙ ap (λ (b : Bool). cond b (refusedLine 52) (joined (packetsFrom (length bytes) bytes lengths 0 0))) (sym (d .sound)))
       (record { there = d .text-now; next-place = omega (arith, d .at-is); inside = omega (arith, d .at-is, d .inside, room) })
     where
-      none-more : (n : ℕ) → packetsFrom n bytes lens place count ≡ []
-      none-more n = none-waits n bytes lens place count (omega (arith, length-rest bytes place, past))
+      none-more : (n : ℕ) → packetsFrom n bytes lengths place count ≡ []
+      none-more n = none-waits n bytes lengths place count (omega (arith, length-rest bytes place, past))
 
 -- The frames of a queue, as bytes and lengths.
-pub bad-is-not-good : (frames : List (List ℕ)) → badFrames (lengths frames) (joined frames) ≡ not (allGood frames)
-unfolding badFrames lengths joined allGood part rest
+pub bad-is-not-good : (frames : List (List ℕ)) → badFrames (lengthsOf frames) (joined frames) ≡ not (allGood frames)
+unfolding badFrames lengthsOf joined allGood part rest
 bad-is-not-good [] = refl
 bad-is-not-good (f ∷ more) =
     rw (le-ltb (length (f ++ joined more)) (length f) (omega (arith, length-append f (joined more))), take-append-seam f (joined more), drop-append-seam f (joined more), bad-is-not-good more)
@@ -269,19 +269,19 @@ bad-is-not-good (f ∷ more) =
     by false b = refl
 
 drain-from : (n : ℕ) (frames : List (List ℕ)) (place count : ℕ) →
-    packetsFrom n (joined frames) (lengths frames) place count ≡ drain n (record { frames = frames; place = place; count = count })
+    packetsFrom n (joined frames) (lengthsOf frames) place count ≡ drain n (record { frames = frames; place = place; count = count })
 unfolding packetsFrom drain packetNext afterNext
 drain-from zero frames place count = refl
 drain-from (suc n) frames place count =
     let waiting = rest (joined frames) place in
-    let left = leftAt (lengths frames) place in
+    let left = leftAt (lengthsOf frames) place in
     ap (λ (l : List (List ℕ)). cond (none waiting) [] (packetOf count left waiting ∷ l))
     (drain-from n frames (place + carried left waiting) (countAfter count waiting))
 
-pub stream-is : (frames : List (List ℕ)) → streamFrom (joined frames) (lengths frames) ≡ streamOf frames
+pub stream-is : (frames : List (List ℕ)) → streamFrom (joined frames) (lengthsOf frames) ≡ streamOf frames
 unfolding streamFrom
 stream-is frames =
-    ap (λ (b : Bool). cond b (refusedLine 52) (joined (packetsFrom (length (joined frames)) (joined frames) (lengths frames) 0 0))) (bad-is-not-good frames)
+    ap (λ (b : Bool). cond b (refusedLine 52) (joined (packetsFrom (length (joined frames)) (joined frames) (lengthsOf frames) 0 0))) (bad-is-not-good frames)
     ∙ ap (λ (l : List (List ℕ)). cond (not (allGood frames)) (refusedLine 52) (joined l)) (drain-from (length (joined frames)) frames 0 0)
     ∙ by (allGood frames)
   where

@@ -9,8 +9,8 @@ use native.Mathlib.Omega.{arith}
 use lib.ListN.{length, length-append, length-replicate}
 use Rattle.octets.specs.Bytes.{byteAt}
 use Rattle.octets.specs.Count.{sumTo}
-use Rattle.octets.specs.Stretch.{put, joined, lengths}
-use Rattle.octets.proofs.Stretches.{length-put, put-nil, put-put-front, joined-append, lengths-append, length-lengths}
+use Rattle.octets.specs.Stretch.{put, joined, lengthsOf}
+use Rattle.octets.proofs.Stretches.{length-put, put-nil, put-put-front, joined-append, lengthsOf-append, length-lengthsOf}
 use Rattle.table.specs.Broken.{broken}
 use Rattle.join.specs.Slices.{mostBytes, mostFrames}
 use Rattle.card.specs.Receive.{holdingSize, framesFound}
@@ -31,11 +31,11 @@ use Rattle.pspmpeg.proofs.Cutting.{found-many, found-long}
 use Rattle.pspmpeg.proofs.Rooms.{few-bytes, few-frames}
 
 -- a run's table is never broken
-pub table-stands : {file : List ℕ} {w : Walk} {holding output lens : List ℕ} → Stands file w holding output lens → broken (w .table) ≡ false
+pub table-stands : {file : List ℕ} {w : Walk} {holding output lengths : List ℕ} → Stands file w holding output lengths → broken (w .table) ≡ false
 table-stands {file} {w} s = ap (λ (r : Running). broken (r .card .table)) (s .its-run) ∙ never-broken file (w .index)
 
 -- One entry. What is said of it before it is run is what the definition says.
-module _ {file : List ℕ} {w : Walk} {holding output lens : List ℕ} (s : Stands file w holding output lens) (session : ℕ) where
+module _ {file : List ℕ} {w : Walk} {holding output lengths : List ℕ} (s : Stands file w holding output lengths) (session : ℕ) where
   pub chosen : (kind : ℕ) (body : List ℕ) (wanted : Bool) → kind ≡ kindAt headLength entryLength file (w .index) → body ≡ nthEntry file (w .index) .body →
       wanted ≡ isFor session (w .table) (record { kind = kind; body = body }) →
       framesAt session file (w .index) ≡ cond wanted (framesOf (answerAt file (w .index))) []
@@ -50,7 +50,7 @@ module _ {file : List ℕ} {w : Walk} {holding output lens : List ℕ} (s : Stan
 
 pub not-chosen : (found : List (List ℕ)) {frames : List (List ℕ)} {wanted : Bool} {bytes sizes : List ℕ} {g : Gathered} → frames ≡ cond wanted found [] → wanted ≡ false →
     Adds frames bytes sizes bytes sizes g g
-unfolding joined lengths
+unfolding joined lengthsOf
 not-chosen found {frames} {wanted} {bytes} {sizes} {g} e n =
     let none : frames ≡ [] = e ∙ ap (λ (t : Bool). cond t found []) n in
     rw none (record { bytes-then = sym (put-nil bytes (g .bytes)); sizes-then = sym (put-nil sizes (g .count)); counts-then = same })
@@ -62,52 +62,52 @@ not-chosen found {frames} {wanted} {bytes} {sizes} {g} e n =
         ap (λ (n : ℕ). record { count = n; bytes = g .bytes }) a ∙ ap (λ (n : ℕ). record { count = g .count + 0; bytes = n }) b
 
 -- .. and its frames lie in the slices that it leaves
-module _ {file : List ℕ} {w : Walk} {holding output lens : List ℕ} (s : Stands file w holding output lens) (k : ℕ) (further : w .index ≡ k + 1)
-    (more : ℕ) (m : more ≡ answerAt file k .frames) (output-long : mostBytes ≤ length output) (lens-long : mostFrames ≤ length lens) where
-  run-is : asRunning (w .table) holding output lens ≡ standing file (suc k)
+module _ {file : List ℕ} {w : Walk} {holding output lengths : List ℕ} (s : Stands file w holding output lengths) (k : ℕ) (further : w .index ≡ k + 1)
+    (more : ℕ) (m : more ≡ answerAt file k .frames) (output-long : mostBytes ≤ length output) (lengths-long : mostFrames ≤ length lengths) where
+  run-is : asRunning (w .table) holding output lengths ≡ standing file (suc k)
   run-is = s .its-run ∙ ap (standing file) (further ∙ add-one k)
 
-  found-are : framesFound more lens output ≡ framesOf (answerAt file k)
+  found-are : framesFound more lengths output ≡ framesOf (answerAt file k)
   found-are =
-      ap (λ (n : ℕ). framesFound n lens output) m
+      ap (λ (n : ℕ). framesFound n lengths output) m
       ∙ ap (λ (r : Running). framesFound (answerAt file k .frames) (r .lengths) (r .output)) run-is
       ∙ frames-of-entry file k
 
-  there : Findable output lens more
-  there = findable s k further more m output-long lens-long
+  there : Findable output lengths more
+  there = findable s k further more m output-long lengths-long
 
-  lens-there : more ≤ length lens
-  lens-there = omega (arith, there .few, lens-long)
+  lengths-there : more ≤ length lengths
+  lengths-there = omega (arith, there .few, lengths-long)
 
-  bytes-there : sumTo (byteAt lens) more ≤ length output
+  bytes-there : sumTo (byteAt lengths) more ≤ length output
   bytes-there = omega (arith, there .all-short, output-long)
 
   module _ {frames : List (List ℕ)} {wanted : Bool} (e : frames ≡ cond wanted (framesOf (answerAt file k)) []) (y : wanted ≡ true) where
-    frames-are : frames ≡ framesFound more lens output
+    frames-are : frames ≡ framesFound more lengths output
     frames-are = e ∙ ap (λ (t : Bool). cond t (framesOf (answerAt file k)) []) y ∙ sym found-are
 
-    pub fits-found : {bytes sizes : List ℕ} {g : Gathered} → Fits frames bytes sizes g → FitsFound output lens more bytes sizes g
+    pub fits-found : {bytes sizes : List ℕ} {g : Gathered} → Fits frames bytes sizes g → FitsFound output lengths more bytes sizes g
     fits-found f =
         record {
-          lens-there = lens-there;
+          lengths-there = lengths-there;
           bytes-there = bytes-there;
-          bytes-fit = omega (arith, f .bytes-fit, ap (λ (l : List (List ℕ)). length (joined l)) frames-are, found-long output lens more lens-there bytes-there);
-          sizes-fit = omega (arith, f .sizes-fit, ap (λ (l : List (List ℕ)). length l) frames-are, found-many output lens more lens-there bytes-there);
+          bytes-fit = omega (arith, f .bytes-fit, ap (λ (l : List (List ℕ)). length (joined l)) frames-are, found-long output lengths more lengths-there bytes-there);
+          sizes-fit = omega (arith, f .sizes-fit, ap (λ (l : List (List ℕ)). length l) frames-are, found-many output lengths more lengths-there bytes-there);
         }
 
-    pub adds-found : {bytes sizes bytes′ sizes′ : List ℕ} {g g′ : Gathered} → Adds (framesFound more lens output) bytes sizes bytes′ sizes′ g g′ →
+    pub adds-found : {bytes sizes bytes′ sizes′ : List ℕ} {g g′ : Gathered} → Adds (framesFound more lengths output) bytes sizes bytes′ sizes′ g g′ →
         Adds frames bytes sizes bytes′ sizes′ g g′
     adds-found {bytes} {sizes} {bytes′} {sizes′} {g} {g′} a = subst (λ (l : List (List ℕ)). Adds l bytes sizes bytes′ sizes′ g g′) (sym frames-are) a
 
 -- All entries.
-pub record Gathering (session : ℕ) (file bytes₀ sizes₀ : List ℕ) (stage : Stage) (holding output lens bytes sizes : List ℕ) : Type 0 where
-  pub stands : Stands file (stage .walk) holding output lens
+pub record Gathering (session : ℕ) (file bytes₀ sizes₀ : List ℕ) (stage : Stage) (holding output lengths bytes sizes : List ℕ) : Type 0 where
+  pub stands : Stands file (stage .walk) holding output lengths
   pub so-far : Gathers (deliveredBefore session file (stage .walk .index)) bytes₀ sizes₀ bytes sizes (stage .gathered)
 
-pub gather-begin : {session : ℕ} {file holding output lens : List ℕ} {w : Walk} (bytes sizes : List ℕ) → Stands file w holding output lens → w .index ≡ 0 →
-    Gathering session file bytes sizes (record { walk = w; gathered = record { count = 0; bytes = 0 } }) holding output lens bytes sizes
-unfolding deliveredBefore joined lengths
-gather-begin {session} {file} {holding} {output} {lens} {w} bytes sizes s z =
+pub gather-begin : {session : ℕ} {file holding output lengths : List ℕ} {w : Walk} (bytes sizes : List ℕ) → Stands file w holding output lengths → w .index ≡ 0 →
+    Gathering session file bytes sizes (record { walk = w; gathered = record { count = 0; bytes = 0 } }) holding output lengths bytes sizes
+unfolding deliveredBefore joined lengthsOf
+gather-begin {session} {file} {holding} {output} {lengths} {w} bytes sizes s z =
     record {
       stands = s;
       so-far =
@@ -116,13 +116,13 @@ gather-begin {session} {file} {holding} {output} {lens} {w} bytes sizes s z =
     }
 
 -- the slices that a run begins with are large enough for any call
-pub unused-enough : {file holding output lens : List ℕ} → Unused file holding output lens →
-    (length holding ≡ holdingSize) × (length output ≡ mostBytes) × (length lens ≡ mostFrames)
+pub unused-enough : {file holding output lengths : List ℕ} → Unused file holding output lengths →
+    (length holding ≡ holdingSize) × (length output ≡ mostBytes) × (length lengths ≡ mostFrames)
 unused-enough u =
-    (ap length (u .holding-zero) ∙ length-replicate {A = ℕ} holdingSize 0, ap length (u .output-zero) ∙ length-replicate {A = ℕ} mostBytes 0, ap length (u .lens-zero) ∙ length-replicate {A = ℕ} mostFrames 0)
+    (ap length (u .holding-zero) ∙ length-replicate {A = ℕ} holdingSize 0, ap length (u .output-zero) ∙ length-replicate {A = ℕ} mostBytes 0, ap length (u .lengths-zero) ∙ length-replicate {A = ℕ} mostFrames 0)
 
-module _ {session : ℕ} {file bytes₀ sizes₀ : List ℕ} {stage : Stage} {holding output lens bytes sizes : List ℕ}
-    (g : Gathering session file bytes₀ sizes₀ stage holding output lens bytes sizes) (bytes-long : longestFile ≤ length bytes₀) (sizes-long : mostGathered ≤ length sizes₀) where
+module _ {session : ℕ} {file bytes₀ sizes₀ : List ℕ} {stage : Stage} {holding output lengths bytes sizes : List ℕ}
+    (g : Gathering session file bytes₀ sizes₀ stage holding output lengths bytes sizes) (bytes-long : longestFile ≤ length bytes₀) (sizes-long : mostGathered ≤ length sizes₀) where
   abbrev before : List (List ℕ)
   before = deliveredBefore session file (stage .walk .index)
 
@@ -139,7 +139,7 @@ module _ {session : ℕ} {file bytes₀ sizes₀ : List ℕ} {stage : Stage} {ho
   bytes-same = ap length (g .so-far .bytes-now) ∙ length-put bytes₀ 0 (joined before) (omega (arith, short, bytes-long))
 
   pub sizes-same : length sizes ≡ length sizes₀
-  sizes-same = ap length (g .so-far .sizes-now) ∙ length-put sizes₀ 0 (lengths before) (omega (arith, length-lengths before, many, sizes-long))
+  sizes-same = ap length (g .so-far .sizes-now) ∙ length-put sizes₀ 0 (lengthsOf before) (omega (arith, length-lengthsOf before, many, sizes-long))
 
   module _ (more : stage .walk .index < entryCount headLength file) where
     abbrev next : List (List ℕ)
@@ -162,11 +162,11 @@ module _ {session : ℕ} {file bytes₀ sizes₀ : List ℕ} {stage : Stage} {ho
               omega (arith, sizes-same, sizes-long, g .so-far .counted, length-next, few-frames session file (suc (stage .walk .index)), more, is-sound file (g .stands .sound) .few);
         }
 
-    pub gather-turn : {stage′ : Stage} {holding′ output′ lens′ bytes′ sizes′ : List ℕ} → Stands file (stage′ .walk) holding′ output′ lens′ →
+    pub gather-turn : {stage′ : Stage} {holding′ output′ lengths′ bytes′ sizes′ : List ℕ} → Stands file (stage′ .walk) holding′ output′ lengths′ →
         stage′ .walk .index ≡ stage .walk .index + 1 → Adds next bytes sizes bytes′ sizes′ (stage .gathered) (stage′ .gathered) →
-        Gathering session file bytes₀ sizes₀ stage′ holding′ output′ lens′ bytes′ sizes′
+        Gathering session file bytes₀ sizes₀ stage′ holding′ output′ lengths′ bytes′ sizes′
     unfolding deliveredBefore
-    gather-turn {stage′} {holding′} {output′} {lens′} {bytes′} {sizes′} s further a =
+    gather-turn {stage′} {holding′} {output′} {lengths′} {bytes′} {sizes′} s further a =
         let index : stage′ .walk .index ≡ suc (stage .walk .index) = further ∙ add-one (stage .walk .index) in
         record {
           stands = s;
@@ -179,10 +179,10 @@ module _ {session : ℕ} {file bytes₀ sizes₀ : List ℕ} {stage : Stage} {ho
                     ∙ put-put-front bytes₀ (joined before) (joined next) (omega (arith, short, bytes-long))
                     ∙ ap (put bytes₀ 0) (sym (joined-append before next));
                 sizes-now =
-                    a .sizes-then ∙ ap (λ (l : List ℕ). put l (stage .gathered .count) (lengths next)) (g .so-far .sizes-now)
-                    ∙ ap (λ (n : ℕ). put (put sizes₀ 0 (lengths before)) n (lengths next)) (g .so-far .counted ∙ sym (length-lengths before))
-                    ∙ put-put-front sizes₀ (lengths before) (lengths next) (omega (arith, length-lengths before, many, sizes-long))
-                    ∙ ap (put sizes₀ 0) (sym (lengths-append before next));
+                    a .sizes-then ∙ ap (λ (l : List ℕ). put l (stage .gathered .count) (lengthsOf next)) (g .so-far .sizes-now)
+                    ∙ ap (λ (n : ℕ). put (put sizes₀ 0 (lengthsOf before)) n (lengthsOf next)) (g .so-far .counted ∙ sym (length-lengthsOf before))
+                    ∙ put-put-front sizes₀ (lengthsOf before) (lengthsOf next) (omega (arith, length-lengthsOf before, many, sizes-long))
+                    ∙ ap (put sizes₀ 0) (sym (lengthsOf-append before next));
                 counted = ap (λ (x : Gathered). x .count) (a .counts-then) ∙ ap (λ (n : ℕ). n + length next) (g .so-far .counted) ∙ sym length-next;
                 total-is = ap (λ (x : Gathered). x .bytes) (a .counts-then) ∙ ap (λ (n : ℕ). n + length (joined next)) (g .so-far .total-is) ∙ sym joined-next;
               });

@@ -10,7 +10,7 @@ use lib.ListN.{length, drop, replicate, length-append}
 use Rattle.refusal.specs.Refusal.{first}
 use Rattle.octets.specs.Bytes.{be32At}
 use Rattle.octets.specs.Count.{sumTo, upTo}
-use Rattle.octets.specs.Stretch.{part, joined, lengths, cutBy}
+use Rattle.octets.specs.Stretch.{part, joined, lengthsOf, cutBy}
 use Rattle.octets.proofs.Counts.{sum-below}
 use Rattle.octets.proofs.Stretches.{part-short, length-rest, joined-append}
 use Rattle.packet.specs.Header.{Packet, lead, idLength, sub, segmentCount}

@@ -4,8 +4,8 @@ use mathlib.Core.Path.{_≡_, refl, sym, ap, _∙_}
 use mathlib.Core.List.{List}
 use native.Mathlib.Omega.{arith}
 use lib.ListN.{length, take}
-use Rattle.octets.specs.Stretch.{part, put, joined, lengths}
-use Rattle.octets.proofs.Stretches.{part-put, length-lengths}
+use Rattle.octets.specs.Stretch.{part, put, joined, lengthsOf}
+use Rattle.octets.proofs.Stretches.{part-put, length-lengthsOf}
 use Rattle.text.specs.Text.{Wrote}
 use Rattle.text.proofs.Writing.{wrote-as}
 use Rattle.capture.specs.File.{fileRefusal}
@@ -33,7 +33,7 @@ unfolding stream streamBy
 stream-sound session file {bytes} {sizes} {bytes′} {sizes′} {text} {text′} {g} {next} z h few many w =
     let frames = delivered session file in
     let front : take (g .bytes) bytes′ ≡ joined frames = front-is bytes′ bytes (joined frames) (g .bytes) (h .bytes-now) (h .total-is) few in
-    let sized : take (g .count) sizes′ ≡ lengths frames = front-is sizes′ sizes (lengths frames) (g .count) (h .sizes-now) (h .counted ∙ sym (length-lengths frames)) many in
+    let sized : take (g .count) sizes′ ≡ lengthsOf frames = front-is sizes′ sizes (lengthsOf frames) (g .count) (h .sizes-now) (h .counted ∙ sym (length-lengthsOf frames)) many in
     wrote-as
     (ap (λ (l : List ℕ). streamFrom l (take (g .count) sizes′)) front
     ∙ ap (streamFrom (joined frames)) sized

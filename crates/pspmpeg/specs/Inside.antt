@@ -7,7 +7,7 @@ use mathlib.Core.List.{List, [], _∷_}
 use lib.ListN.{length}
 use Rattle.octets.specs.Bytes.{byteAt}
 use Rattle.octets.specs.Count.{sumTo}
-use Rattle.octets.specs.Stretch.{rest, put, joined, lengths}
+use Rattle.octets.specs.Stretch.{rest, put, joined, lengthsOf}
 use Rattle.packet.specs.Dmpt.{mpegLength}
 use Rattle.join.specs.Slices.{mostFrames}
 use Rattle.capture.specs.File.{longestFile, mostEntries}
@@ -29,7 +29,7 @@ withMore frames g = record { count = g .count + length frames; bytes = g .bytes 
 
 pub record Adds (frames : List (List ℕ)) (bytes sizes bytes′ sizes′ : List ℕ) (g g′ : Gathered) : Type 0 where
   pub bytes-then : bytes′ ≡ put bytes (g .bytes) (joined frames)
-  pub sizes-then : sizes′ ≡ put sizes (g .count) (lengths frames)
+  pub sizes-then : sizes′ ≡ put sizes (g .count) (lengthsOf frames)
   pub counts-then : g′ ≡ withMore frames g
 
 pub record Fits (frames : List (List ℕ)) (bytes sizes : List ℕ) (g : Gathered) : Type 0 where
@@ -37,26 +37,26 @@ pub record Fits (frames : List (List ℕ)) (bytes sizes : List ℕ) (g : Gathere
   pub sizes-fit : g .count + length frames ≤ length sizes
 
 -- .. where the frames are those that a call has left in two slices
-pub record FitsFound (output lens : List ℕ) (more : ℕ) (bytes sizes : List ℕ) (g : Gathered) : Type 0 where
-  pub lens-there : more ≤ length lens
-  pub bytes-there : sumTo (byteAt lens) more ≤ length output
-  pub bytes-fit : g .bytes + sumTo (byteAt lens) more ≤ length bytes
+pub record FitsFound (output lengths : List ℕ) (more : ℕ) (bytes sizes : List ℕ) (g : Gathered) : Type 0 where
+  pub lengths-there : more ≤ length lengths
+  pub bytes-there : sumTo (byteAt lengths) more ≤ length output
+  pub bytes-fit : g .bytes + sumTo (byteAt lengths) more ≤ length bytes
   pub sizes-fit : g .count + more ≤ length sizes
 
 -- all of them gathered, at the front of the slices
 pub record Gathers (frames : List (List ℕ)) (bytes sizes bytes′ sizes′ : List ℕ) (g : Gathered) : Type 0 where
   pub bytes-now : bytes′ ≡ put bytes 0 (joined frames)
-  pub sizes-now : sizes′ ≡ put sizes 0 (lengths frames)
+  pub sizes-now : sizes′ ≡ put sizes 0 (lengthsOf frames)
   pub counted : g .count ≡ length frames
   pub total-is : g .bytes ≡ length (joined frames)
 
 -- what is written of frames that stand back to back with their lengths, from a place and a count on
 unfoldable pub packetsFrom : ℕ → List ℕ → List ℕ → ℕ → ℕ → List (List ℕ)
-packetsFrom zero bytes lens place count = []
-packetsFrom (suc n) bytes lens place count =
+packetsFrom zero bytes lengths place count = []
+packetsFrom (suc n) bytes lengths place count =
     cond (none (rest bytes place)) []
-    (packetOf count (leftAt lens place) (rest bytes place)
-    ∷ packetsFrom n bytes lens (place + carried (leftAt lens place) (rest bytes place)) (countAfter count (rest bytes place)))
+    (packetOf count (leftAt lengths place) (rest bytes place)
+    ∷ packetsFrom n bytes lengths (place + carried (leftAt lengths place) (rest bytes place)) (countAfter count (rest bytes place)))
 
 unfoldable pub streamFrom : List ℕ → List ℕ → List ℕ
-streamFrom bytes lens = cond (badFrames lens bytes) (refusedLine 52) (joined (packetsFrom (length bytes) bytes lens 0 0))
+streamFrom bytes lengths = cond (badFrames lengths bytes) (refusedLine 52) (joined (packetsFrom (length bytes) bytes lengths 0 0))

@@ -51,7 +51,7 @@ module _ (job : Job) (limit number : ℕ) (made : makeRefusal job limit number �
       }
 
   pub made-whole : job .session < 4294967296 → number < 65536 →
-      (frames : List Pieces) × (map joined frames ≡ cutBy (job .lens) (job .bytes))
+      (frames : List Pieces) × (map joined frames ≡ cutBy (job .lengths) (job .bytes))
       × KeepsRules (line job number) frames [] (map ip (packetsFor job limit number))
       × Each (λ p. sSet (sub p) ≡ true) (map ip (packetsFor job limit number))
   unfolding packetsFor

@@ -12,8 +12,8 @@ use lib.Seq.{drop-at, drop-drop}
 use borrow.Author.Tests.{leb-true, leb-false, ltb-true, ltb-false, lt-leb, le-leb, lt-ltb, le-ltb}
 use Rattle.refusal.proofs.Laws.{and-left, and-right}
 use Rattle.octets.specs.Bytes.{byteAt, be16At, two}
-use Rattle.octets.specs.Stretch.{part, rest, put, joined, lengths}
-use Rattle.octets.proofs.Stretches.{length-part, part-between, length-rest, byte-rest, part-rest, length-put, part-put, put-nil, put-put-front, set-put, joined-one-more, lengths-append, length-lengths}
+use Rattle.octets.specs.Stretch.{part, rest, put, joined, lengthsOf}
+use Rattle.octets.proofs.Stretches.{length-part, part-between, length-rest, byte-rest, part-rest, length-put, part-put, put-nil, put-put-front, set-put, joined-one-more, lengthsOf-append, length-lengthsOf}
 use Rattle.octets.proofs.Numbers.{two-reads-back}
 use Rattle.octets.specs.Each.{Each}
 use Rattle.pspsend.specs.Frames.{lengthBytes, packed, framesFile, standsWhole, frontFrame, behindFront, wholeFrames, leftBehind, most, framesIn, spoilt, Unpacks}
@@ -58,7 +58,7 @@ module _ (file : List ℕ) (at : ℕ) (inside : at ≤ length file) where
         let place : at + (lengthBytes + be16At (rest file at) 0) ≡ at + lengthBytes + be16At file at = omega (arith, be16-rest file at) in
         drop-drop (lengthBytes + be16At (rest file at) 0) at file ∙ ap (λ (n : ℕ). drop n file) place
 
-pub record Unpacking (file bytes₀ lens₀ bytes lens : List ℕ) (count total at : ℕ) : Type 0 where
+pub record Unpacking (file bytes₀ lengths₀ bytes lengths : List ℕ) (count total at : ℕ) : Type 0 where
   pub taken : List (List ℕ)
   pub frames-are : framesIn file ≡ taken ++ wholeFrames (most - count) (rest file at)
   pub left-are : leftBehind most file ≡ leftBehind (most - count) (rest file at)
@@ -66,13 +66,13 @@ pub record Unpacking (file bytes₀ lens₀ bytes lens : List ℕ) (count total 
   pub few : count ≤ most
   pub total-is : total ≡ length (joined taken)
   pub bytes-now : bytes ≡ put bytes₀ 0 (joined taken)
-  pub lens-now : lens ≡ put lens₀ 0 (lengths taken)
+  pub lengths-now : lengths ≡ put lengths₀ 0 (lengthsOf taken)
   pub inside : at ≤ length file
   pub short : total ≤ at
 
-module _ (file bytes₀ lens₀ : List ℕ) (bytes-long : length file ≤ length bytes₀) (lens-long : most ≤ length lens₀) where
-  pub unpack-begin : Unpacking file bytes₀ lens₀ bytes₀ lens₀ 0 0 0
-  unfolding joined lengths rest
+module _ (file bytes₀ lengths₀ : List ℕ) (bytes-long : length file ≤ length bytes₀) (lengths-long : most ≤ length lengths₀) where
+  pub unpack-begin : Unpacking file bytes₀ lengths₀ bytes₀ lengths₀ 0 0 0
+  unfolding joined lengthsOf rest
   unpack-begin =
       record {
         taken = [];
@@ -82,33 +82,33 @@ module _ (file bytes₀ lens₀ : List ℕ) (bytes-long : length file ≤ length
         few = omega arith;
         total-is = refl;
         bytes-now = sym (put-nil bytes₀ 0);
-        lens-now = sym (put-nil lens₀ 0);
+        lengths-now = sym (put-nil lengths₀ 0);
         inside = omega arith;
         short = omega arith;
       }
 
-  module _ {bytes lens : List ℕ} {count total at : ℕ} (u : Unpacking file bytes₀ lens₀ bytes lens count total at) where
+  module _ {bytes lengths : List ℕ} {count total at : ℕ} (u : Unpacking file bytes₀ lengths₀ bytes lengths count total at) where
     pub bytes-same : length bytes ≡ length bytes₀
     bytes-same = ap length (u .bytes-now) ∙ length-put bytes₀ 0 (joined (u .taken)) (omega (arith, u .total-is, u .short, u .inside))
 
-    pub lens-same : length lens ≡ length lens₀
-    lens-same = ap length (u .lens-now) ∙ length-put lens₀ 0 (lengths (u .taken)) (omega (arith, length-lengths (u .taken), u .counted, u .few))
+    pub lengths-same : length lengths ≡ length lengths₀
+    lengths-same = ap length (u .lengths-now) ∙ length-put lengths₀ 0 (lengthsOf (u .taken)) (omega (arith, length-lengthsOf (u .taken), u .counted, u .few))
 
     -- one frame more
     module _ (room : count < most) (stands : standsWhole (rest file at) ≡ true) where
-      pub entry-there : count < length lens
-      entry-there = omega (arith, lens-same)
+      pub entry-there : count < length lengths
+      entry-there = omega (arith, lengths-same)
 
-      pub unpack-turn : (size : ℕ) (bytes′ lens′ : List ℕ) → size ≡ be16At file at →
-          bytes′ ≡ put bytes total (part file (at + lengthBytes) size) → lens′ ≡ set lens count size →
-          Unpacking file bytes₀ lens₀ bytes′ lens′ (count + 1) (total + size) (at + lengthBytes + size)
-      unfolding wholeFrames leftBehind joined lengths
-      unpack-turn size bytes′ lens′ e b l =
+      pub unpack-turn : (size : ℕ) (bytes′ lengths′ : List ℕ) → size ≡ be16At file at →
+          bytes′ ≡ put bytes total (part file (at + lengthBytes) size) → lengths′ ≡ set lengths count size →
+          Unpacking file bytes₀ lengths₀ bytes′ lengths′ (count + 1) (total + size) (at + lengthBytes + size)
+      unfolding wholeFrames leftBehind joined lengthsOf
+      unpack-turn size bytes′ lengths′ e b l =
           let f = part file (at + lengthBytes) size in
           let there = frame-there file at (u .inside) stands in
           let long : length f ≡ size = length-part file (at + lengthBytes) size (omega (arith, there)) in
           let J = joined (u .taken) in
-          let L = lengths (u .taken) in
+          let L = lengthsOf (u .taken) in
           let more : most - count ≡ suc (most - (count + 1)) = omega arith in
           let front : frontFrame (rest file at) ≡ f = front-is file at (u .inside) stands ∙ ap (part file (at + lengthBytes)) (sym e) in
           let behind : behindFront (rest file at) ≡ rest file (at + lengthBytes + size) = behind-is file at (u .inside) stands ∙ ap (λ (n : ℕ). rest file (at + lengthBytes + n)) (sym e) in
@@ -117,7 +117,7 @@ module _ (file bytes₀ lens₀ : List ℕ) (bytes-long : length file ≤ length
           let next-left : leftBehind (most - count) (rest file at) ≡ leftBehind (most - (count + 1)) (rest file (at + lengthBytes + size)) =
           ap (λ (n : ℕ). leftBehind n (rest file at)) more ∙ rw (stands, behind) refl in
           let joined-more : joined (u .taken ++ (f ∷ [])) ≡ J ++ f = joined-one-more (u .taken) f in
-          let lengths-more : lengths (u .taken ++ (f ∷ [])) ≡ L ++ (size ∷ []) = lengths-append (u .taken) (f ∷ []) ∙ ap (λ (n : ℕ). L ++ (n ∷ [])) long in
+          let lengths-more : lengthsOf (u .taken ++ (f ∷ [])) ≡ L ++ (size ∷ []) = lengthsOf-append (u .taken) (f ∷ []) ∙ ap (λ (n : ℕ). L ++ (n ∷ [])) long in
           record {
             taken = u .taken ++ (f ∷ []);
             frames-are = u .frames-are ∙ ap (λ (x : List (List ℕ)). u .taken ++ x) next-frames ∙ sym (append-assoc (u .taken) (f ∷ []) _);
@@ -128,10 +128,10 @@ module _ (file bytes₀ lens₀ : List ℕ) (bytes-long : length file ≤ length
             bytes-now =
                 b ∙ ap (λ (x : List ℕ). put x total f) (u .bytes-now) ∙ ap (λ (n : ℕ). put (put bytes₀ 0 J) n f) (u .total-is)
                 ∙ put-put-front bytes₀ J f (omega (arith, u .total-is, u .short, u .inside)) ∙ ap (put bytes₀ 0) (sym joined-more);
-            lens-now =
-                l ∙ set-put lens count size entry-there ∙ ap (λ (x : List ℕ). put x count (size ∷ [])) (u .lens-now)
-                ∙ ap (λ (n : ℕ). put (put lens₀ 0 L) n (size ∷ [])) (u .counted ∙ sym (length-lengths (u .taken)))
-                ∙ put-put-front lens₀ L (size ∷ []) (omega (arith, length-lengths (u .taken), u .counted, u .few)) ∙ ap (put lens₀ 0) (sym lengths-more);
+            lengths-now =
+                l ∙ set-put lengths count size entry-there ∙ ap (λ (x : List ℕ). put x count (size ∷ [])) (u .lengths-now)
+                ∙ ap (λ (n : ℕ). put (put lengths₀ 0 L) n (size ∷ [])) (u .counted ∙ sym (length-lengthsOf (u .taken)))
+                ∙ put-put-front lengths₀ L (size ∷ []) (omega (arith, length-lengthsOf (u .taken), u .counted, u .few)) ∙ ap (put lengths₀ 0) (sym lengths-more);
             inside = omega (arith, there);
             short = omega (arith, u .short);
           }
@@ -171,7 +171,7 @@ module _ (file bytes₀ lens₀ : List ℕ) (bytes-long : length file ≤ length
           by true e = lt-ltb 0 (length file - at) (omega (arith, ltb-true at (length file) e))
           by false e = le-ltb 0 (length file - at) (omega (arith, ltb-false at (length file) e))
 
-      pub unpack-spoilt : (ltb count most && ltb at (length file)) ≡ true → Unpacks file bytes lens (record { count = 0; bytes = length file })
+      pub unpack-spoilt : (ltb count most && ltb at (length file)) ≡ true → Unpacks file bytes lengths (record { count = 0; bytes = length file })
       unpack-spoilt e =
           record {
             whole = λ q. absurd (true≢false (sym e ∙ sym spoilt-is ∙ q));
@@ -180,17 +180,17 @@ module _ (file bytes₀ lens₀ : List ℕ) (bytes-long : length file ≤ length
             short = omega arith;
           }
 
-      pub unpack-whole : (ltb count most && ltb at (length file)) ≡ false → Unpacks file bytes lens (record { count = count; bytes = total })
+      pub unpack-whole : (ltb count most && ltb at (length file)) ≡ false → Unpacks file bytes lengths (record { count = count; bytes = total })
       unpack-whole e =
           let J = joined (u .taken) in
-          let L = lengths (u .taken) in
+          let L = lengthsOf (u .taken) in
           record {
             whole = λ _. (
               u .counted ∙ ap length (sym frames-all),
               ap (λ (x : List ℕ). part x 0 total) (u .bytes-now) ∙ ap (part (put bytes₀ 0 J) 0) (u .total-is)
                   ∙ part-put bytes₀ 0 J (omega (arith, u .total-is, u .short, u .inside)) ∙ ap joined (sym frames-all),
-              ap (λ (x : List ℕ). part x 0 count) (u .lens-now) ∙ ap (part (put lens₀ 0 L) 0) (u .counted ∙ sym (length-lengths (u .taken)))
-                  ∙ part-put lens₀ 0 L (omega (arith, length-lengths (u .taken), u .counted, u .few)) ∙ ap lengths (sym frames-all),
+              ap (λ (x : List ℕ). part x 0 count) (u .lengths-now) ∙ ap (part (put lengths₀ 0 L) 0) (u .counted ∙ sym (length-lengthsOf (u .taken)))
+                  ∙ part-put lengths₀ 0 L (omega (arith, length-lengthsOf (u .taken), u .counted, u .few)) ∙ ap lengthsOf (sym frames-all),
             );
             cut-short = λ q. absurd (true≢false (sym q ∙ spoilt-is ∙ e));
             few = u .few;

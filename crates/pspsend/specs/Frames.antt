@@ -7,7 +7,7 @@ use mathlib.Core.List.{List, [], _∷_, _++_, map}
 use lib.Dec.{leb, ltb}
 use lib.ListN.{length}
 use Rattle.octets.specs.Bytes.{be16At, two}
-use Rattle.octets.specs.Stretch.{part, rest, joined, lengths}
+use Rattle.octets.specs.Stretch.{part, rest, joined, lengthsOf}
 use Rattle.sender.specs.Send.{mostFrames}
 use Rattle.pspsend.specs.declared.frames.Unpacked.{Unpacked}
 
@@ -52,9 +52,9 @@ spoilt file = ltb (length (framesIn file)) most && ltb 0 (length (leftBehind mos
 
 -- What reading it leaves: the bytes of the frames and their lengths at the front of two slices. Of a spoilt file it answers all its bytes and no
 -- length, so that a send refuses them by 33.
-pub record Unpacks (file bytes lens : List ℕ) (r : Unpacked) : Type 0 where
+pub record Unpacks (file bytes lengths : List ℕ) (r : Unpacked) : Type 0 where
   pub whole : spoilt file ≡ false →
-      (r .count ≡ length (framesIn file)) × (part bytes 0 (r .bytes) ≡ joined (framesIn file)) × (part lens 0 (r .count) ≡ lengths (framesIn file))
+      (r .count ≡ length (framesIn file)) × (part bytes 0 (r .bytes) ≡ joined (framesIn file)) × (part lengths 0 (r .count) ≡ lengthsOf (framesIn file))
   pub cut-short : spoilt file ≡ true → (r .count ≡ 0) × (r .bytes ≡ length file)
   pub few : r .count ≤ most
   pub short : r .bytes ≤ length file

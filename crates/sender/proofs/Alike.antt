@@ -21,7 +21,7 @@ use Rattle.sender.proofs.Series.{code-is}
 module _ (job : Job) (number : ℕ) (at : Position) (limit : ℕ) (s t : List ℕ)
     (s-long : limit ≤ greatestLimit → limit + idLength ≤ length s) (t-long : limit ≤ greatestLimit → limit + idLength ≤ length t) where
   abbrev early : List Refusal
-  early = earlyRefusals (job .session) (job .flow) limit (length (job .bytes)) (job .lens)
+  early = earlyRefusals (job .session) (job .flow) limit (length (job .bytes)) (job .lengths)
 
   abbrev one : SendOutcome
   one = sent (askedFor job number at (record { limit = limit; output = s }))
@@ -34,16 +34,16 @@ module _ (job : Job) (number : ℕ) (at : Position) (limit : ℕ) (s t : List �
   alike-refused = by (eqb (first early) 0) refl
     where
       by : (b : Bool) → eqb (first early) 0 ≡ b →
-          first (early ++ laterRefusals limit (job .lens) at (length s)) ≡ first (early ++ laterRefusals limit (job .lens) at (length t))
+          first (early ++ laterRefusals limit (job .lengths) at (length s)) ≡ first (early ++ laterRefusals limit (job .lengths) at (length t))
       by false e =
           let stops = eqb-false (first early) 0 e in
-          first-stopped early (laterRefusals limit (job .lens) at (length s)) stops ∙ sym (first-stopped early (laterRefusals limit (job .lens) at (length t)) stops)
+          first-stopped early (laterRefusals limit (job .lengths) at (length s)) stops ∙ sym (first-stopped early (laterRefusals limit (job .lengths) at (length t)) stops)
       by true e =
           let z = eqb-true (first early) 0 e in
-          let small = limit-small (job .session) (job .flow) limit (length (job .bytes)) (job .lens) (early-passed (job .session) (job .flow) limit (length (job .bytes)) (job .lens) z) in
-          let same : first (laterRefusals limit (job .lens) at (length s)) ≡ first (laterRefusals limit (job .lens) at (length t)) =
+          let small = limit-small (job .session) (job .flow) limit (length (job .bytes)) (job .lengths) (early-passed (job .session) (job .flow) limit (length (job .bytes)) (job .lengths) z) in
+          let same : first (laterRefusals limit (job .lengths) at (length s)) ≡ first (laterRefusals limit (job .lengths) at (length t)) =
           rw (le-ltb (length s) (limit + idLength) (s-long small), le-ltb (length t) (limit + idLength) (t-long small)) refl in
-          first-passed early (laterRefusals limit (job .lens) at (length s)) refl z ∙ same ∙ sym (first-passed early (laterRefusals limit (job .lens) at (length t)) refl z)
+          first-passed early (laterRefusals limit (job .lengths) at (length s)) refl z ∙ same ∙ sym (first-passed early (laterRefusals limit (job .lengths) at (length t)) refl z)
 
   pub alike-code : one .answer .code ≡ other .answer .code
   alike-code = code-is (askedFor job number at (record { limit = limit; output = s })) ∙ alike-refused ∙ sym (code-is (askedFor job number at (record { limit = limit; output = t })))

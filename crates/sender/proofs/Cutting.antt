@@ -44,10 +44,10 @@ each-more P segs s all p k l =
     (λ (b : k < length segs). rw (nth-before segs s k b) (all k b))
     (eq-or-lt-of-le (let n = length-more segs s in let h : k ≤ length segs = omega arith in h))
 
-module _ (width : ℕ) (bytes lens : List ℕ) (frames : Framed (length bytes) lens) (room : ℕ) (from : Position) where
+module _ (width : ℕ) (bytes lengths : List ℕ) (frames : Framed (length bytes) lengths) (room : ℕ) (from : Position) where
   pub record Cutting (c : Cut) : Type 0 where
-    pub carried : Carried bytes lens from (c .segments) (c .position)
-    pub inside : Inside lens (c .position)
+    pub carried : Carried bytes lengths from (c .segments) (c .position)
+    pub inside : Inside lengths (c .position)
     pub in-room : c .room + width * length (c .segments) + length (joined (map bodyOf (c .segments))) ≡ room
     pub filled : (k : ℕ) → k < length (c .segments) → 1 ≤ length ((nth (c .segments) k) .body)
     pub short : (k : ℕ) → k < length (c .segments) → length ((nth (c .segments) k) .body) ≤ longest
@@ -58,26 +58,26 @@ module _ (width : ℕ) (bytes lens : List ℕ) (frames : Framed (length bytes) l
     pub at-start : leastRoom width ≤ c .room → 1 ≤ length (c .segments) → c .position .offset ≡ 0
 
   -- what a segment that is placed has
-  module _ (c : Cut) (k : Cutting c) (goes : goesOn width lens c ≡ true) where
+  module _ (c : Cut) (k : Cutting c) (goes : goesOn width lengths c ≡ true) where
     abbrev size : ℕ
-    size = sizeOfNext width lens c
+    size = sizeOfNext width lengths c
 
     abbrev segment : Segment
-    segment = segmentFrom bytes lens (c .position) size
+    segment = segmentFrom bytes lengths (c .position) size
 
-    pub frames-remain : c .position .frame < length lens
-    frames-remain = ltb-true _ _ (and-left (ltb (c .position .frame) (length lens)) (leb (leastRoom width) (c .room)) goes)
+    pub frames-remain : c .position .frame < length lengths
+    frames-remain = ltb-true _ _ (and-left (ltb (c .position .frame) (length lengths)) (leb (leastRoom width) (c .room)) goes)
 
     pub room-enough : leastRoom width ≤ c .room
-    room-enough = leb-true _ _ (and-right (ltb (c .position .frame) (length lens)) (leb (leastRoom width) (c .room)) goes)
+    room-enough = leb-true _ _ (and-right (ltb (c .position .frame) (length lengths)) (leb (leastRoom width) (c .room)) goes)
 
-    pub offset-below : c .position .offset < frameLength lens (c .position .frame)
+    pub offset-below : c .position .offset < frameLength lengths (c .position .frame)
     offset-below = k .inside .in-frame frames-remain
 
     pub size-some : 1 ≤ size
     size-some = omega (arith, offset-below, room-enough)
 
-    pub size-left : size ≤ leftOf lens (c .position)
+    pub size-left : size ≤ leftOf lengths (c .position)
     size-left = omega arith
 
     pub size-room : width + size ≤ c .room
@@ -86,25 +86,25 @@ module _ (width : ℕ) (bytes lens : List ℕ) (frames : Framed (length bytes) l
     size-short : size ≤ longest
     size-short = omega (arith, frames .not-long (c .position .frame) frames-remain)
 
-    pub body-inside : indexOf lens (c .position) + size ≤ length bytes
+    pub body-inside : indexOf lengths (c .position) + size ≤ length bytes
     body-inside = let l = left-within frames (c .position) frames-remain (omega (arith, offset-below)) in omega arith
 
     pub body-length : length (segment .body) ≡ size
-    body-length = length-part bytes (indexOf lens (c .position)) size body-inside
+    body-length = length-part bytes (indexOf lengths (c .position)) size body-inside
 
-    carries : Carries bytes lens (c .position) segment
+    carries : Carries bytes lengths (c .position) segment
     carries =
         record {
           some = omega (arith, body-length, size-some);
           of-the-frame = omega (arith, body-length, size-left);
-          is-next = ap (segmentFrom bytes lens (c .position)) (sym body-length);
+          is-next = ap (segmentFrom bytes lengths (c .position)) (sym body-length);
         }
 
     -- room is left behind it only where it ended its frame
-    ends-then : leastRoom width ≤ c .room - (width + size) → size ≡ leftOf lens (c .position)
+    ends-then : leastRoom width ≤ c .room - (width + size) → size ≡ leftOf lengths (c .position)
     ends-then h = omega arith
 
-    pub place-keeps : Cutting (place width bytes lens c)
+    pub place-keeps : Cutting (place width bytes lengths c)
     place-keeps =
         let n = length-more (c .segments) segment in
         let j = joined-map-more bodyOf (c .segments) segment in
@@ -113,16 +113,16 @@ module _ (width : ℕ) (bytes lens : List ℕ) (frames : Framed (length bytes) l
         let wide : width * length (c .segments ++ (segment ∷ [])) ≡ width * length (c .segments) + width =
         ap (λ (m : ℕ). width * m) (n ∙ add-one (length (c .segments))) ∙ mul-suc width (length (c .segments)) in
         record {
-          carried = carried-append bytes lens from (c .position) (after lens (c .position) size) (c .segments) (segment ∷ []) (k .carried)
-              (carries, ap (after lens (c .position)) body-length);
-          inside = after-inside lens (c .position) size size-some size-left frames frames-remain;
+          carried = carried-append bytes lengths from (c .position) (after lengths (c .position) size) (c .segments) (segment ∷ []) (k .carried)
+              (carries, ap (after lengths (c .position)) body-length);
+          inside = after-inside lengths (c .position) size size-some size-left frames frames-remain;
           in-room = omega (arith, k .in-room, long, wide, size-room);
           filled = each-more (λ s. 1 ≤ length (s .body)) (c .segments) segment (k .filled) (omega (arith, body-length, size-some));
           short = each-more (λ s. length (s .body) ≤ longest) (c .segments) segment (k .short) (omega (arith, body-length, size-short));
           begun = λ i l z. begun-more i (omega (arith, n)) z;
           ended = λ i l z. ended-more i (omega (arith, n)) (λ e. z (e ∙ sym n));
-          all-ended = λ r. each-more (λ s. s .ends ≡ true) (c .segments) segment (k .all-ended room-enough) (eq-eqb size (leftOf lens (c .position)) (ends-then r));
-          at-start = λ r _. ap (λ (t : Bool). (cond t (nextFrame (c .position)) (fartherOn (c .position) size)) .offset) (eq-eqb size (leftOf lens (c .position)) (ends-then r));
+          all-ended = λ r. each-more (λ s. s .ends ≡ true) (c .segments) segment (k .all-ended room-enough) (eq-eqb size (leftOf lengths (c .position)) (ends-then r));
+          at-start = λ r _. ap (λ (t : Bool). (cond t (nextFrame (c .position)) (fartherOn (c .position) size)) .offset) (eq-eqb size (leftOf lengths (c .position)) (ends-then r));
         }
       where
         begun-more : (i : ℕ) → i ≤ length (c .segments) → (i ≡ 0 → ⊥) → (nth (c .segments ++ (segment ∷ [])) i) .begins ≡ true
@@ -141,17 +141,17 @@ module _ (width : ℕ) (bytes lens : List ℕ) (frames : Framed (length bytes) l
 
   -- So the whole cut keeps it.
   step-keeps : (f : Cut → Cut) → ((d : Cut) → Cutting d → Cutting (f d)) → (c : Cut) → Cutting c →
-      (t : Bool) → goesOn width lens c ≡ t → Cutting (cond t (f (place width bytes lens c)) c)
-  step-keeps f keeps c k true e = keeps (place width bytes lens c) (place-keeps c k e)
+      (t : Bool) → goesOn width lengths c ≡ t → Cutting (cond t (f (place width bytes lengths c)) c)
+  step-keeps f keeps c k true e = keeps (place width bytes lengths c) (place-keeps c k e)
   step-keeps f keeps c k false e = k
 
-  pub cut-keeps : (more : ℕ) (c : Cut) → Cutting c → Cutting (cut more width bytes lens c)
+  pub cut-keeps : (more : ℕ) (c : Cut) → Cutting c → Cutting (cut more width bytes lengths c)
   unfolding cut
   cut-keeps zero c k = k
-  cut-keeps (suc more) c k = step-keeps (cut more width bytes lens) (cut-keeps more) c k (goesOn width lens c) refl
+  cut-keeps (suc more) c k = step-keeps (cut more width bytes lengths) (cut-keeps more) c k (goesOn width lengths c) refl
 
   -- Nothing is placed at the start.
-  pub cutting-start : Inside lens from → Cutting (record { room = room; position = from; segments = [] })
+  pub cutting-start : Inside lengths from → Cutting (record { room = room; position = from; segments = [] })
   unfolding joined
   cutting-start i =
       record {
@@ -167,17 +167,17 @@ module _ (width : ℕ) (bytes lens : List ℕ) (frames : Framed (length bytes) l
       }
 
 -- One segment more, or none; and how many there are in all.
-module _ (width : ℕ) (bytes lens : List ℕ) where
-  pub cut-turn : (more : ℕ) (c : Cut) → goesOn width lens c ≡ true → cut (suc more) width bytes lens c ≡ cut more width bytes lens (place width bytes lens c)
+module _ (width : ℕ) (bytes lengths : List ℕ) where
+  pub cut-turn : (more : ℕ) (c : Cut) → goesOn width lengths c ≡ true → cut (suc more) width bytes lengths c ≡ cut more width bytes lengths (place width bytes lengths c)
   unfolding cut
-  cut-turn more c e = ap (λ (t : Bool). cond t (cut more width bytes lens (place width bytes lens c)) c) e
+  cut-turn more c e = ap (λ (t : Bool). cond t (cut more width bytes lengths (place width bytes lengths c)) c) e
 
-  pub cut-stops : (more : ℕ) (c : Cut) → goesOn width lens c ≡ false → cut more width bytes lens c ≡ c
+  pub cut-stops : (more : ℕ) (c : Cut) → goesOn width lengths c ≡ false → cut more width bytes lengths c ≡ c
   unfolding cut
   cut-stops zero c e = refl
-  cut-stops (suc more) c e = ap (λ (t : Bool). cond t (cut more width bytes lens (place width bytes lens c)) c) e
+  cut-stops (suc more) c e = ap (λ (t : Bool). cond t (cut more width bytes lengths (place width bytes lengths c)) c) e
 
-  pub cut-none : (c : Cut) → cut 0 width bytes lens c ≡ c
+  pub cut-none : (c : Cut) → cut 0 width bytes lengths c ≡ c
   unfolding cut
   cut-none c = refl
 
@@ -185,20 +185,20 @@ module _ (width : ℕ) (bytes lens : List ℕ) where
     pub no-fewer : length (c .segments) ≤ length (d .segments)
     pub no-more : length (d .segments) ≤ length (c .segments) + more
 
-  step-counts : (more : ℕ) (f : Cut → Cut) → ((d : Cut) → Counted more d (f d)) → (c : Cut) (t : Bool) → Counted (suc more) c (cond t (f (place width bytes lens c)) c)
+  step-counts : (more : ℕ) (f : Cut → Cut) → ((d : Cut) → Counted more d (f d)) → (c : Cut) (t : Bool) → Counted (suc more) c (cond t (f (place width bytes lengths c)) c)
   step-counts more f counts c true =
-      let n = length-more (c .segments) (segmentFrom bytes lens (c .position) (sizeOfNext width lens c)) in
-      let r = counts (place width bytes lens c) in
+      let n = length-more (c .segments) (segmentFrom bytes lengths (c .position) (sizeOfNext width lengths c)) in
+      let r = counts (place width bytes lengths c) in
       record { no-fewer = omega (arith, r .no-fewer, n); no-more = omega (arith, r .no-more, n) }
   step-counts more f counts c false = record { no-fewer = omega arith; no-more = omega arith }
 
-  pub cut-counts : (more : ℕ) (c : Cut) → Counted more c (cut more width bytes lens c)
+  pub cut-counts : (more : ℕ) (c : Cut) → Counted more c (cut more width bytes lengths c)
   unfolding cut
   cut-counts zero c = record { no-fewer = omega arith; no-more = omega arith }
-  cut-counts (suc more) c = step-counts more (cut more width bytes lens) (cut-counts more) c (goesOn width lens c)
+  cut-counts (suc more) c = step-counts more (cut more width bytes lengths) (cut-counts more) c (goesOn width lengths c)
 
-  pub cut-some : (more : ℕ) (c : Cut) → goesOn width lens c ≡ true → length (c .segments) + 1 ≤ length (cut (suc more) width bytes lens c .segments)
+  pub cut-some : (more : ℕ) (c : Cut) → goesOn width lengths c ≡ true → length (c .segments) + 1 ≤ length (cut (suc more) width bytes lengths c .segments)
   cut-some more c e =
-      let n = length-more (c .segments) (segmentFrom bytes lens (c .position) (sizeOfNext width lens c)) in
-      let r = cut-counts more (place width bytes lens c) .no-fewer in
+      let n = length-more (c .segments) (segmentFrom bytes lengths (c .position) (sizeOfNext width lengths c)) in
+      let r = cut-counts more (place width bytes lengths c) .no-fewer in
       rw (cut-turn more c e) (omega (arith, n, r))

@@ -32,7 +32,7 @@ asks limit number position =
       number = number;
       limit = limit;
       bytes = twoFrames;
-      lens = 6 ∷ 9 ∷ [];
+      lengths = 6 ∷ 9 ∷ [];
       position = position;
       output = replicate 22 0xEE;
     }
@@ -48,9 +48,9 @@ unfolding sent sentBy written cutFor cut packetOf frameStart part put joined any
 m12-b = refl
 
 -- and as a series, with one call more than there are packets
-m12 : (seriesPackets (record { session = 0x101; flow = 1; bytes = twoFrames; lens = 6 ∷ 9 ∷ [] }) 0xFFFF (at 0 0)
+m12 : (seriesPackets (record { session = 0x101; flow = 1; bytes = twoFrames; lengths = 6 ∷ 9 ∷ [] }) 0xFFFF (at 0 0)
     (replicate 3 (record { limit = 16; output = replicate 20 0 })) ≡ A ∷ B ∷ [])
-    × (seriesEnd (record { session = 0x101; flow = 1; bytes = twoFrames; lens = 6 ∷ 9 ∷ [] }) 0xFFFF (at 0 0)
+    × (seriesEnd (record { session = 0x101; flow = 1; bytes = twoFrames; lengths = 6 ∷ 9 ∷ [] }) 0xFFFF (at 0 0)
     (replicate 3 (record { limit = 16; output = replicate 20 0 })) ≡ at 2 0)
 unfolding seriesPackets seriesEnd sent sentBy written refused cutFor cut packetOf frameStart part put joined any sumTo next
 m12 = (refl, refl)
@@ -60,7 +60,7 @@ abbrev turn : ℕ → Turn
 turn limit = record { limit = limit; output = replicate 24 0 }
 
 abbrev job : Job
-job = record { session = 0x101; flow = 1; bytes = twoFrames; lens = 6 ∷ 9 ∷ [] }
+job = record { session = 0x101; flow = 1; bytes = twoFrames; lengths = 6 ∷ 9 ∷ [] }
 
 series : (seriesPackets job 0xFFFF (at 0 0) (turn 20 ∷ turn 16 ∷ [])
     ≡ (0x00 ∷ 0x00 ∷ 0x01 ∷ 0x01 ∷ 0x41 ∷ 0x02 ∷ 0xFF ∷ 0xFF ∷ 0xC0 ∷ 0x06 ∷ 0x80 ∷ 0x06 ∷ 0x11 ∷ 0x12 ∷ 0x13 ∷ 0x14 ∷ 0x15 ∷ 0x16 ∷ 0x21 ∷ 0x22 ∷ 0x23 ∷ 0x24 ∷ 0x25 ∷ 0x26 ∷ [])
@@ -87,8 +87,8 @@ limits-and-positions = (refl, refl, refl, refl, refl, refl, refl, refl, refl, re
 
 -- The address; the frames: lengths of 0, 2,048 and 2,049, sums that are a byte off, 127 and 128 frames, none; and 31 before 32 before 33 before 34.
 abbrev bare : ℕ → ℕ → ℕ → List ℕ → ℕ → Asked
-bare session flow limit lens n =
-    record { session = session; flow = flow; number = 0; limit = limit; bytes = replicate n 7; lens = lens; position = at 0 0; output = replicate 20 0 }
+bare session flow limit lengths n =
+    record { session = session; flow = flow; number = 0; limit = limit; bytes = replicate n 7; lengths = lengths; position = at 0 0; output = replicate 20 0 }
 
 addresses-and-frames : (code (bare 0 0 16 (1 ∷ []) 1) ≡ 31) × (code (bare 4294967295 0 16 (1 ∷ []) 1) ≡ 0) × (code (bare 1 3 16 (1 ∷ []) 1) ≡ 0) × (code (bare 1 4 16 (1 ∷ []) 1) ≡ 31)
     × (code (bare 1 0 16 (1 ∷ 0 ∷ []) 1) ≡ 33) × (code (bare 1 0 16 (2048 ∷ []) 2048) ≡ 0) × (code (bare 1 0 16 (2049 ∷ []) 2049) ≡ 33)
@@ -107,7 +107,7 @@ cuts n =
       number = 7;
       limit = 16;
       bytes = replicate n 0xAA ++ replicate 5 0xBB;
-      lens = n ∷ 5 ∷ [];
+      lengths = n ∷ 5 ∷ [];
       position = at 0 0;
       output = replicate 20 0;
     })
@@ -130,7 +130,7 @@ room-bytes = (refl, refl, refl)
 -- 127 frames of one byte with the greatest limit: all in one packet, though there is room for more; then nothing is left
 abbrev many : ℕ → Asked
 many frame =
-    record { session = 1; flow = 3; number = 7; limit = 4096; bytes = replicate 127 9; lens = replicate 127 1; position = at frame 0; output = replicate 4100 0 }
+    record { session = 1; flow = 3; number = 7; limit = 4096; bytes = replicate 127 9; lengths = replicate 127 1; position = at frame 0; output = replicate 4100 0 }
 
 all-127 : ((sent (many 0)) .answer ≡ record { code = 0; length = 389; position = at 127 0; number = 8 }) × (code (many 127) ≡ 35)
 unfolding sent sentBy written refused cutFor cut packetOf frameStart part put joined any sumTo next

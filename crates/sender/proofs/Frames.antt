@@ -26,50 +26,50 @@ use Rattle.sender.proofs.Positions.{Framed, left-within}
 
 -- the bytes of frame i; and of n frames from frame i on
 abbrev pub frameOf : List ℕ → List ℕ → ℕ → List ℕ
-frameOf bytes lens i = part bytes (frameStart lens i) (frameLength lens i)
+frameOf bytes lengths i = part bytes (frameStart lengths i) (frameLength lengths i)
 
 abbrev pub framesFrom : List ℕ → List ℕ → ℕ → ℕ → List (List ℕ)
-framesFrom bytes lens i zero = []
-framesFrom bytes lens i (suc n) = frameOf bytes lens i ∷ framesFrom bytes lens (i + 1) n
+framesFrom bytes lengths i zero = []
+framesFrom bytes lengths i (suc n) = frameOf bytes lengths i ∷ framesFrom bytes lengths (i + 1) n
 
 abbrev pub Filled : List ℕ → Type 0
 Filled piece = 1 ≤ length piece
 
 -- Segments from a frame's start on: whole frames, and one that is begun (or nothing of it).
-pub record Apart (bytes lens : List ℕ) (from : ℕ) (segs : List Segment) (end : Position) : Type 0 where
+pub record Apart (bytes lengths : List ℕ) (from : ℕ) (segs : List Segment) (end : Position) : Type 0 where
   pub frames : List Pieces
   pub begun : Pieces
   pub in-order : segs ≡ inTurn frames ++ begunFrame true begun
   pub sizes : Each FrameSized frames
   pub reaches : end .frame ≡ from + length frames
-  pub their-bytes : map joined frames ≡ framesFrom bytes lens from (length frames)
-  pub begun-bytes : joined begun ≡ part bytes (frameStart lens (end .frame)) (end .offset)
+  pub their-bytes : map joined frames ≡ framesFrom bytes lengths from (length frames)
+  pub begun-bytes : joined begun ≡ part bytes (frameStart lengths (end .frame)) (end .offset)
   pub begun-some : Each Filled begun
 
 -- Segments from anywhere in a frame: they end it, or they do not.
-data Going (bytes lens : List ℕ) (first : Bool) (at : Position) (segs : List Segment) (end : Position) : Type 0 where
+data Going (bytes lengths : List ℕ) (first : Bool) (at : Position) (segs : List Segment) (end : Position) : Type 0 where
   stays : (ps : Pieces) → segs ≡ begunFrame first ps → end .frame ≡ at .frame → end .offset ≡ at .offset + length (joined ps) →
-      joined ps ≡ part bytes (indexOf lens at) (length (joined ps)) → Each Filled ps → Going bytes lens first at segs end
+      joined ps ≡ part bytes (indexOf lengths at) (length (joined ps)) → Each Filled ps → Going bytes lengths first at segs end
   leaves : (p : List ℕ) (ps : Pieces) (more : List Segment) → segs ≡ wholeFrame first (p ∷ ps) ++ more →
-      1 ≤ leftOf lens at → joined (p ∷ ps) ≡ part bytes (indexOf lens at) (leftOf lens at) → Apart bytes lens (at .frame + 1) more end → Going bytes lens first at segs end
+      1 ≤ leftOf lengths at → joined (p ∷ ps) ≡ part bytes (indexOf lengths at) (leftOf lengths at) → Apart bytes lengths (at .frame + 1) more end → Going bytes lengths first at segs end
 
 -- a frame that has bytes is one of the frames
-remains : (lens : List ℕ) (i : ℕ) → 1 ≤ frameLength lens i → i < length lens
+remains : (lengths : List ℕ) (i : ℕ) → 1 ≤ frameLength lengths i → i < length lengths
 remains [] i h = absurd (not-suc-le-zero h)
-remains (n ∷ lens) zero h = omega arith
-remains (n ∷ lens) (suc i) h = let r = remains lens i h in omega arith
+remains (n ∷ lengths) zero h = omega arith
+remains (n ∷ lengths) (suc i) h = let r = remains lengths i h in omega arith
 
-module _ (bytes lens : List ℕ) (f : Framed (length bytes) lens) where
-  frame-sized : (i : ℕ) → i < length lens → (1 ≤ length (frameOf bytes lens i)) × (length (frameOf bytes lens i) ≤ longest)
+module _ (bytes lengths : List ℕ) (f : Framed (length bytes) lengths) where
+  frame-sized : (i : ℕ) → i < length lengths → (1 ≤ length (frameOf bytes lengths i)) × (length (frameOf bytes lengths i) ≤ longest)
   frame-sized i l =
       let inside = left-within f (record { frame = i; offset = 0 }) l (omega arith) in
-      let n = length-part bytes (frameStart lens i) (frameLength lens i) (omega (arith, inside)) in
+      let n = length-part bytes (frameStart lengths i) (frameLength lengths i) (omega (arith, inside)) in
       (omega (arith, n, f .some-bytes i l), omega (arith, n, f .not-long i l))
 
-  at-start : (i : ℕ) (segs : List Segment) (end : Position) → Going bytes lens true (record { frame = i; offset = 0 }) segs end → Apart bytes lens i segs end
+  at-start : (i : ℕ) (segs : List Segment) (end : Position) → Going bytes lengths true (record { frame = i; offset = 0 }) segs end → Apart bytes lengths i segs end
   unfolding inTurn
   at-start i segs end (stays ps e same further its-bytes filled) =
-      let zero-first : frameStart lens i + 0 ≡ frameStart lens i = omega arith in
+      let zero-first : frameStart lengths i + 0 ≡ frameStart lengths i = omega arith in
       let reached : end .offset ≡ length (joined ps) = omega (arith, further) in
       record {
         frames = [];
@@ -82,13 +82,13 @@ module _ (bytes lens : List ℕ) (f : Framed (length bytes) lens) where
         begun-some = filled;
       }
   at-start i segs end (leaves p ps more e some its-bytes a) =
-      let whole : joined (p ∷ ps) ≡ frameOf bytes lens i =
-      its-bytes ∙ ap (λ (k : ℕ). part bytes k (frameLength lens i - 0)) (add-zero (frameStart lens i)) ∙ ap (part bytes (frameStart lens i)) (less-none (frameLength lens i)) in
+      let whole : joined (p ∷ ps) ≡ frameOf bytes lengths i =
+      its-bytes ∙ ap (λ (k : ℕ). part bytes k (frameLength lengths i - 0)) (add-zero (frameStart lengths i)) ∙ ap (part bytes (frameStart lengths i)) (less-none (frameLength lengths i)) in
       record {
         frames = (p ∷ ps) ∷ a .frames;
         begun = a .begun;
         in-order = e ∙ ap (λ (l : List Segment). wholeFrame true (p ∷ ps) ++ l) (a .in-order) ∙ sym (append-assoc (wholeFrame true (p ∷ ps)) (inTurn (a .frames)) (begunFrame true (a .begun)));
-        sizes = (rw whole (frame-sized i (remains lens i (omega arith))), a .sizes);
+        sizes = (rw whole (frame-sized i (remains lengths i (omega arith))), a .sizes);
         reaches = omega (arith, a .reaches);
         their-bytes = rw (whole, a .their-bytes) refl;
         begun-bytes = a .begun-bytes;
@@ -98,77 +98,77 @@ module _ (bytes lens : List ℕ) (f : Framed (length bytes) lens) where
       less-none : (n : ℕ) → n - 0 ≡ n
       less-none n = omega arith
 
-  module _ (at end : Position) (s : Segment) (segs : List Segment) (c : Carries bytes lens at s) where
+  module _ (at end : Position) (s : Segment) (segs : List Segment) (c : Carries bytes lengths at s) where
     abbrev size : ℕ
     size = length (s .body)
 
-    body-is : s .body ≡ part bytes (indexOf lens at) size
+    body-is : s .body ≡ part bytes (indexOf lengths at) size
     body-is = ap (λ (x : Segment). x .body) (c .is-next)
 
-    segment-is : (t : Bool) → eqb size (leftOf lens at) ≡ t → s ≡ record { begins = eqb (at .offset) 0; ends = t; body = s .body }
-    segment-is t e = c .is-next ∙ again (part bytes (indexOf lens at) size) (sym body-is) (eqb size (leftOf lens at)) e
+    segment-is : (t : Bool) → eqb size (leftOf lengths at) ≡ t → s ≡ record { begins = eqb (at .offset) 0; ends = t; body = s .body }
+    segment-is t e = c .is-next ∙ again (part bytes (indexOf lengths at) size) (sym body-is) (eqb size (leftOf lengths at)) e
       where
         again : (b : List ℕ) → b ≡ s .body → (u : Bool) → u ≡ t →
             _≡_ {A = Segment} (record { begins = eqb (at .offset) 0; ends = u; body = b }) (record { begins = eqb (at .offset) 0; ends = t; body = s .body })
         again b q u r = rw (q, r) refl
 
     -- it ends its frame
-    on-last : eqb size (leftOf lens at) ≡ true → Going bytes lens true (nextFrame at) segs end → Going bytes lens (eqb (at .offset) 0) at (s ∷ segs) end
+    on-last : eqb size (leftOf lengths at) ≡ true → Going bytes lengths true (nextFrame at) segs end → Going bytes lengths (eqb (at .offset) 0) at (s ∷ segs) end
     unfolding wholeFrame joined
     on-last e g =
-        let all : size ≡ leftOf lens at = eqb-true size (leftOf lens at) e in
-        leaves (s .body) [] segs (ap (λ (x : Segment). x ∷ segs) (segment-is true e)) (omega (arith, c .some)) (append-nil (s .body) ∙ body-is ∙ ap (part bytes (indexOf lens at)) all)
+        let all : size ≡ leftOf lengths at = eqb-true size (leftOf lengths at) e in
+        leaves (s .body) [] segs (ap (λ (x : Segment). x ∷ segs) (segment-is true e)) (omega (arith, c .some)) (append-nil (s .body) ∙ body-is ∙ ap (part bytes (indexOf lengths at)) all)
         (at-start (at .frame + 1) segs end g)
 
     -- it does not
-    on-part : eqb size (leftOf lens at) ≡ false → Going bytes lens false (fartherOn at size) segs end → Going bytes lens (eqb (at .offset) 0) at (s ∷ segs) end
+    on-part : eqb size (leftOf lengths at) ≡ false → Going bytes lengths false (fartherOn at size) segs end → Going bytes lengths (eqb (at .offset) 0) at (s ∷ segs) end
     unfolding wholeFrame begunFrame joined
     on-part e (stays ps q same further its-bytes filled) =
         let n = length-append (s .body) (joined ps) in
-        let index : indexOf lens (fartherOn at size) ≡ indexOf lens at + size = omega arith in
+        let index : indexOf lengths (fartherOn at size) ≡ indexOf lengths at + size = omega arith in
         stays (s .body ∷ ps) (rw q (ap (λ (x : Segment). x ∷ begunFrame false ps) (segment-is false e))) same (omega (arith, further, n))
         (ap (λ (l : List ℕ). l ++ joined ps) body-is
-        ∙ ap (λ (l : List ℕ). part bytes (indexOf lens at) size ++ l) (its-bytes ∙ ap (λ (k : ℕ). part bytes k (length (joined ps))) index)
-        ∙ part-part bytes (indexOf lens at) size (length (joined ps)) ∙ ap (part bytes (indexOf lens at)) (sym n))
+        ∙ ap (λ (l : List ℕ). part bytes (indexOf lengths at) size ++ l) (its-bytes ∙ ap (λ (k : ℕ). part bytes k (length (joined ps))) index)
+        ∙ part-part bytes (indexOf lengths at) size (length (joined ps)) ∙ ap (part bytes (indexOf lengths at)) (sym n))
         (c .some, filled)
     on-part e (leaves p ps more q some its-bytes a) =
-        let index : indexOf lens (fartherOn at size) ≡ indexOf lens at + size = omega arith in
-        let all : size + leftOf lens (fartherOn at size) ≡ leftOf lens at = omega (arith, c .of-the-frame, some) in
+        let index : indexOf lengths (fartherOn at size) ≡ indexOf lengths at + size = omega arith in
+        let all : size + leftOf lengths (fartherOn at size) ≡ leftOf lengths at = omega (arith, c .of-the-frame, some) in
         leaves (s .body) (p ∷ ps) more (rw q (ap (λ (x : Segment). x ∷ (wholeFrame false (p ∷ ps) ++ more)) (segment-is false e))) (omega (arith, c .some, c .of-the-frame))
         (ap (λ (l : List ℕ). l ++ joined (p ∷ ps)) body-is
-        ∙ ap (λ (l : List ℕ). part bytes (indexOf lens at) size ++ l) (its-bytes ∙ ap (λ (k : ℕ). part bytes k (leftOf lens (fartherOn at size))) index)
-        ∙ part-part bytes (indexOf lens at) size (leftOf lens (fartherOn at size)) ∙ ap (part bytes (indexOf lens at)) all)
+        ∙ ap (λ (l : List ℕ). part bytes (indexOf lengths at) size ++ l) (its-bytes ∙ ap (λ (k : ℕ). part bytes k (leftOf lengths (fartherOn at size))) index)
+        ∙ part-part bytes (indexOf lengths at) size (leftOf lengths (fartherOn at size)) ∙ ap (part bytes (indexOf lengths at)) all)
         a
 
-    on-one : ((from : Position) → Carried bytes lens from segs end → Going bytes lens (eqb (from .offset) 0) from segs end) →
-        (t : Bool) → eqb size (leftOf lens at) ≡ t → Carried bytes lens (cond t (nextFrame at) (fartherOn at size)) segs end → Going bytes lens (eqb (at .offset) 0) at (s ∷ segs) end
+    on-one : ((from : Position) → Carried bytes lengths from segs end → Going bytes lengths (eqb (from .offset) 0) from segs end) →
+        (t : Bool) → eqb size (leftOf lengths at) ≡ t → Carried bytes lengths (cond t (nextFrame at) (fartherOn at size)) segs end → Going bytes lengths (eqb (at .offset) 0) at (s ∷ segs) end
     on-one others true e p = on-last e (others (nextFrame at) p)
     on-one others false e p =
         let later : eqb (at .offset + size) 0 ≡ false = ne-eqb (at .offset + size) 0 (λ z. omega (arith, c .some)) in
         on-part e (rw later at (others (fartherOn at size) p))
 
-  going : (at end : Position) (segs : List Segment) → Carried bytes lens at segs end → Going bytes lens (eqb (at .offset) 0) at segs end
+  going : (at end : Position) (segs : List Segment) → Carried bytes lengths at segs end → Going bytes lengths (eqb (at .offset) 0) at segs end
   unfolding begunFrame joined
-  going at end [] p = stays [] refl (ap (λ (x : Position). x .frame) (sym p)) (ap (λ (x : Position). x .offset) (sym p) ∙ sym (add-zero (at .offset))) (sym (part-none bytes (indexOf lens at))) tt
-  going at end (s ∷ segs) p = on-one at end s segs (p .0) (λ from q. going from end segs q) (eqb (length (s .body)) (leftOf lens at)) refl (p .1)
+  going at end [] p = stays [] refl (ap (λ (x : Position). x .frame) (sym p)) (ap (λ (x : Position). x .offset) (sym p) ∙ sym (add-zero (at .offset))) (sym (part-none bytes (indexOf lengths at))) tt
+  going at end (s ∷ segs) p = on-one at end s segs (p .0) (λ from q. going from end segs q) (eqb (length (s .body)) (leftOf lengths at)) refl (p .1)
 
-  pub carried-apart : (i : ℕ) (end : Position) (segs : List Segment) → Carried bytes lens (record { frame = i; offset = 0 }) segs end → Apart bytes lens i segs end
+  pub carried-apart : (i : ℕ) (end : Position) (segs : List Segment) → Carried bytes lengths (record { frame = i; offset = 0 }) segs end → Apart bytes lengths i segs end
   carried-apart i end segs p = at-start i segs end (going (record { frame = i; offset = 0 }) end segs p)
 
 -- All frames, taken from the first on, are those that the lengths cut the bytes into.
-module _ (bytes lens : List ℕ) where
-  frames-cut : (more : List ℕ) (i : ℕ) → more ≡ rest lens i → framesFrom bytes lens i (length more) ≡ cutBy more (rest bytes (frameStart lens i))
+module _ (bytes lengths : List ℕ) where
+  frames-cut : (more : List ℕ) (i : ℕ) → more ≡ rest lengths i → framesFrom bytes lengths i (length more) ≡ cutBy more (rest bytes (frameStart lengths i))
   unfolding cutBy rest part frameStart
   frames-cut [] i e = refl
   frames-cut (x ∷ more) i e =
-      let its-length : frameLength lens i ≡ x =
-      ap (frameLength lens) (sym (add-zero i)) ∙ sym (byte-rest lens i 0) ∙ sym (ap (λ (l : List ℕ). byteAt l 0) e) in
-      let others : more ≡ rest lens (i + 1) = ap (drop 1) e ∙ drop-drop 1 i lens in
-      let start : frameStart lens (i + 1) ≡ frameStart lens i + x = sum-more (frameLength lens) i ∙ ap (λ (n : ℕ). frameStart lens i + n) its-length in
-      let tail : framesFrom bytes lens (i + 1) (length more) ≡ cutBy more (drop x (rest bytes (frameStart lens i))) =
-      frames-cut more (i + 1) others ∙ ap (cutBy more) (ap (rest bytes) start ∙ sym (drop-drop x (frameStart lens i) bytes)) in
+      let its-length : frameLength lengths i ≡ x =
+      ap (frameLength lengths) (sym (add-zero i)) ∙ sym (byte-rest lengths i 0) ∙ sym (ap (λ (l : List ℕ). byteAt l 0) e) in
+      let others : more ≡ rest lengths (i + 1) = ap (drop 1) e ∙ drop-drop 1 i lengths in
+      let start : frameStart lengths (i + 1) ≡ frameStart lengths i + x = sum-more (frameLength lengths) i ∙ ap (λ (n : ℕ). frameStart lengths i + n) its-length in
+      let tail : framesFrom bytes lengths (i + 1) (length more) ≡ cutBy more (drop x (rest bytes (frameStart lengths i))) =
+      frames-cut more (i + 1) others ∙ ap (cutBy more) (ap (rest bytes) start ∙ sym (drop-drop x (frameStart lengths i) bytes)) in
       rw (its-length, tail) refl
 
-  pub all-frames : framesFrom bytes lens 0 (length lens) ≡ cutBy lens bytes
+  pub all-frames : framesFrom bytes lengths 0 (length lengths) ≡ cutBy lengths bytes
   unfolding rest frameStart sumTo
-  all-frames = frames-cut lens 0 refl
+  all-frames = frames-cut lengths 0 refl

@@ -21,46 +21,46 @@ use Rattle.sender.specs.Cut.{frameLength}
 use Rattle.sender.specs.Send.{mostFrames, leastLimit, greatestLimit, badAddress, badLimit, badSize, badLength, badFrames, outside, earlyRefusals, laterRefusals}
 
 -- The survey of the lengths.
-pub record Surveying (lens : List ℕ) (n total : ℕ) (bad : Bool) (k : ℕ) : Type 0 where
-  pub gathered : Gathered false (badLength lens) n bad k
-  pub sum : total ≡ sumTo (frameLength lens) k
+pub record Surveying (lengths : List ℕ) (n total : ℕ) (bad : Bool) (k : ℕ) : Type 0 where
+  pub gathered : Gathered false (badLength lengths) n bad k
+  pub sum : total ≡ sumTo (frameLength lengths) k
   pub small : total ≤ 65536 * k
 
-pub survey-begin : (lens : List ℕ) (n : ℕ) → Surveying lens n 0 false 0
-survey-begin lens n = record { gathered = gather-begin false (badLength lens) n; sum = sym (sum-none (frameLength lens)); small = omega arith }
+pub survey-begin : (lengths : List ℕ) (n : ℕ) → Surveying lengths n 0 false 0
+survey-begin lengths n = record { gathered = gather-begin false (badLength lengths) n; sum = sym (sum-none (frameLength lengths)); small = omega arith }
 
-pub survey-turn : {lens : List ℕ} {n total : ℕ} {bad : Bool} {k size : ℕ} {r : Bool} → Surveying lens n total bad k → k < n →
-    size ≡ frameLength lens k → size < 65536 → r ≡ badSize size → Surveying lens n (total + size) (bad || r) (k + 1)
-survey-turn {lens} {n} {total} {bad} {k} {size} {r} s l e small j =
+pub survey-turn : {lengths : List ℕ} {n total : ℕ} {bad : Bool} {k size : ℕ} {r : Bool} → Surveying lengths n total bad k → k < n →
+    size ≡ frameLength lengths k → size < 65536 → r ≡ badSize size → Surveying lengths n (total + size) (bad || r) (k + 1)
+survey-turn {lengths} {n} {total} {bad} {k} {size} {r} s l e small j =
     record {
       gathered = gather-turn (s .gathered) l (j ∙ ap badSize e);
-      sum = rw (sum-more (frameLength lens) k, s .sum, e) refl;
+      sum = rw (sum-more (frameLength lengths) k, s .sum, e) refl;
       small = omega (arith, s .small);
     }
 
-pub survey-sum : {lens : List ℕ} {n total : ℕ} {bad : Bool} {k : ℕ} → Surveying lens n total bad k → n ≤ k → total ≡ sumTo (frameLength lens) n
-survey-sum {lens} {n} {total} {bad} {k} s l = let q : k ≡ n = omega (arith, s .gathered .within) in s .sum ∙ ap (sumTo (frameLength lens)) q
+pub survey-sum : {lengths : List ℕ} {n total : ℕ} {bad : Bool} {k : ℕ} → Surveying lengths n total bad k → n ≤ k → total ≡ sumTo (frameLength lengths) n
+survey-sum {lengths} {n} {total} {bad} {k} s l = let q : k ≡ n = omega (arith, s .gathered .within) in s .sum ∙ ap (sumTo (frameLength lengths)) q
 
-pub survey-bad : {lens : List ℕ} {n total : ℕ} {bad : Bool} {k : ℕ} → Surveying lens n total bad k → n ≤ k → bad ≡ any (badLength lens) n
+pub survey-bad : {lengths : List ℕ} {n total : ℕ} {bad : Bool} {k : ℕ} → Surveying lengths n total bad k → n ≤ k → bad ≡ any (badLength lengths) n
 survey-bad s l = gather-end (s .gathered) l
 
-pub survey-small : {lens : List ℕ} {n total : ℕ} {bad : Bool} {k : ℕ} → Surveying lens n total bad k → n ≤ k → total ≤ 65536 * n
-survey-small {lens} {n} {total} {bad} {k} s l = omega (arith, s .small, s .gathered .within)
+pub survey-small : {lengths : List ℕ} {n total : ℕ} {bad : Bool} {k : ℕ} → Surveying lengths n total bad k → n ≤ k → total ≤ 65536 * n
+survey-small {lengths} {n} {total} {bad} {k} s l = omega (arith, s .small, s .gathered .within)
 
 -- Refusal 33.
-pub frames-many : (total : ℕ) (lens : List ℕ) → mostFrames < length lens → true ≡ badFrames total lens
-frames-many total lens h = simp (lt-ltb mostFrames (length lens) h)
+pub frames-many : (total : ℕ) (lengths : List ℕ) → mostFrames < length lengths → true ≡ badFrames total lengths
+frames-many total lengths h = simp (lt-ltb mostFrames (length lengths) h)
 
-pub frames-judged : (total : ℕ) (lens : List ℕ) → length lens ≤ mostFrames → (sum : ℕ) (bad : Bool) →
-    sum ≡ sumTo (frameLength lens) (length lens) → bad ≡ any (badLength lens) (length lens) → (bad || not (eqb sum total)) ≡ badFrames total lens
-frames-judged total lens few sum bad e j = rw (e, j, le-ltb mostFrames (length lens) few) refl
+pub frames-judged : (total : ℕ) (lengths : List ℕ) → length lengths ≤ mostFrames → (sum : ℕ) (bad : Bool) →
+    sum ≡ sumTo (frameLength lengths) (length lengths) → bad ≡ any (badLength lengths) (length lengths) → (bad || not (eqb sum total)) ≡ badFrames total lengths
+frames-judged total lengths few sum bad e j = rw (e, j, le-ltb mostFrames (length lengths) few) refl
 
 -- Refusal 34.
-module _ (lens : List ℕ) (at : Position) where
-  pub outside-frame : at .frame < length lens → (size : ℕ) → size ≡ frameLength lens (at .frame) → leb size (at .offset) ≡ outside lens at
+module _ (lengths : List ℕ) (at : Position) where
+  pub outside-frame : at .frame < length lengths → (size : ℕ) → size ≡ frameLength lengths (at .frame) → leb size (at .offset) ≡ outside lengths at
   outside-frame l size e =
-      rw (e, le-ltb (length lens) (at .frame) (omega arith), lt-ltb (at .frame) (length lens) l, ne-eqb (at .frame) (length lens) (λ z. omega arith))
-      (below (frameLength lens (at .frame)) (at .offset))
+      rw (e, le-ltb (length lengths) (at .frame) (omega arith), lt-ltb (at .frame) (length lengths) l, ne-eqb (at .frame) (length lengths) (λ z. omega arith))
+      (below (frameLength lengths (at .frame)) (at .offset))
     where
       by : (n m : ℕ) (t : Bool) → ltb m n ≡ t → leb n m ≡ (not t || false)
       by n m true h = lt-leb n m (ltb-true m n h)
@@ -69,56 +69,56 @@ module _ (lens : List ℕ) (at : Position) where
       below : (n m : ℕ) → leb n m ≡ (not (ltb m n) || false)
       below n m = by n m (ltb m n) refl
 
-  pub outside-behind : length lens ≤ at .frame → (ltb (length lens) (at .frame) || not (eqb (at .offset) 0)) ≡ outside lens at
+  pub outside-behind : length lengths ≤ at .frame → (ltb (length lengths) (at .frame) || not (eqb (at .offset) 0)) ≡ outside lengths at
   outside-behind h =
       ⊎-elim
-      (λ (e : length lens ≡ at .frame).
-      rw (le-ltb (length lens) (at .frame) (omega arith), le-ltb (at .frame) (length lens) h, eq-eqb (at .frame) (length lens) (sym e)) refl)
-      (λ (l : length lens < at .frame). rw (lt-ltb (length lens) (at .frame) l) refl)
+      (λ (e : length lengths ≡ at .frame).
+      rw (le-ltb (length lengths) (at .frame) (omega arith), le-ltb (at .frame) (length lengths) h, eq-eqb (at .frame) (length lengths) (sym e)) refl)
+      (λ (l : length lengths < at .frame). rw (lt-ltb (length lengths) (at .frame) l) refl)
       (eq-or-lt-of-le h)
 
 -- Refusals 34 to 36.
-module _ (limit : ℕ) (lens : List ℕ) (at : Position) (room : ℕ) where
-  pub later-outside : outside lens at ≡ true → 34 ≡ first (laterRefusals limit lens at room)
+module _ (limit : ℕ) (lengths : List ℕ) (at : Position) (room : ℕ) where
+  pub later-outside : outside lengths at ≡ true → 34 ≡ first (laterRefusals limit lengths at room)
   later-outside h = rw h refl
 
-  module _ (in-frames : outside lens at ≡ false) where
-    pub later-ended : at .frame ≡ length lens → 35 ≡ first (laterRefusals limit lens at room)
-    later-ended e = rw (in-frames, eq-eqb (at .frame) (length lens) e) refl
+  module _ (in-frames : outside lengths at ≡ false) where
+    pub later-ended : at .frame ≡ length lengths → 35 ≡ first (laterRefusals limit lengths at room)
+    later-ended e = rw (in-frames, eq-eqb (at .frame) (length lengths) e) refl
 
-    module _ (remain : at .frame ≡ length lens → ⊥) where
-      pub later-small : room < limit + idLength → 36 ≡ first (laterRefusals limit lens at room)
-      later-small h = rw (in-frames, ne-eqb (at .frame) (length lens) remain, lt-ltb room (limit + idLength) h) refl
+    module _ (remain : at .frame ≡ length lengths → ⊥) where
+      pub later-small : room < limit + idLength → 36 ≡ first (laterRefusals limit lengths at room)
+      later-small h = rw (in-frames, ne-eqb (at .frame) (length lengths) remain, lt-ltb room (limit + idLength) h) refl
 
-      pub later-none : limit + idLength ≤ room → 0 ≡ first (laterRefusals limit lens at room)
-      later-none h = rw (in-frames, ne-eqb (at .frame) (length lens) remain, le-ltb room (limit + idLength) h) refl
+      pub later-none : limit + idLength ≤ room → 0 ≡ first (laterRefusals limit lengths at room)
+      later-none h = rw (in-frames, ne-eqb (at .frame) (length lengths) remain, le-ltb room (limit + idLength) h) refl
 
 -- Refusals 31 to 33.
-module _ (session flow limit total : ℕ) (lens : List ℕ) where
-  pub early-address : badAddress session flow ≡ true → 31 ≡ first (earlyRefusals session flow limit total lens)
+module _ (session flow limit total : ℕ) (lengths : List ℕ) where
+  pub early-address : badAddress session flow ≡ true → 31 ≡ first (earlyRefusals session flow limit total lengths)
   early-address h = rw h refl
 
   module _ (addressed : badAddress session flow ≡ false) where
-    pub early-limit : badLimit limit ≡ true → 32 ≡ first (earlyRefusals session flow limit total lens)
+    pub early-limit : badLimit limit ≡ true → 32 ≡ first (earlyRefusals session flow limit total lengths)
     early-limit h = rw (addressed, h) refl
 
     module _ (limited : badLimit limit ≡ false) where
-      pub early-judged : (t : Bool) → badFrames total lens ≡ t → cond t 33 0 ≡ first (earlyRefusals session flow limit total lens)
+      pub early-judged : (t : Bool) → badFrames total lengths ≡ t → cond t 33 0 ≡ first (earlyRefusals session flow limit total lengths)
       early-judged t h = rw (addressed, limited, h) refl
 
 -- What a call that is not refused is known to have.
-pub record Passed (session flow limit total : ℕ) (lens : List ℕ) : Type 0 where
+pub record Passed (session flow limit total : ℕ) (lengths : List ℕ) : Type 0 where
   pub addressed : badAddress session flow ≡ false
   pub limited : badLimit limit ≡ false
-  pub frames-sound : badFrames total lens ≡ false
+  pub frames-sound : badFrames total lengths ≡ false
 
-early-of : (session flow limit total : ℕ) (lens : List ℕ) → NoneApplies (earlyRefusals session flow limit total lens) → Passed session flow limit total lens
-early-of session flow limit total lens n = record { addressed = n .0; limited = n .1 .0; frames-sound = n .1 .1 .0 }
+early-of : (session flow limit total : ℕ) (lengths : List ℕ) → NoneApplies (earlyRefusals session flow limit total lengths) → Passed session flow limit total lengths
+early-of session flow limit total lengths n = record { addressed = n .0; limited = n .1 .0; frames-sound = n .1 .1 .0 }
 
-pub early-passed : (session flow limit total : ℕ) (lens : List ℕ) → first (earlyRefusals session flow limit total lens) ≡ 0 → Passed session flow limit total lens
-early-passed session flow limit total lens z = early-of session flow limit total lens (none-applies (earlyRefusals session flow limit total lens) refl z)
+pub early-passed : (session flow limit total : ℕ) (lengths : List ℕ) → first (earlyRefusals session flow limit total lengths) ≡ 0 → Passed session flow limit total lengths
+early-passed session flow limit total lengths z = early-of session flow limit total lengths (none-applies (earlyRefusals session flow limit total lengths) refl z)
 
-module _ (session flow limit total : ℕ) (lens : List ℕ) (p : Passed session flow limit total lens) where
+module _ (session flow limit total : ℕ) (lengths : List ℕ) (p : Passed session flow limit total lengths) where
   pub has-session : session ≡ 0 → ⊥
   has-session = eqb-false session 0 (or-false-left (eqb session 0) (ltb topFlow flow) (p .addressed))
 
@@ -131,18 +131,18 @@ module _ (session flow limit total : ℕ) (lens : List ℕ) (p : Passed session 
   pub limit-small : limit ≤ greatestLimit
   limit-small = ltb-false greatestLimit limit (or-false-right (ltb limit leastLimit) (ltb greatestLimit limit) (p .limited))
 
-pub record Standing (limit : ℕ) (lens : List ℕ) (at : Position) (space : ℕ) : Type 0 where
-  pub in-frames : outside lens at ≡ false
-  pub remain : at .frame ≡ length lens → ⊥
+pub record Standing (limit : ℕ) (lengths : List ℕ) (at : Position) (space : ℕ) : Type 0 where
+  pub in-frames : outside lengths at ≡ false
+  pub remain : at .frame ≡ length lengths → ⊥
   pub output-long : limit + idLength ≤ space
 
 -- The whole order.
-module _ (session flow limit total : ℕ) (lens : List ℕ) (at : Position) (space : ℕ) where
+module _ (session flow limit total : ℕ) (lengths : List ℕ) (at : Position) (space : ℕ) where
   abbrev early : List Refusal
-  early = earlyRefusals session flow limit total lens
+  early = earlyRefusals session flow limit total lengths
 
   abbrev later : List Refusal
-  later = laterRefusals limit lens at space
+  later = laterRefusals limit lengths at space
 
   pub send-stopped : (code : ℕ) → code ≡ first early → (code ≡ 0 → ⊥) → code ≡ first (early ++ later)
   send-stopped code e s = e ∙ sym (first-stopped early later (λ z. s (e ∙ z)))
@@ -150,14 +150,14 @@ module _ (session flow limit total : ℕ) (lens : List ℕ) (at : Position) (spa
   pub send-later : (code answer : ℕ) → code ≡ first early → code ≡ 0 → answer ≡ first later → answer ≡ first (early ++ later)
   send-later code answer e z a = a ∙ sym (first-passed early later refl (sym e ∙ z))
 
-  pub send-passed : first (early ++ later) ≡ 0 → Passed session flow limit total lens × Standing limit lens at space
+  pub send-passed : first (early ++ later) ≡ 0 → Passed session flow limit total lengths × Standing limit lengths at space
   send-passed z =
       let both = none-apart early later (none-applies (early ++ later) refl z) in
       let l = both .1 in (
-        early-of session flow limit total lens (both .0),
+        early-of session flow limit total lengths (both .0),
         record {
           in-frames = l .0;
-          remain = eqb-false (at .frame) (length lens) (l .1 .0);
+          remain = eqb-false (at .frame) (length lengths) (l .1 .0);
           output-long = ltb-false space (limit + idLength) (l .1 .1 .0);
         },
       )

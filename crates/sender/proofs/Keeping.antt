@@ -35,36 +35,36 @@ pub record Typed (a : Asked) : Type 0 where
   pub two-bytes : a .number < 65536
 
 module _ (a : Asked) (z : first (sendRefusals a) ≡ 0) where
-  abbrev frames : Framed (length (a .bytes)) (a .lens)
-  frames = framed (length (a .bytes)) (a .lens) (job a z .frames-sound)
+  abbrev frames : Framed (length (a .bytes)) (a .lengths)
+  frames = framed (length (a .bytes)) (a .lengths) (job a z .frames-sound)
 
   abbrev room : ℕ
   room = a .limit - headerLength
 
-  starts-inside : Inside (a .lens) (a .position)
-  starts-inside = inside (a .lens) (a .position) (standing a z .in-frames)
+  starts-inside : Inside (a .lengths) (a .position)
+  starts-inside = inside (a .lengths) (a .position) (standing a z .in-frames)
 
-  pub cut-done : Cutting entryWidth (a .bytes) (a .lens) frames room (a .position) (cutFor a)
+  pub cut-done : Cutting entryWidth (a .bytes) (a .lengths) frames room (a .position) (cutFor a)
   unfolding cutFor
   cut-done =
-      cut-keeps entryWidth (a .bytes) (a .lens) frames room (a .position) mostSegments (startOf a)
-      (cutting-start entryWidth (a .bytes) (a .lens) frames room (a .position) starts-inside)
+      cut-keeps entryWidth (a .bytes) (a .lengths) frames room (a .position) mostSegments (startOf a)
+      (cutting-start entryWidth (a .bytes) (a .lengths) frames room (a .position) starts-inside)
 
-  first-goes : goesOn entryWidth (a .lens) (startOf a) ≡ true
+  first-goes : goesOn entryWidth (a .lengths) (startOf a) ≡ true
   first-goes =
-      let l : a .position .frame < length (a .lens) = below (starts-inside .among) (standing a z .remain) in
-      rw (lt-ltb (a .position .frame) (length (a .lens)) l) (le-leb (leastRoom entryWidth) room (omega (arith, enough a z)))
+      let l : a .position .frame < length (a .lengths) = below (starts-inside .among) (standing a z .remain) in
+      rw (lt-ltb (a .position .frame) (length (a .lengths)) l) (le-leb (leastRoom entryWidth) room (omega (arith, enough a z)))
     where
       below : {n m : ℕ} → n ≤ m → (n ≡ m → ⊥) → n < m
       below l d = omega arith
 
   pub some-segment : 1 ≤ length ((cutFor a) .segments)
   unfolding cutFor
-  some-segment = omega (arith, cut-some entryWidth (a .bytes) (a .lens) 126 (startOf a) first-goes)
+  some-segment = omega (arith, cut-some entryWidth (a .bytes) (a .lengths) 126 (startOf a) first-goes)
 
   few-segments : length ((cutFor a) .segments) ≤ mostSegments
   unfolding cutFor
-  few-segments = omega (arith, cut-counts entryWidth (a .bytes) (a .lens) mostSegments (startOf a) .no-more)
+  few-segments = omega (arith, cut-counts entryWidth (a .bytes) (a .lengths) mostSegments (startOf a) .no-more)
 
   pub packet-fits : length (packetFor a) ≤ a .limit + 4
   packet-fits = omega (arith, length-packet (a .session) (a .flow) (a .number) ((cutFor a) .segments), cut-done .in-room, enough a z)
@@ -81,7 +81,7 @@ module _ (a : Asked) (z : first (sendRefusals a) ≡ 0) where
   unfolding written
   sent-position = ap (λ (o : SendOutcome). o .answer .position) (sym (sent-written a z))
 
-  pub sent-inside : Inside (a .lens) ((sent a) .answer .position)
+  pub sent-inside : Inside (a .lengths) ((sent a) .answer .position)
   sent-inside = rw sent-position (cut-done .inside)
 
   some-bytes : (segs : List Segment) → 1 ≤ length segs → ((k : ℕ) → k < length segs → 1 ≤ length ((nth segs k) .body)) → 1 ≤ length (joined (map bodyOf segs))
@@ -89,10 +89,10 @@ module _ (a : Asked) (z : first (sendRefusals a) ≡ 0) where
   some-bytes [] l f = absurd (not-suc-le-zero l)
   some-bytes (s ∷ segs) l f = let n = length-append (s .body) (joined (map bodyOf segs)) in omega (arith, f 0 (omega arith))
 
-  pub sent-farther : indexOf (a .lens) (a .position) + 1 ≤ indexOf (a .lens) ((sent a) .answer .position)
+  pub sent-farther : indexOf (a .lengths) (a .position) + 1 ≤ indexOf (a .lengths) ((sent a) .answer .position)
   sent-farther =
       rw sent-position
-      (omega (arith, carried-place (a .bytes) (a .lens) (a .position) ((cutFor a) .position) ((cutFor a) .segments) (cut-done .carried), some-bytes ((cutFor a) .segments) some-segment (cut-done .filled)))
+      (omega (arith, carried-place (a .bytes) (a .lengths) (a .position) ((cutFor a) .position) ((cutFor a) .segments) (cut-done .carried), some-bytes ((cutFor a) .segments) some-segment (cut-done .filled)))
 
   -- the packet that is left in the output
   pub sent-packet : packetLeft (sent a) ≡ packetFor a
@@ -109,9 +109,9 @@ module _ (a : Asked) (z : first (sendRefusals a) ≡ 0) where
     sendable : Sendable (a .session) (a .flow) (a .number) ((cutFor a) .segments)
     sendable =
         record {
-          to-session = has-session (a .session) (a .flow) (a .limit) (length (a .bytes)) (a .lens) (job a z);
+          to-session = has-session (a .session) (a .flow) (a .limit) (length (a .bytes)) (a .lengths) (job a z);
           four-bytes = t .four-bytes;
-          to-flow = has-flow (a .session) (a .flow) (a .limit) (length (a .bytes)) (a .lens) (job a z);
+          to-flow = has-flow (a .session) (a .flow) (a .limit) (length (a .bytes)) (a .lengths) (job a z);
           two-bytes = t .two-bytes;
           some = some-segment;
           few = few-segments;
@@ -143,5 +143,5 @@ module _ (a : Asked) (z : first (sendRefusals a) ≡ 0) where
     sent-segments = ap (λ (p : List ℕ). segmentsOf entryWidth (ip p)) sent-packet ∙ written-segments (a .session) (a .flow) (a .number) ((cutFor a) .segments) sendable
 
     -- its segments are the next stretch of the frames
-    pub sent-carries : Carried (a .bytes) (a .lens) (a .position) (segmentsOf entryWidth (ip (packetLeft (sent a)))) ((sent a) .answer .position)
+    pub sent-carries : Carried (a .bytes) (a .lengths) (a .position) (segmentsOf entryWidth (ip (packetLeft (sent a)))) ((sent a) .answer .position)
     sent-carries = rw (sent-segments, sent-position) (cut-done .carried)

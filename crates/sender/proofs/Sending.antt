@@ -48,17 +48,17 @@ module _ (a : Asked) where
   sent-written z = sym (ap (λ (c : ℕ). sentBy c a) z)
 
   module _ (z : first (sendRefusals a) ≡ 0) where
-    pub job : Passed (a .session) (a .flow) (a .limit) (length (a .bytes)) (a .lens)
-    job = send-passed (a .session) (a .flow) (a .limit) (length (a .bytes)) (a .lens) (a .position) (length (a .output)) z .0
+    pub job : Passed (a .session) (a .flow) (a .limit) (length (a .bytes)) (a .lengths)
+    job = send-passed (a .session) (a .flow) (a .limit) (length (a .bytes)) (a .lengths) (a .position) (length (a .output)) z .0
 
-    pub standing : Standing (a .limit) (a .lens) (a .position) (length (a .output))
-    standing = send-passed (a .session) (a .flow) (a .limit) (length (a .bytes)) (a .lens) (a .position) (length (a .output)) z .1
+    pub standing : Standing (a .limit) (a .lengths) (a .position) (length (a .output))
+    standing = send-passed (a .session) (a .flow) (a .limit) (length (a .bytes)) (a .lengths) (a .position) (length (a .output)) z .1
 
     pub enough : 16 ≤ a .limit
-    enough = limit-enough (a .session) (a .flow) (a .limit) (length (a .bytes)) (a .lens) job
+    enough = limit-enough (a .session) (a .flow) (a .limit) (length (a .bytes)) (a .lengths) job
 
     pub small : a .limit ≤ 4096
-    small = limit-small (a .session) (a .flow) (a .limit) (length (a .bytes)) (a .lens) job
+    small = limit-small (a .session) (a .flow) (a .limit) (length (a .bytes)) (a .lengths) job
 
     pub room-there : headerLength ≤ a .limit
     room-there = omega (arith, enough)
@@ -66,7 +66,7 @@ module _ (a : Asked) where
     pub header-there : shortestPacket ≤ length (a .output)
     header-there = omega (arith, enough, standing .output-long)
 
-    pub ready : Ready (length (a .bytes)) (a .lens) (a .position) (a .limit - headerLength) (length (a .output))
+    pub ready : Ready (length (a .bytes)) (a .lengths) (a .position) (a .limit - headerLength) (length (a .output))
     ready =
         record {
           frames-sound = job .frames-sound;
@@ -79,7 +79,7 @@ module _ (a : Asked) where
     packet-small count bytes h = omega (arith, small, enough)
 
     module _ (p : Progress) (between after : List ℕ)
-        (w : Written (cutOf (a .bytes) (a .lens) (a .limit - headerLength) (a .position)) (a .output) between (a .limit - headerLength) p)
+        (w : Written (cutOf (a .bytes) (a .lengths) (a .limit - headerLength) (a .position)) (a .output) between (a .limit - headerLength) p)
         (h : after ≡ put between 0 (headerOf (a .session) (a .flow) (p .count) (a .number))) where
       -- the code's answer is the definition's
       pub send-done : _≡_ {A = SendOutcome}

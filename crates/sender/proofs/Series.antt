@@ -39,18 +39,18 @@ never : (n : ℕ) → n < n → ⊥
 never n h = omega arith
 
 -- a position in the frames is not refused by 34
-pub not-outside : (lens : List ℕ) (at : Position) → Inside lens at → outside lens at ≡ false
-not-outside lens at i =
-    by (ltb (at .frame) (length lens)) (ltb (at .offset) (frameLength lens (at .frame))) (eqb (at .frame) (length lens)) (eqb (at .offset) 0)
-    (λ e. lt-ltb (at .offset) (frameLength lens (at .frame)) (i .in-frame (ltb-true (at .frame) (length lens) e)))
-    (λ e. eq-eqb (at .offset) 0 (i .at-end (eqb-true (at .frame) (length lens) e)))
+pub not-outside : (lengths : List ℕ) (at : Position) → Inside lengths at → outside lengths at ≡ false
+not-outside lengths at i =
+    by (ltb (at .frame) (length lengths)) (ltb (at .offset) (frameLength lengths (at .frame))) (eqb (at .frame) (length lengths)) (eqb (at .offset) 0)
+    (λ e. lt-ltb (at .offset) (frameLength lengths (at .frame)) (i .in-frame (ltb-true (at .frame) (length lengths) e)))
+    (λ e. eq-eqb (at .offset) 0 (i .at-end (eqb-true (at .frame) (length lengths) e)))
   where
     by : (there below last none : Bool) → (there ≡ true → below ≡ true) → (last ≡ true → none ≡ true) →
-        (ltb (length lens) (at .frame) || (there && not below) || (last && not none)) ≡ false
-    by true below true none p q = rw (le-ltb (length lens) (at .frame) (i .among), p refl, q refl) refl
-    by true below false none p q = rw (le-ltb (length lens) (at .frame) (i .among), p refl) refl
-    by false below true none p q = rw (le-ltb (length lens) (at .frame) (i .among), q refl) refl
-    by false below false none p q = rw (le-ltb (length lens) (at .frame) (i .among)) refl
+        (ltb (length lengths) (at .frame) || (there && not below) || (last && not none)) ≡ false
+    by true below true none p q = rw (le-ltb (length lengths) (at .frame) (i .among), p refl, q refl) refl
+    by true below false none p q = rw (le-ltb (length lengths) (at .frame) (i .among), p refl) refl
+    by false below true none p q = rw (le-ltb (length lengths) (at .frame) (i .among), q refl) refl
+    by false below false none p q = rw (le-ltb (length lengths) (at .frame) (i .among)) refl
 
 -- what a call answers is the first refusal, or 0
 code-by : (a : Asked) (c : ℕ) → (sentBy c a) .answer .code ≡ c
@@ -72,22 +72,22 @@ pub record Kept (job : Job) (number : ℕ) (at : Position) (packets : List (List
   pub has-numbers : Each (λ p. sSet (sub p) ≡ true) (map ip packets)
   pub addressed : Each (Addressed (line job number)) (map ip packets)
   pub numbered : (i : ℕ) → i < length packets → number-in (sub (packetAt (map ip packets) i)) ≡ numberAt number i
-  pub carried : Carried (job .bytes) (job .lens) at (allSegments entryWidth (map ip packets)) end
-  pub farther : indexOf (job .lens) at + length packets ≤ indexOf (job .lens) end
-  pub ends-inside : Inside (job .lens) end
-  pub done : (end .frame ≡ length (job .lens)) ⊎ (length packets ≡ turns)
+  pub carried : Carried (job .bytes) (job .lengths) at (allSegments entryWidth (map ip packets)) end
+  pub farther : indexOf (job .lengths) at + length packets ≤ indexOf (job .lengths) end
+  pub ends-inside : Inside (job .lengths) end
+  pub done : (end .frame ≡ length (job .lengths)) ⊎ (length packets ≡ turns)
 
 module _ (job : Job) (sound : Sound job) where
-  inside-start : (i : ℕ) → i ≤ length (job .lens) → Inside (job .lens) (startOfFrame i)
+  inside-start : (i : ℕ) → i ≤ length (job .lengths) → Inside (job .lengths) (startOfFrame i)
   inside-start i l =
       record {
         among = l;
-        in-frame = λ m. framed (length (job .bytes)) (job .lens) (sound .frames-sound) .some-bytes i m;
+        in-frame = λ m. framed (length (job .bytes)) (job .lengths) (sound .frames-sound) .some-bytes i m;
         at-end = λ _. refl;
       }
 
   -- nothing is sent
-  kept-none : (number : ℕ) (at : Position) (turns : ℕ) → Inside (job .lens) at → (at .frame ≡ length (job .lens)) ⊎ (0 ≡ turns) → Kept job number at [] at turns
+  kept-none : (number : ℕ) (at : Position) (turns : ℕ) → Inside (job .lengths) at → (at .frame ≡ length (job .lengths)) ⊎ (0 ≡ turns) → Kept job number at [] at turns
   unfolding allSegments
   kept-none number at turns i d =
       record {
@@ -101,13 +101,13 @@ module _ (job : Job) (sound : Sound job) where
         done = d;
       }
 
-  module _ (number : ℕ) (at : Position) (turn : Turn) (two-bytes : number < 65536) (i : Inside (job .lens) at) (u : Usable turn) where
+  module _ (number : ℕ) (at : Position) (turn : Turn) (two-bytes : number < 65536) (i : Inside (job .lengths) at) (u : Usable turn) where
     abbrev asked : Asked
     asked = askedFor job number at turn
 
     -- nothing but the end refuses a call
-    pub only-end : first (sendRefusals asked) ≡ cond (eqb (at .frame) (length (job .lens))) 35 0
-    only-end = rw (sound .addressed, u .limited, sound .frames-sound, not-outside (job .lens) at i, le-ltb (length (turn .output)) (turn .limit + idLength) (u .output-long)) refl
+    pub only-end : first (sendRefusals asked) ≡ cond (eqb (at .frame) (length (job .lengths))) 35 0
+    only-end = rw (sound .addressed, u .limited, sound .frames-sound, not-outside (job .lengths) at i, le-ltb (length (turn .output)) (turn .limit + idLength) (u .output-long)) refl
 
     abbrev typed : Typed asked
     typed = record { four-bytes = sound .four-bytes; two-bytes = two-bytes }
@@ -122,7 +122,7 @@ module _ (job : Job) (sound : Sound job) where
           has-numbers = (sent-counts asked z typed, k .has-numbers);
           addressed = (sent-addressed asked z typed, k .addressed);
           numbered = counts;
-          carried = carried-append (job .bytes) (job .lens) at ((sent asked) .answer .position) end (segmentsOf entryWidth (ip (packetLeft (sent asked)))) (allSegments entryWidth (map ip packets)) (sent-carries asked z typed) (k .carried);
+          carried = carried-append (job .bytes) (job .lengths) at ((sent asked) .answer .position) end (segmentsOf entryWidth (ip (packetLeft (sent asked)))) (allSegments entryWidth (map ip packets)) (sent-carries asked z typed) (k .carried);
           farther = omega (arith, k .farther, sent-farther asked z);
           ends-inside = k .ends-inside;
           done = ⊎-elim (λ e. inl e) (λ e. inr (ap suc e)) (k .done);
@@ -139,14 +139,14 @@ module _ (job : Job) (sound : Sound job) where
     kept-step packets end turns others true e =
         let z = sym (code-is asked) ∙ eqb-true ((sent asked) .answer .code) 0 e in
         kept-more z packets end turns (others z)
-    kept-step packets end turns others false e = kept-none number at (suc turns) i (inl (at-end (eqb (at .frame) (length (job .lens))) refl))
+    kept-step packets end turns others false e = kept-none number at (suc turns) i (inl (at-end (eqb (at .frame) (length (job .lengths))) refl))
       where
-        at-end : (t : Bool) → eqb (at .frame) (length (job .lens)) ≡ t → at .frame ≡ length (job .lens)
-        at-end true q = eqb-true (at .frame) (length (job .lens)) q
+        at-end : (t : Bool) → eqb (at .frame) (length (job .lengths)) ≡ t → at .frame ≡ length (job .lengths)
+        at-end true q = eqb-true (at .frame) (length (job .lengths)) q
         at-end false q = absurd (eqb-false ((sent asked) .answer .code) 0 e (code-is asked ∙ only-end ∙ ap (λ (t : Bool). cond t 35 0) q))
 
   -- The whole series.
-  pub series-kept : (turns : List Turn) (number : ℕ) (at : Position) → number < 65536 → Inside (job .lens) at → Each Usable turns →
+  pub series-kept : (turns : List Turn) (number : ℕ) (at : Position) → number < 65536 → Inside (job .lengths) at → Each Usable turns →
       Kept job number at (seriesPackets job number at turns) (seriesEnd job number at turns) (length turns)
   unfolding seriesPackets seriesEnd
   series-kept [] number at b i us = kept-none number at 0 i (inr refl)
@@ -159,14 +159,14 @@ module _ (job : Job) (sound : Sound job) where
 
   -- It keeps the rules, from the start of any frame: the frames that it finished, and the one that it has begun.
   pub record Obeys (number i : ℕ) (turns : List Turn) : Type 0 where
-    pub apart : Apart (job .bytes) (job .lens) i (allSegments entryWidth (map ip (seriesPackets job number (startOfFrame i) turns))) (seriesEnd job number (startOfFrame i) turns)
+    pub apart : Apart (job .bytes) (job .lengths) i (allSegments entryWidth (map ip (seriesPackets job number (startOfFrame i) turns))) (seriesEnd job number (startOfFrame i) turns)
     pub keeps : KeepsRules (line job number) (apart .frames) (apart .begun) (map ip (seriesPackets job number (startOfFrame i) turns))
     pub has-numbers : Each (λ p. sSet (sub p) ≡ true) (map ip (seriesPackets job number (startOfFrame i) turns))
 
-  pub sender-keeps-rules : (turns : List Turn) (number i : ℕ) → number < 65536 → i ≤ length (job .lens) → Each Usable turns → Obeys number i turns
+  pub sender-keeps-rules : (turns : List Turn) (number i : ℕ) → number < 65536 → i ≤ length (job .lengths) → Each Usable turns → Obeys number i turns
   sender-keeps-rules turns number i b l us =
       let k = series-kept turns number (startOfFrame i) b (inside-start i l) us in
-      let a = carried-apart (job .bytes) (job .lens) (framed (length (job .bytes)) (job .lens) (sound .frames-sound)) i (seriesEnd job number (startOfFrame i) turns)
+      let a = carried-apart (job .bytes) (job .lengths) (framed (length (job .bytes)) (job .lengths) (sound .frames-sound)) i (seriesEnd job number (startOfFrame i) turns)
       (allSegments entryWidth (map ip (seriesPackets job number (startOfFrame i) turns))) (k .carried) in
       record {
         apart = a;
@@ -182,9 +182,9 @@ module _ (job : Job) (sound : Sound job) where
       }
 
   -- With as many calls as there are bytes left the series is at the end of the frames.
-  module _ (turns : List Turn) (number i : ℕ) (two-bytes : number < 65536) (l : i ≤ length (job .lens)) (us : Each Usable turns) where
-    abbrev frames : Framed (length (job .bytes)) (job .lens)
-    frames = framed (length (job .bytes)) (job .lens) (sound .frames-sound)
+  module _ (turns : List Turn) (number i : ℕ) (two-bytes : number < 65536) (l : i ≤ length (job .lengths)) (us : Each Usable turns) where
+    abbrev frames : Framed (length (job .bytes)) (job .lengths)
+    frames = framed (length (job .bytes)) (job .lengths) (sound .frames-sound)
 
     abbrev packets : List (List ℕ)
     packets = seriesPackets job number (startOfFrame i) turns
@@ -196,49 +196,49 @@ module _ (job : Job) (sound : Sound job) where
     kept = series-kept turns number (startOfFrame i) two-bytes (inside-start i l) us
 
     -- every call sends at least one byte
-    pub calls-few : indexOf (job .lens) (startOfFrame i) + length packets ≤ length (job .bytes)
+    pub calls-few : indexOf (job .lengths) (startOfFrame i) + length packets ≤ length (job .bytes)
     calls-few = omega (arith, kept .farther, place-within frames end (kept .ends-inside))
 
-    module _ (enough : length (job .bytes) ≤ indexOf (job .lens) (startOfFrame i) + length turns) where
-      at-last : end .frame ≡ length (job .lens)
+    module _ (enough : length (job .bytes) ≤ indexOf (job .lengths) (startOfFrame i) + length turns) where
+      at-last : end .frame ≡ length (job .lengths)
       unfolding frameStart
-      at-last = ⊎-elim (λ e. e) (λ (e : length packets ≡ length turns). by e (ltb (end .frame) (length (job .lens))) refl) (kept .done)
+      at-last = ⊎-elim (λ e. e) (λ (e : length packets ≡ length turns). by e (ltb (end .frame) (length (job .lengths))) refl) (kept .done)
         where
-          by : length packets ≡ length turns → (t : Bool) → ltb (end .frame) (length (job .lens)) ≡ t → end .frame ≡ length (job .lens)
+          by : length packets ≡ length turns → (t : Bool) → ltb (end .frame) (length (job .lengths)) ≡ t → end .frame ≡ length (job .lengths)
           by e true q =
-              let m = ltb-true (end .frame) (length (job .lens)) q in
-              absurd (never (length (job .bytes)) (omega (arith, kept .farther, kept .ends-inside .in-frame m, sum-within (frameLength (job .lens)) (end .frame) (length (job .lens)) m, frames .all)))
-          by e false q = omega (arith, kept .ends-inside .among, ltb-false (end .frame) (length (job .lens)) q)
+              let m = ltb-true (end .frame) (length (job .lengths)) q in
+              absurd (never (length (job .bytes)) (omega (arith, kept .farther, kept .ends-inside .in-frame m, sum-within (frameLength (job .lengths)) (end .frame) (length (job .lengths)) m, frames .all)))
+          by e false q = omega (arith, kept .ends-inside .among, ltb-false (end .frame) (length (job .lengths)) q)
 
-      pub series-ends : end ≡ startOfFrame (length (job .lens))
+      pub series-ends : end ≡ startOfFrame (length (job .lengths))
       series-ends = same end at-last (kept .ends-inside .at-end at-last)
         where
-          same : (p : Position) → p .frame ≡ length (job .lens) → p .offset ≡ 0 → p ≡ startOfFrame (length (job .lens))
+          same : (p : Position) → p .frame ≡ length (job .lengths) → p .offset ≡ 0 → p ≡ startOfFrame (length (job .lengths))
           same p f o = rw (f, o) refl
 
       -- nothing is left to send
       pub then-35 : (n : ℕ) → n < 65536 → (turn : Turn) → Usable turn → (sent (askedFor job n end turn)) .answer .code ≡ 35
       then-35 n b turn u =
           code-is (askedFor job n end turn) ∙ only-end n end turn b (kept .ends-inside) u
-          ∙ ap (λ (t : Bool). cond t 35 0) (eq-eqb (end .frame) (length (job .lens)) at-last)
+          ∙ ap (λ (t : Bool). cond t 35 0) (eq-eqb (end .frame) (length (job .lengths)) at-last)
 
       -- every byte from the start on has been sent, once and in order
-      pub bytes-once : joined (map bodyOf (allSegments entryWidth (map ip packets))) ≡ part (job .bytes) (indexOf (job .lens) (startOfFrame i)) (length (job .bytes) - indexOf (job .lens) (startOfFrame i))
+      pub bytes-once : joined (map bodyOf (allSegments entryWidth (map ip packets))) ≡ part (job .bytes) (indexOf (job .lengths) (startOfFrame i)) (length (job .bytes) - indexOf (job .lengths) (startOfFrame i))
       unfolding frameStart
       bytes-once =
-          let index : indexOf (job .lens) end ≡ length (job .bytes) = rw series-ends (omega (arith, frames .all)) in
-          let place = carried-place (job .bytes) (job .lens) (startOfFrame i) end (allSegments entryWidth (map ip packets)) (kept .carried) in
-          let long : length (joined (map bodyOf (allSegments entryWidth (map ip packets)))) ≡ length (job .bytes) - indexOf (job .lens) (startOfFrame i) = omega arith in
-          carried-bytes (job .bytes) (job .lens) (startOfFrame i) end (allSegments entryWidth (map ip packets)) (kept .carried)
-          ∙ ap (part (job .bytes) (indexOf (job .lens) (startOfFrame i))) long
+          let index : indexOf (job .lengths) end ≡ length (job .bytes) = rw series-ends (omega (arith, frames .all)) in
+          let place = carried-place (job .bytes) (job .lengths) (startOfFrame i) end (allSegments entryWidth (map ip packets)) (kept .carried) in
+          let long : length (joined (map bodyOf (allSegments entryWidth (map ip packets)))) ≡ length (job .bytes) - indexOf (job .lengths) (startOfFrame i) = omega arith in
+          carried-bytes (job .bytes) (job .lengths) (startOfFrame i) end (allSegments entryWidth (map ip packets)) (kept .carried)
+          ∙ ap (part (job .bytes) (indexOf (job .lengths) (startOfFrame i))) long
 
       -- and no frame is left unfinished
-      pub all-finished : (o : Obeys number i turns) → (o .apart .begun ≡ []) × (i + length (o .apart .frames) ≡ length (job .lens))
+      pub all-finished : (o : Obeys number i turns) → (o .apart .begun ≡ []) × (i + length (o .apart .frames) ≡ length (job .lengths))
       unfolding joined
       all-finished o =
           let a = o .apart in
           let none : joined (a .begun) ≡ [] =
-          a .begun-bytes ∙ ap (part (job .bytes) (frameStart (job .lens) (end .frame))) (ap (λ (p : Position). p .offset) series-ends) ∙ part-none (job .bytes) (frameStart (job .lens) (end .frame)) in
+          a .begun-bytes ∙ ap (part (job .bytes) (frameStart (job .lengths) (end .frame))) (ap (λ (p : Position). p .offset) series-ends) ∙ part-none (job .bytes) (frameStart (job .lengths) (end .frame)) in
           (empty (a .begun) (a .begun-some) none, sym (a .reaches) ∙ at-last)
         where
           empty : (ps : Pieces) → Each Filled ps → joined ps ≡ [] → ps ≡ []
@@ -250,18 +250,18 @@ module _ (job : Job) (sound : Sound job) where
 
   -- From the first frame on: what was sent is every frame, whole and in order.
   pub sends-all : (turns : List Turn) (number : ℕ) → number < 65536 → Each Usable turns → length (job .bytes) ≤ length turns →
-      (frames : List Pieces) × (map joined frames ≡ cutBy (job .lens) (job .bytes))
+      (frames : List Pieces) × (map joined frames ≡ cutBy (job .lengths) (job .bytes))
       × KeepsRules (line job number) frames [] (map ip (seriesPackets job number (startOfFrame 0) turns))
       × Each (λ p. sSet (sub p) ≡ true) (map ip (seriesPackets job number (startOfFrame 0) turns))
   unfolding frameStart sumTo
   sends-all turns number b us enough =
       let o = sender-keeps-rules turns number 0 b (omega arith) us in
       let finished = all-finished turns number 0 b (omega arith) us (omega arith) o in
-      let count : length (o .apart .frames) ≡ length (job .lens) = omega (arith, finished .1) in
+      let count : length (o .apart .frames) ≡ length (job .lengths) = omega (arith, finished .1) in
       let k : KeepsRules (line job number) (o .apart .frames) [] (map ip (seriesPackets job number (startOfFrame 0) turns)) =
       rw (finished .0) at (o .keeps) in (
         o .apart .frames,
-        o .apart .their-bytes ∙ ap (framesFrom (job .bytes) (job .lens) 0) count ∙ all-frames (job .bytes) (job .lens),
+        o .apart .their-bytes ∙ ap (framesFrom (job .bytes) (job .lengths) 0) count ∙ all-frames (job .bytes) (job .lengths),
         k,
         o .has-numbers,
       )

@@ -67,29 +67,29 @@ module _ (d : List ℕ) (session flow count number : ℕ) (long : shortestPacket
       header-long = ap length header-written ∙ length-put d 0 (headerOf session flow count number) (omega arith)
 
 -- One segment. `size` and `left` are what the code has found.
-pub placed-next : (lens : List ℕ) (p : Progress) (long size : ℕ) (behind : Position) → long ≡ frameLength lens (p .position .frame) →
+pub placed-next : (lengths : List ℕ) (p : Progress) (long size : ℕ) (behind : Position) → long ≡ frameLength lengths (p .position .frame) →
     size ≡ min (long - p .position .offset) (p .room - entryWidth) →
     behind ≡ positionAfter (p .position) size (eqb size (long - p .position .offset)) →
-    _≡_ {A = Progress} (record { room = p .room - (entryWidth + size); position = behind; count = p .count + 1; bytes = p .bytes + size }) (placedNext lens p)
-placed-next lens p long size behind e s b = rw (b, s, e) refl
+    _≡_ {A = Progress} (record { room = p .room - (entryWidth + size); position = behind; count = p .count + 1; bytes = p .bytes + size }) (placedNext lengths p)
+placed-next lengths p long size behind e s b = rw (b, s, e) refl
 
-pub placed-entry : (lens : List ℕ) (p : Progress) (long size entry : ℕ) → long ≡ frameLength lens (p .position .frame) →
+pub placed-entry : (lengths : List ℕ) (p : Progress) (long size entry : ℕ) → long ≡ frameLength lengths (p .position .frame) →
     size ≡ min (long - p .position .offset) (p .room - entryWidth) →
-    entry ≡ entryNumber (eqb (p .position .offset) 0) (eqb size (long - p .position .offset)) size → two entry ≡ entryFor lens p
-placed-entry lens p long size entry e s n = rw (n, s, e) refl
+    entry ≡ entryNumber (eqb (p .position .offset) 0) (eqb size (long - p .position .offset)) size → two entry ≡ entryFor lengths p
+placed-entry lengths p long size entry e s n = rw (n, s, e) refl
 
 -- The loop that cuts.
-module _ (bytes lens : List ℕ) (room : ℕ) (from : Position) (output : List ℕ) (ready : Ready (length bytes) lens from room (length output)) where
-  abbrev frames : Framed (length bytes) lens
-  frames = framed (length bytes) lens (ready .frames-sound)
+module _ (bytes lengths : List ℕ) (room : ℕ) (from : Position) (output : List ℕ) (ready : Ready (length bytes) lengths from room (length output)) where
+  abbrev frames : Framed (length bytes) lengths
+  frames = framed (length bytes) lengths (ready .frames-sound)
 
   abbrev cutAt : Progress → List Segment → Cut
   cutAt p segs = record { room = p .room; position = p .position; segments = segs }
 
   pub record Writing (output′ : List ℕ) (p : Progress) : Type 0 where
     pub placed : List Segment
-    pub cutting : Cutting entryWidth bytes lens frames room from (cutAt p placed)
-    pub on-the-way : cut (mostSegments - p .count) entryWidth bytes lens (cutAt p placed) ≡ cutOf bytes lens room from
+    pub cutting : Cutting entryWidth bytes lengths frames room from (cutAt p placed)
+    pub on-the-way : cut (mostSegments - p .count) entryWidth bytes lengths (cutAt p placed) ≡ cutOf bytes lengths room from
     pub counted : p .count ≡ length placed
     pub few : p .count ≤ mostSegments
     pub bytes-counted : p .bytes ≡ length (joined (map bodyOf placed))
@@ -100,7 +100,7 @@ module _ (bytes lens : List ℕ) (room : ℕ) (from : Position) (output : List �
   writing-begin =
       record {
         placed = [];
-        cutting = cutting-start entryWidth bytes lens frames room from (inside lens from (ready .position-inside));
+        cutting = cutting-start entryWidth bytes lengths frames room from (inside lengths from (ready .position-inside));
         on-the-way = refl;
         counted = refl;
         few = omega arith;
@@ -119,21 +119,21 @@ module _ (bytes lens : List ℕ) (room : ℕ) (from : Position) (output : List �
     output-long = ap length (w .output-now) ∙ length-put output entriesAt (joined (map entryOf (w .placed))) (omega (arith, entries-long, in-room, ready .output-long))
 
     -- another segment
-    module _ (goes : (ltb (p .count) mostSegments && goesOn entryWidth lens (cutAt p (w .placed))) ≡ true) where
+    module _ (goes : (ltb (p .count) mostSegments && goesOn entryWidth lengths (cutAt p (w .placed))) ≡ true) where
       pub one-more : p .count < mostSegments
-      one-more = ltb-true (p .count) mostSegments (and-left (ltb (p .count) mostSegments) (goesOn entryWidth lens (cutAt p (w .placed))) goes)
+      one-more = ltb-true (p .count) mostSegments (and-left (ltb (p .count) mostSegments) (goesOn entryWidth lengths (cutAt p (w .placed))) goes)
 
-      cut-goes : goesOn entryWidth lens (cutAt p (w .placed)) ≡ true
-      cut-goes = and-right (ltb (p .count) mostSegments) (goesOn entryWidth lens (cutAt p (w .placed))) goes
+      cut-goes : goesOn entryWidth lengths (cutAt p (w .placed)) ≡ true
+      cut-goes = and-right (ltb (p .count) mostSegments) (goesOn entryWidth lengths (cutAt p (w .placed))) goes
 
-      pub writing-placeable : Placeable output′ lens p
+      pub writing-placeable : Placeable output′ lengths p
       writing-placeable =
-          let remains = frames-remain entryWidth bytes lens frames room from (cutAt p (w .placed)) (w .cutting) cut-goes in
-          let enough = room-enough entryWidth bytes lens frames room from (cutAt p (w .placed)) (w .cutting) cut-goes in
+          let remains = frames-remain entryWidth bytes lengths frames room from (cutAt p (w .placed)) (w .cutting) cut-goes in
+          let enough = room-enough entryWidth bytes lengths frames room from (cutAt p (w .placed)) (w .cutting) cut-goes in
           record {
             few-frames = frames .few;
             frame-remains = remains;
-            in-frame = offset-below entryWidth bytes lens frames room from (cutAt p (w .placed)) (w .cutting) cut-goes;
+            in-frame = offset-below entryWidth bytes lengths frames room from (cutAt p (w .placed)) (w .cutting) cut-goes;
             not-long = frames .not-long (p .position .frame) remains;
             room-remains = enough;
             one-more = one-more;
@@ -141,70 +141,70 @@ module _ (bytes lens : List ℕ) (room : ℕ) (from : Position) (output : List �
             few-bytes = omega (arith, in-room, ready .small);
           }
 
-      pub writing-less : (q : Progress) → q ≡ placedNext lens p → mostSegments - q .count < mostSegments - p .count
+      pub writing-less : (q : Progress) → q ≡ placedNext lengths p → mostSegments - q .count < mostSegments - p .count
       writing-less q e = rw e (omega (arith, one-more))
 
-      pub writing-turn : (q : Progress) (output″ : List ℕ) → q ≡ placedNext lens p → output″ ≡ withEntry output′ lens p → Writing output″ q
+      pub writing-turn : (q : Progress) (output″ : List ℕ) → q ≡ placedNext lengths p → output″ ≡ withEntry output′ lengths p → Writing output″ q
       writing-turn q output″ e f =
           let c = cutAt p (w .placed) in
-          let s = segmentFrom bytes lens (p .position) (sizeFor lens p) in
-          let size = body-length entryWidth bytes lens frames room from c (w .cutting) cut-goes in
+          let s = segmentFrom bytes lengths (p .position) (sizeFor lengths p) in
+          let size = body-length entryWidth bytes lengths frames room from c (w .cutting) cut-goes in
           let long = length-more (w .placed) s in
           let bodies = joined-map-more bodyOf (w .placed) s in
           let entries = joined-map-more entryOf (w .placed) s in
           let left : mostSegments - p .count ≡ suc (mostSegments - (p .count + 1)) = omega (arith, one-more) in
-          let entry : entryOf s ≡ entryFor lens p =
+          let entry : entryOf s ≡ entryFor lengths p =
           ap (λ (n : ℕ). two (entryNumber (s .begins) (s .ends) n)) size in
-          let base : Writing output″ (placedNext lens p) =
+          let base : Writing output″ (placedNext lengths p) =
           record {
             placed = w .placed ++ (s ∷ []);
-            cutting = place-keeps entryWidth bytes lens frames room from c (w .cutting) cut-goes;
+            cutting = place-keeps entryWidth bytes lengths frames room from c (w .cutting) cut-goes;
             on-the-way =
-                sym (cut-turn entryWidth bytes lens (mostSegments - (p .count + 1)) c cut-goes)
-                ∙ ap (λ (n : ℕ). cut n entryWidth bytes lens c) (sym left) ∙ w .on-the-way;
+                sym (cut-turn entryWidth bytes lengths (mostSegments - (p .count + 1)) c cut-goes)
+                ∙ ap (λ (n : ℕ). cut n entryWidth bytes lengths c) (sym left) ∙ w .on-the-way;
             counted = omega (arith, w .counted, long);
             few = omega (arith, one-more);
             bytes-counted = omega (arith, w .bytes-counted, ap length bodies, length-append (joined (map bodyOf (w .placed))) (s .body), size);
             output-now =
                 f
-                ∙ ap (λ (l : List ℕ). put l (entriesAt + entryWidth * p .count) (entryFor lens p)) (w .output-now)
-                ∙ ap (λ (n : ℕ). put (put output entriesAt (joined (map entryOf (w .placed)))) (entriesAt + n) (entryFor lens p)) (sym entries-long)
-                ∙ put-put output entriesAt (joined (map entryOf (w .placed))) (entryFor lens p) (omega (arith, entries-long, in-room, ready .output-long))
+                ∙ ap (λ (l : List ℕ). put l (entriesAt + entryWidth * p .count) (entryFor lengths p)) (w .output-now)
+                ∙ ap (λ (n : ℕ). put (put output entriesAt (joined (map entryOf (w .placed)))) (entriesAt + n) (entryFor lengths p)) (sym entries-long)
+                ∙ put-put output entriesAt (joined (map entryOf (w .placed))) (entryFor lengths p) (omega (arith, entries-long, in-room, ready .output-long))
                 ∙ ap (λ (l : List ℕ). put output entriesAt (joined (map entryOf (w .placed)) ++ l)) (sym entry)
                 ∙ ap (put output entriesAt) (sym entries);
           } in
           rw e base
 
     -- no more segments
-    module _ (stops : (ltb (p .count) mostSegments && goesOn entryWidth lens (cutAt p (w .placed))) ≡ false) where
-      whole : cutOf bytes lens room from ≡ cutAt p (w .placed)
+    module _ (stops : (ltb (p .count) mostSegments && goesOn entryWidth lengths (cutAt p (w .placed))) ≡ false) where
+      whole : cutOf bytes lengths room from ≡ cutAt p (w .placed)
       whole = sym (w .on-the-way) ∙ by (ltb (p .count) mostSegments) refl
         where
-          by : (t : Bool) → ltb (p .count) mostSegments ≡ t → cut (mostSegments - p .count) entryWidth bytes lens (cutAt p (w .placed)) ≡ cutAt p (w .placed)
-          by true e = cut-stops entryWidth bytes lens (mostSegments - p .count) (cutAt p (w .placed)) (sym (ap (λ (b : Bool). b && goesOn entryWidth lens (cutAt p (w .placed))) e) ∙ stops)
+          by : (t : Bool) → ltb (p .count) mostSegments ≡ t → cut (mostSegments - p .count) entryWidth bytes lengths (cutAt p (w .placed)) ≡ cutAt p (w .placed)
+          by true e = cut-stops entryWidth bytes lengths (mostSegments - p .count) (cutAt p (w .placed)) (sym (ap (λ (b : Bool). b && goesOn entryWidth lengths (cutAt p (w .placed))) e) ∙ stops)
           by false e =
               let full : mostSegments - p .count ≡ 0 = omega (arith, ltb-false (p .count) mostSegments e) in
-              ap (λ (n : ℕ). cut n entryWidth bytes lens (cutAt p (w .placed))) full ∙ cut-none entryWidth bytes lens (cutAt p (w .placed))
+              ap (λ (n : ℕ). cut n entryWidth bytes lengths (cutAt p (w .placed))) full ∙ cut-none entryWidth bytes lengths (cutAt p (w .placed))
 
       -- the bodies are one stretch of the frames, ..
-      pub bodies-from : indexOf lens from + p .bytes ≤ length bytes
+      pub bodies-from : indexOf lengths from + p .bytes ≤ length bytes
       bodies-from =
-          let carried = carried-place bytes lens from (p .position) (w .placed) (w .cutting .carried) in
+          let carried = carried-place bytes lengths from (p .position) (w .placed) (w .cutting .carried) in
           omega (arith, w .bytes-counted, carried, place-within frames (p .position) (w .cutting .inside))
 
       -- .. and there is room for them
       pub bodies-to : entriesAt + entryWidth * p .count + p .bytes ≤ length output′
       bodies-to = omega (arith, output-long, in-room, ready .output-long)
 
-      pub writing-end : (index : ℕ) (output″ : List ℕ) → index ≡ indexOf lens from →
+      pub writing-end : (index : ℕ) (output″ : List ℕ) → index ≡ indexOf lengths from →
           output″ ≡ put output′ (entriesAt + entryWidth * p .count) (part bytes index (p .bytes)) →
-          Written (cutOf bytes lens room from) output output″ room p
+          Written (cutOf bytes lengths room from) output output″ room p
       writing-end index output″ i e =
           let E = joined (map entryOf (w .placed)) in
           let B = joined (map bodyOf (w .placed)) in
           let stretch : part bytes index (p .bytes) ≡ B =
-          ap (λ (n : ℕ). part bytes n (p .bytes)) i ∙ ap (part bytes (indexOf lens from)) (w .bytes-counted)
-          ∙ sym (carried-bytes bytes lens from (p .position) (w .placed) (w .cutting .carried)) in
+          ap (λ (n : ℕ). part bytes n (p .bytes)) i ∙ ap (part bytes (indexOf lengths from)) (w .bytes-counted)
+          ∙ sym (carried-bytes bytes lengths from (p .position) (w .placed) (w .cutting .carried)) in
           let written : output″ ≡ put output entriesAt (E ++ B) =
           e
           ∙ ap (put output′ (entriesAt + entryWidth * p .count)) stretch

@@ -10,11 +10,11 @@ use Rattle.sender.specs.declared.Position.{Position}
 use Rattle.sender.specs.Cut.{leftOf, segmentFrom, after}
 
 -- a segment of so many bytes of the frame at this position
-pub record Carries (bytes lens : List ℕ) (at : Position) (s : Segment) : Type 0 where
+pub record Carries (bytes lengths : List ℕ) (at : Position) (s : Segment) : Type 0 where
   pub some : 1 ≤ length (s .body)
-  pub of-the-frame : length (s .body) ≤ leftOf lens at
-  pub is-next : s ≡ segmentFrom bytes lens at (length (s .body))
+  pub of-the-frame : length (s .body) ≤ leftOf lengths at
+  pub is-next : s ≡ segmentFrom bytes lengths at (length (s .body))
 
 abbrev pub Carried : List ℕ → List ℕ → Position → List Segment → Position → Type 0
-Carried bytes lens at [] end = at ≡ end
-Carried bytes lens at (s ∷ more) end = Carries bytes lens at s × Carried bytes lens (after lens at (length (s .body))) more end
+Carried bytes lengths at [] end = at ≡ end
+Carried bytes lengths at (s ∷ more) end = Carries bytes lengths at s × Carried bytes lengths (after lengths at (length (s .body))) more end

@@ -22,48 +22,48 @@ abbrev pub entriesAt : ℕ
 entriesAt = shortestPacket
 
 -- A segment can be placed: a frame remains, and so does the room, in the cut and in the output.
-pub record Placeable (output lens : List ℕ) (p : Progress) : Type 0 where
-  pub few-frames : length lens ≤ mostFrames
-  pub frame-remains : p .position .frame < length lens
-  pub in-frame : p .position .offset < frameLength lens (p .position .frame)
-  pub not-long : frameLength lens (p .position .frame) ≤ longest
+pub record Placeable (output lengths : List ℕ) (p : Progress) : Type 0 where
+  pub few-frames : length lengths ≤ mostFrames
+  pub frame-remains : p .position .frame < length lengths
+  pub in-frame : p .position .offset < frameLength lengths (p .position .frame)
+  pub not-long : frameLength lengths (p .position .frame) ≤ longest
   pub room-remains : leastRoom entryWidth ≤ p .room
   pub one-more : p .count < mostSegments
   pub entry-inside : entriesAt + entryWidth * p .count + entryWidth ≤ length output
   pub few-bytes : p .bytes + p .room ≤ greatestLimit
 
 abbrev pub sizeFor : List ℕ → Progress → ℕ
-sizeFor lens p = min (leftOf lens (p .position)) (p .room - entryWidth)
+sizeFor lengths p = min (leftOf lengths (p .position)) (p .room - entryWidth)
 
 -- It is placed: its entry is written, and everything counted.
 abbrev pub placedNext : List ℕ → Progress → Progress
-placedNext lens p =
+placedNext lengths p =
     record {
-      room = p .room - (entryWidth + sizeFor lens p);
-      position = after lens (p .position) (sizeFor lens p);
+      room = p .room - (entryWidth + sizeFor lengths p);
+      position = after lengths (p .position) (sizeFor lengths p);
       count = p .count + 1;
-      bytes = p .bytes + sizeFor lens p;
+      bytes = p .bytes + sizeFor lengths p;
     }
 
 abbrev pub positionAfter : Position → ℕ → Bool → Position
 positionAfter at n ends = cond ends (nextFrame at) (fartherOn at n)
 
 abbrev pub entryFor : List ℕ → Progress → List ℕ
-entryFor lens p = two (entryNumber (eqb (p .position .offset) 0) (eqb (sizeFor lens p) (leftOf lens (p .position))) (sizeFor lens p))
+entryFor lengths p = two (entryNumber (eqb (p .position .offset) 0) (eqb (sizeFor lengths p) (leftOf lengths (p .position))) (sizeFor lengths p))
 
 abbrev pub withEntry : List ℕ → List ℕ → Progress → List ℕ
-withEntry output lens p = put output (entriesAt + entryWidth * p .count) (entryFor lens p)
+withEntry output lengths p = put output (entriesAt + entryWidth * p .count) (entryFor lengths p)
 
 -- What a call asks of the frames, the position and the output before anything is written.
-pub record Ready (total : ℕ) (lens : List ℕ) (at : Position) (room long : ℕ) : Type 0 where
-  pub frames-sound : badFrames total lens ≡ false
-  pub position-inside : outside lens at ≡ false
+pub record Ready (total : ℕ) (lengths : List ℕ) (at : Position) (room long : ℕ) : Type 0 where
+  pub frames-sound : badFrames total lengths ≡ false
+  pub position-inside : outside lengths at ≡ false
   pub output-long : entriesAt + room ≤ long
   pub small : room ≤ greatestLimit
 
 -- the cut of these frames from this position into this room
 abbrev pub cutOf : List ℕ → List ℕ → ℕ → Position → Cut
-cutOf bytes lens room at = cut mostSegments entryWidth bytes lens (record { room = room; position = at; segments = [] })
+cutOf bytes lengths room at = cut mostSegments entryWidth bytes lengths (record { room = room; position = at; segments = [] })
 
 -- The segments of a cut are written, entries and bodies, and counted.
 pub record Written (c : Cut) (output output′ : List ℕ) (room : ℕ) (p : Progress) : Type 0 where

@@ -41,7 +41,7 @@ pub record Asked : Type 0 where
   pub number : ℕ
   pub limit : ℕ
   pub bytes : List ℕ
-  pub lens : List ℕ
+  pub lengths : List ℕ
   pub position : Position
   pub output : List ℕ
 
@@ -57,47 +57,47 @@ abbrev pub badSize : ℕ → Bool
 badSize n = eqb n 0 || ltb longest n
 
 abbrev pub badLength : List ℕ → ℕ → Bool
-badLength lens i = badSize (frameLength lens i)
+badLength lengths i = badSize (frameLength lengths i)
 
 abbrev pub badFrames : ℕ → List ℕ → Bool
-badFrames total lens =
-    ltb mostFrames (length lens)
-    || any (badLength lens) (length lens)
-    || not (eqb (sumTo (frameLength lens) (length lens)) total)
+badFrames total lengths =
+    ltb mostFrames (length lengths)
+    || any (badLength lengths) (length lengths)
+    || not (eqb (sumTo (frameLength lengths) (length lengths)) total)
 
 -- a frame above the count; an offset that is not below the frame's length; an offset other than 0 at the end of all frames
 abbrev pub outside : List ℕ → Position → Bool
-outside lens at =
-    ltb (length lens) (at .frame)
-    || (ltb (at .frame) (length lens) && not (ltb (at .offset) (frameLength lens (at .frame))))
-    || (eqb (at .frame) (length lens) && not (eqb (at .offset) 0))
+outside lengths at =
+    ltb (length lengths) (at .frame)
+    || (ltb (at .frame) (length lengths) && not (ltb (at .offset) (frameLength lengths (at .frame))))
+    || (eqb (at .frame) (length lengths) && not (eqb (at .offset) 0))
 
 -- The refusals, in order: 31 to 33 look neither at the position nor at the output, 34 to 36 do.
 abbrev pub earlyRefusals : ℕ → ℕ → ℕ → ℕ → List ℕ → List Refusal
-earlyRefusals session flow limit total lens =
+earlyRefusals session flow limit total lengths =
     31 when badAddress session flow
     ∷ 32 when badLimit limit
-    ∷ 33 when badFrames total lens
+    ∷ 33 when badFrames total lengths
     ∷ []
 
 abbrev pub laterRefusals : ℕ → List ℕ → Position → ℕ → List Refusal
-laterRefusals limit lens at outputLength =
-    34 when outside lens at
-    ∷ 35 when eqb (at .frame) (length lens)
+laterRefusals limit lengths at outputLength =
+    34 when outside lengths at
+    ∷ 35 when eqb (at .frame) (length lengths)
     ∷ 36 when ltb outputLength (limit + idLength)
     ∷ []
 
 abbrev pub sendRefusals : Asked → List Refusal
 sendRefusals a =
-    earlyRefusals (a .session) (a .flow) (a .limit) (length (a .bytes)) (a .lens)
-    ++ laterRefusals (a .limit) (a .lens) (a .position) (length (a .output))
+    earlyRefusals (a .session) (a .flow) (a .limit) (length (a .bytes)) (a .lengths)
+    ++ laterRefusals (a .limit) (a .lengths) (a .position) (length (a .output))
 
 -- The cut that a call makes: the room starts at L less the 4 bytes of the header behind the session ID.
 abbrev pub startOf : Asked → Cut
 startOf a = record { room = a .limit - headerLength; position = a .position; segments = [] }
 
 unfoldable pub cutFor : Asked → Cut
-cutFor a = cut mostSegments entryWidth (a .bytes) (a .lens) (startOf a)
+cutFor a = cut mostSegments entryWidth (a .bytes) (a .lengths) (startOf a)
 
 abbrev pub packetFor : Asked → List ℕ
 packetFor a = packetOf (a .session) (a .flow) (a .number) ((cutFor a) .segments)

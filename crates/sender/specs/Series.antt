@@ -16,7 +16,7 @@ pub record Job : Type 0 where
   pub session : ℕ
   pub flow : ℕ
   pub bytes : List ℕ
-  pub lens : List ℕ
+  pub lengths : List ℕ
 
 pub record Turn : Type 0 where
   pub limit : ℕ
@@ -26,7 +26,7 @@ pub record Turn : Type 0 where
 pub record Sound (job : Job) : Type 0 where
   pub addressed : badAddress (job .session) (job .flow) ≡ false
   pub four-bytes : job .session < 4294967296
-  pub frames-sound : badFrames (length (job .bytes)) (job .lens) ≡ false
+  pub frames-sound : badFrames (length (job .bytes)) (job .lengths) ≡ false
 
 pub record Usable (turn : Turn) : Type 0 where
   pub limited : badLimit (turn .limit) ≡ false
@@ -44,7 +44,7 @@ askedFor job number at turn =
       number = number;
       limit = turn .limit;
       bytes = job .bytes;
-      lens = job .lens;
+      lengths = job .lengths;
       position = at;
       output = turn .output;
     }

@@ -88,7 +88,7 @@ pub fn send(
           number = number;
           limit = limit;
           bytes = now (frames .entry);
-          lens = now (lengths .entry);
+          lengths = now (lengths .entry);
           position = position;
           output = now (output .entry);
         })

@@ -99,7 +99,7 @@ pub extern "C" fn sklyapina_send(
           number = number;
           limit = limit;
           bytes = now (frames .entry);
-          lens = now (lengths .entry);
+          lengths = now (lengths .entry);
           position = position;
           output = now (output .entry);
         })

@@ -28,7 +28,7 @@ pub extern "C" fn sklyapina_mpeg_write(
     ensures { λ r. ⌜ PermitsWrite
         (record {
           bytes = now (frames .entry);
-          lens = now (lengths .entry);
+          lengths = now (lengths .entry);
           place = place;
           count = count;
           output = now (output .entry);
@@ -50,9 +50,9 @@ pub extern "C" fn sklyapina_mpeg_read(
         (record {
           packets = now (packets .entry);
           output = now (output .entry);
-          lens = now (lengths .entry);
+          lengths = now (lengths .entry);
         })
-        (record { answer = r; output = now (output .exit); lens = now (lengths .exit) }) ⌝ }
+        (record { answer = r; output = now (output .exit); lengths = now (lengths .exit) }) ⌝ }
 {
     reader::read(packets, output, lengths)
 }

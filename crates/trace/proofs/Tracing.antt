@@ -37,74 +37,74 @@ frame-written {at = at} {behind-word = behind-word} {behind-bytes = behind-bytes
     (wrote-then (wrote-then v w) x, omega (arith, word, e, end))
 
 -- The frames of a call: after i of them their lines are written, and the next frame starts behind their bytes.
-pub record Framing (before : List ℕ) (at : ℕ) (output lens : List ℕ) (count : ℕ) (text : List ℕ) (next from i : ℕ) : Type 0 where
+pub record Framing (before : List ℕ) (at : ℕ) (output lengths : List ℕ) (count : ℕ) (text : List ℕ) (next from i : ℕ) : Type 0 where
   pub within : i ≤ count
-  pub wrote : Wrote before text at next (joined (map frameLine (framesFound i lens output)))
-  pub from-is : from ≡ sumTo (byteAt lens) i
+  pub wrote : Wrote before text at next (joined (map frameLine (framesFound i lengths output)))
+  pub from-is : from ≡ sumTo (byteAt lengths) i
   pub next-is : next ≡ at + frameRoom * i + 2 * from
 
 -- no frames, no lines
-no-frames : (output lens : List ℕ) → joined (map frameLine (framesFound 0 lens output)) ≡ []
+no-frames : (output lengths : List ℕ) → joined (map frameLine (framesFound 0 lengths output)) ≡ []
 unfolding cutBy joined
-no-frames output lens = ap (λ (l : List ℕ). joined (map frameLine (cutBy l output))) (part-none lens 0)
+no-frames output lengths = ap (λ (l : List ℕ). joined (map frameLine (cutBy l output))) (part-none lengths 0)
 
 -- one frame more: it starts behind the bytes of those before it
-frames-more : (output lens : List ℕ) (i : ℕ) → i < length lens →
-    framesFound (i + 1) lens output ≡ framesFound i lens output ++ (part output (sumTo (byteAt lens) i) (byteAt lens i) ∷ [])
-frames-more output lens i h =
-    ap (λ (l : List ℕ). cutBy l output) (part-more lens i h)
-    ∙ cut-more (part lens 0 i) (byteAt lens i) output
-    ∙ ap (λ (n : ℕ). framesFound i lens output ++ (part output n (byteAt lens i) ∷ [])) (total-part lens i (omega (arith, h)))
+frames-more : (output lengths : List ℕ) (i : ℕ) → i < length lengths →
+    framesFound (i + 1) lengths output ≡ framesFound i lengths output ++ (part output (sumTo (byteAt lengths) i) (byteAt lengths i) ∷ [])
+frames-more output lengths i h =
+    ap (λ (l : List ℕ). cutBy l output) (part-more lengths i h)
+    ∙ cut-more (part lengths 0 i) (byteAt lengths i) output
+    ∙ ap (λ (n : ℕ). framesFound i lengths output ++ (part output n (byteAt lengths i) ∷ [])) (total-part lengths i (omega (arith, h)))
 
 -- nothing is written yet
-pub framing-begin : (before : List ℕ) (at : ℕ) (output lens : List ℕ) (count : ℕ) → at ≤ length before → Framing before at output lens count before at 0 0
-framing-begin before at output lens count h =
+pub framing-begin : (before : List ℕ) (at : ℕ) (output lengths : List ℕ) (count : ℕ) → at ≤ length before → Framing before at output lengths count before at 0 0
+framing-begin before at output lengths count h =
     record {
       within = omega arith;
-      wrote = wrote-as (sym (no-frames output lens)) (wrote-none before at h);
-      from-is = sym (sum-none (byteAt lens));
+      wrote = wrote-as (sym (no-frames output lengths)) (wrote-none before at h);
+      from-is = sym (sum-none (byteAt lengths));
       next-is = omega arith;
     }
 
-module _ {before : List ℕ} {at : ℕ} {output lens : List ℕ} {count : ℕ} {text : List ℕ} {next from i : ℕ} (f : Framing before at output lens count text next from i)
-    (found : Findable output lens count) where
+module _ {before : List ℕ} {at : ℕ} {output lengths : List ℕ} {count : ℕ} {text : List ℕ} {next from i : ℕ} (f : Framing before at output lengths count text next from i)
+    (found : Findable output lengths count) where
   -- one more frame ends within what a call delivers
-  pub frame-within : (size : ℕ) → size ≡ byteAt lens i → i < count → from + size ≤ mostBytes
-  frame-within size e more = omega (arith, e, f .from-is, sum-within (byteAt lens) i count more, found .all-short)
+  pub frame-within : (size : ℕ) → size ≡ byteAt lengths i → i < count → from + size ≤ mostBytes
+  frame-within size e more = omega (arith, e, f .from-is, sum-within (byteAt lengths) i count more, found .all-short)
 
   -- so there is room for its line, and its bytes are there
-  pub frame-room : (size : ℕ) → size ≡ byteAt lens i → i < count → at + framesRoom ≤ length before →
+  pub frame-room : (size : ℕ) → size ≡ byteAt lengths i → i < count → at + framesRoom ≤ length before →
       (next + frameRoom + 2 * size ≤ length text) × (from + size ≤ length output)
   frame-room size e more long =
       let inside = frame-within size e more in
       (omega (arith, inside, more, long, f .next-is, found .few, wrote-length (f .wrote)), omega (arith, inside, found .output-long))
 
   -- its line behind the others
-  pub framing-turn : {text′ : List ℕ} {next′ : ℕ} (size : ℕ) → size ≡ byteAt lens i → i < count → Wrote text text′ next next′ (frameLine (part output from size)) →
-      next′ ≡ next + frameRoom + 2 * size → Framing before at output lens count text′ next′ (from + size) (i + 1)
+  pub framing-turn : {text′ : List ℕ} {next′ : ℕ} (size : ℕ) → size ≡ byteAt lengths i → i < count → Wrote text text′ next next′ (frameLine (part output from size)) →
+      next′ ≡ next + frameRoom + 2 * size → Framing before at output lengths count text′ next′ (from + size) (i + 1)
   framing-turn {text′} {next′} size e more w n =
-      let start : part output from size ≡ part output (sumTo (byteAt lens) i) (byteAt lens i) =
-      ap (λ (s : ℕ). part output from s) e ∙ ap (λ (s : ℕ). part output s (byteAt lens i)) (f .from-is) in
-      let last = part output (sumTo (byteAt lens) i) (byteAt lens i) in
-      let longer = frames-more output lens i (omega (arith, more, found .few, found .lens-long)) in
+      let start : part output from size ≡ part output (sumTo (byteAt lengths) i) (byteAt lengths i) =
+      ap (λ (s : ℕ). part output from s) e ∙ ap (λ (s : ℕ). part output s (byteAt lengths i)) (f .from-is) in
+      let last = part output (sumTo (byteAt lengths) i) (byteAt lengths i) in
+      let longer = frames-more output lengths i (omega (arith, more, found .few, found .lengths-long)) in
       record {
         within = omega (arith, more);
         wrote =
             wrote-as
-            (ap (λ (s : List ℕ). joined (map frameLine (framesFound i lens output)) ++ frameLine s) start
-            ∙ sym (joined-map-more frameLine (framesFound i lens output) last)
+            (ap (λ (s : List ℕ). joined (map frameLine (framesFound i lengths output)) ++ frameLine s) start
+            ∙ sym (joined-map-more frameLine (framesFound i lengths output) last)
             ∙ ap (λ (s : List (List ℕ)). joined (map frameLine s)) (sym longer))
             (wrote-then (f .wrote) w);
-        from-is = omega (arith, e, f .from-is, sum-more (byteAt lens) i);
+        from-is = omega (arith, e, f .from-is, sum-more (byteAt lengths) i);
         next-is = omega (arith, n, f .next-is);
       }
 
   -- all frames
-  pub framing-end : count ≤ i → Wrote before text at next (joined (map frameLine (framesFound count lens output))) × (next ≤ at + framesRoom)
+  pub framing-end : count ≤ i → Wrote before text at next (joined (map frameLine (framesFound count lengths output))) × (next ≤ at + framesRoom)
   framing-end past =
       let all : i ≡ count = omega (arith, f .within, past) in
-      let sum : from ≡ sumTo (byteAt lens) count = f .from-is ∙ ap (sumTo (byteAt lens)) all in (
-        wrote-as (ap (λ (n : ℕ). joined (map frameLine (framesFound n lens output))) all) (f .wrote),
+      let sum : from ≡ sumTo (byteAt lengths) count = f .from-is ∙ ap (sumTo (byteAt lengths)) all in (
+        wrote-as (ap (λ (n : ℕ). joined (map frameLine (framesFound n lengths output))) all) (f .wrote),
         omega (arith, f .next-is, all, sum, found .few, found .all-short),
       )
 

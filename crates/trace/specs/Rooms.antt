@@ -14,10 +14,10 @@ use Rattle.text.specs.Text.{mostDigits}
 use Rattle.listing.specs.Walk.{columnRoom, lineRoom}
 
 -- slices that are large enough for any call
-pub record Enough (holding output lens : List ℕ) : Type 0 where
+pub record Enough (holding output lengths : List ℕ) : Type 0 where
   pub holding-long : holdingSize ≤ length holding
   pub output-long : mostBytes ≤ length output
-  pub lens-long : mostFrames ≤ length lens
+  pub lengths-long : mostFrames ≤ length lengths
 
 -- the line of a frame without its bytes, the lines of a call's frames, the line of a flow, of a row, a row with its flows, all rows
 abbrev pub frameRoom : ℕ
@@ -43,10 +43,10 @@ abbrev pub entryRoom : ℕ
 entryRoom = lineRoom + framesRoom + rowsRoom
 
 -- the frames of a call lie in the slices
-pub record Findable (output lens : List ℕ) (count : ℕ) : Type 0 where
+pub record Findable (output lengths : List ℕ) (count : ℕ) : Type 0 where
   pub few : count ≤ mostFrames
-  pub all-short : sumTo (byteAt lens) count ≤ mostBytes
-  pub lens-long : mostFrames ≤ length lens
+  pub all-short : sumTo (byteAt lengths) count ≤ mostBytes
+  pub lengths-long : mostFrames ≤ length lengths
   pub output-long : mostBytes ≤ length output
 
 -- no flow of the row holds more than a place has

@@ -16,7 +16,7 @@ badFirst bytes n = ltb (length bytes) n || not (good (part bytes 0 n))
 
 -- So many frames have been passed, and the last of them ends there: but these are not all, or bytes are left over.
 abbrev pub notAll : ℕ → ℕ → List ℕ → List ℕ → Bool
-notAll passed end lens bytes = ltb passed (length lens) || not (eqb end (length bytes))
+notAll passed end lengths bytes = ltb passed (length lengths) || not (eqb end (length bytes))
 
 -- what stands behind the pointer of a packet, where these bytes wait: as many of them as fit, and then 0xFF to the end
 abbrev pub behindPointer : List ℕ → List ℕ

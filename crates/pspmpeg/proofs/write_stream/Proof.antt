@@ -67,7 +67,7 @@ gather-requires c κs = (
       sound = sym (c .before .before .before .before .before .before .before .before .before .before .before .before .before .check .ensures) ∙ c .before .before .before .before .before .before .before .before .before .before .before .before .if1 .left;
       holding-zero = c .before .before .before .before .before .before .before .before .before .before .before .holding-room .ensures;
       output-zero = c .before .before .before .before .before .before .before .before .before .before .output-room .ensures;
-      lens-zero = c .before .before .before .before .before .before .before .before .before .lengths-room .ensures;
+      lengths-zero = c .before .before .before .before .before .before .before .before .before .lengths-room .ensures;
     },
     omega (arith, c .before .before .before .before .before .before .before .before .line-room .ensures),
   ),

@@ -36,7 +36,7 @@ trace-entry-requires c κs =
     let more : c .before .before .before .before .before .before .loop .walk .index < entryCount headLength (c .before .before .before .before .before .before .before .before .before .before .before .before .before .before .args .file .now) = omega (arith, c .before .before .before .before .if1 .taken, c .before .before .before .before .before .before .before .before .entry-count .ensures) in (
       (l .0, more),
       (
-        record { holding-long = omega (arith, p .1 .holding-long, l .1); output-long = omega (arith, p .1 .output-long, l .2); lens-long = omega (arith, p .1 .lens-long, l .3) },
+        record { holding-long = omega (arith, p .1 .holding-long, l .1); output-long = omega (arith, p .1 .output-long, l .2); lengths-long = omega (arith, p .1 .lengths-long, l .3) },
         omega (arith, p .2, l .4),
       ),
     )

@@ -19,7 +19,7 @@ asked s =
       number = s .args .number;
       limit = s .args .limit;
       bytes = s .args .frames .now;
-      lens = s .args .lengths .now;
+      lengths = s .args .lengths .now;
       position = s .args .position;
       output = s .args .output .now;
     }
@@ -45,7 +45,7 @@ write-header-requires c κs =
     let a = asked (c .before .before .before .before .before .before .before .before .before .before) in
     let z = passed (c .before .before .before .before .before) in
     let w = c .before .before .before .write-segments in
-    (rw (w .kept .0) (header-there a z), has-flow (a .session) (a .flow) (a .limit) (length (a .bytes)) (a .lens) (job a z), w .ensures .few)
+    (rw (w .kept .0) (header-there a z), has-flow (a .session) (a .flow) (a .limit) (length (a .bytes)) (a .lengths) (job a z), w .ensures .few)
 
 mul-length : tie.Need-mul-length
 mul-length c = search needs

@@ -15,7 +15,7 @@ write-frames-requires : tie.Need-write-frames-requires
 write-frames-requires c κs =
     let l = c .before .before .before .before .before .before .before .before .before .before .before .list-entry in
     let p = c .before .before .before .before .before .before .before .before .before .before .before .before .before .before .before .before .before .before .before .before .before .pre in (
-      findable (l .ensures .1 .0) _ (l .ensures .1 .1 .0) _ (l .ensures .1 .1 .1) (omega (arith, p .1 .0 .output-long, l .kept .1 .1 .1 .0)) (omega (arith, p .1 .0 .lens-long, l .kept .1 .1 .1 .1 .0)),
+      findable (l .ensures .1 .0) _ (l .ensures .1 .1 .0) _ (l .ensures .1 .1 .1) (omega (arith, p .1 .0 .output-long, l .kept .1 .1 .1 .0)) (omega (arith, p .1 .0 .lengths-long, l .kept .1 .1 .1 .1 .0)),
       omega (arith, p .1 .1, l .ensures .0 .1, l .kept .1 .1 .1 .1 .1 .0),
     )
 

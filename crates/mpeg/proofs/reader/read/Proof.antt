@@ -1,14 +1,14 @@
 -- `reader::read` is right since it refuses as the order says, and else both slices have what the definition says (`answers-frames`).
 use borrow.Author.Tests.{not-true, not-false}
 use Rattle.mpeg.specs.Read.{AskedRead}
-use Rattle.mpeg.proofs.Answers.{answers-53, answers-51, was-surveyed, lens-room, are-laid, answers-frames}
+use Rattle.mpeg.proofs.Answers.{answers-53, answers-51, was-surveyed, lengths-room, are-laid, answers-frames}
 use borrow.Author.Needs.{needs}
 use Rattle.mpeg.proofs.reader.read.Statement.{statement}
 use Rattle.mpeg.proofs.reader.read.Tie as tie
 
 -- what the call was given
 abbrev asked : tie.Start → AskedRead
-asked s = record { packets = s .args .packets .now; output = s .args .output .now; lens = s .args .lengths .now }
+asked s = record { packets = s .args .packets .now; output = s .args .output .now; lengths = s .args .lengths .now }
 
 survey-requires : tie.Need-survey-requires
 survey-requires c κs = search needs
@@ -37,7 +37,7 @@ write-lengths-requires c κs =
     let a = asked (after .before .before .before .before) in
     let r = after .survey in
     let sound = not-false _ (e .before .before .before .if1 .left) in (
-      lens-room a (r .result) (r .ensures) sound (e .if2 .left),
+      lengths-room a (r .result) (r .ensures) sound (e .if2 .left),
       are-laid a (r .result) (r .ensures) sound (e .if2 .left) _ (c .before .before .before .before .write-frames .ensures),
     )
 

@@ -16,7 +16,7 @@ abbrev asked : tie.Start → Asked
 asked s =
     record {
       bytes = s .args .frames .now;
-      lens = s .args .lengths .now;
+      lengths = s .args .lengths .now;
       place = s .args .place;
       count = s .args .count;
       output = s .args .output .now;
@@ -26,10 +26,10 @@ asked s =
 abbrev given : tie.Else1 → Asked
 given c = asked (c .before .before .before .before .before)
 
-sound : (c : tie.Else1) → false ≡ badFrames (given c .lens) (given c .bytes)
+sound : (c : tie.Else1) → false ≡ badFrames (given c .lengths) (given c .bytes)
 sound c = sym (c .if1 .left) ∙ c .before .survey .ensures .0
 
-left-found : (c : tie.Else1) → c .before .survey .result .left ≡ leftAt (given c .lens) (given c .place)
+left-found : (c : tie.Else1) → c .before .survey .result .left ≡ leftAt (given c .lengths) (given c .place)
 left-found c = c .before .survey .ensures .1 (c .if1 .left)
 
 -- behind the second and the third: there is room, and bytes wait

@@ -22,7 +22,7 @@ mul-wide : tie.Need-mul-wide Inv-loop μ-loop
 mul-wide c = search needs
 
 shared-slice-read-wide : tie.Need-shared-slice-read-wide Inv-loop μ-loop
-shared-slice-read-wide c = omega (arith, c .before .loop-test .taken, c .before .before .before .before .before .before .before .pre .lens-there)
+shared-slice-read-wide c = omega (arith, c .before .loop-test .taken, c .before .before .before .before .before .before .before .pre .lengths-there)
 
 wide-requires : tie.Need-wide-requires Inv-loop μ-loop
 wide-requires c κs = search needs
@@ -44,7 +44,7 @@ slice-write-sizes c =
     let tested = c .before .before in
     let turn = tested .before in
     let start = turn .before .before .before .before .before in
-    omega (arith, tested .loop-test .taken, start .pre .sizes-fit, sizes-same (turn .loop .inv) (start .pre .lens-there) (start .pre .sizes-fit))
+    omega (arith, tested .loop-test .taken, start .pre .sizes-fit, sizes-same (turn .loop .inv) (start .pre .lengths-there) (start .pre .sizes-fit))
 
 add-sum : tie.Need-add-sum Inv-loop μ-loop
 add-sum c =
@@ -65,7 +65,7 @@ loop-again c =
     let tested = c .before .before in
     let turn = tested .before in
     let start = turn .before .before .before .before .before in
-    append-turn (turn .loop .inv) (start .pre .lens-there) (start .pre .sizes-fit) (tested .loop-test .taken) (c .wide .result) (c .wide .ensures .0)
+    append-turn (turn .loop .inv) (start .pre .lengths-there) (start .pre .sizes-fit) (tested .loop-test .taken) (c .wide .result) (c .wide .ensures .0)
     refl
 
 copy-requires : tie.Need-copy-requires Inv-loop μ-loop
@@ -73,7 +73,7 @@ copy-requires c κs =
     let tested = c .before in
     let turn = tested .before in
     let start = turn .before .before .before .before .before in
-    let all = all-appended (turn .loop .inv) (start .pre .lens-there) (start .pre .sizes-fit) (tested .loop-test .left) in
+    let all = all-appended (turn .loop .inv) (start .pre .lengths-there) (start .pre .sizes-fit) (tested .loop-test .left) in
     (omega (arith, all .1, start .pre .bytes-fit), omega (arith, all .1, start .pre .bytes-there))
 
 add-t21 : tie.Need-add-t21 Inv-loop μ-loop
@@ -86,7 +86,7 @@ add-t22 c =
     let tested = c .before .before .before .before in
     let turn = tested .before in
     let start = turn .before .before .before .before .before in
-    let all = all-appended (turn .loop .inv) (start .pre .lens-there) (start .pre .sizes-fit) (tested .loop-test .left) in
+    let all = all-appended (turn .loop .inv) (start .pre .lengths-there) (start .pre .sizes-fit) (tested .loop-test .left) in
     omega (arith, all .1, start .pre .bytes-fit, start .good .1 .1 .1 .0 .0)
 
 same-length : tie.Need-same-length Inv-loop μ-loop
@@ -96,7 +96,7 @@ same-length-2 : tie.Need-same-length-2 Inv-loop μ-loop
 same-length-2 c =
     let turn = c .before .before .before .before .before in
     let start = turn .before .before .before .before .before in
-    sizes-same (turn .loop .inv) (start .pre .lens-there) (start .pre .sizes-fit)
+    sizes-same (turn .loop .inv) (start .pre .lengths-there) (start .pre .sizes-fit)
 
 returns : tie.Need-returns Inv-loop μ-loop
 returns c =
@@ -105,7 +105,7 @@ returns c =
     let turn = tested .before in
     let start = turn .before .before .before .before .before in
     append-adds (start .pre) (copied .copy .ensures)
-    (all-appended (turn .loop .inv) (start .pre .lens-there) (start .pre .sizes-fit) (tested .loop-test .left))
+    (all-appended (turn .loop .inv) (start .pre .lengths-there) (start .pre .sizes-fit) (tested .loop-test .left))
 
 pub append-spec : {M : Type 1} → statement M
 append-spec =

@@ -38,7 +38,7 @@ gather-entry-requires c κs =
     let p = start .pre in
     let u = unused-enough (p .0 .0) in
     let more : turn .loop .stage .walk .index < entryCount headLength (start .args .file .now) = omega (arith, first-if .if1 .taken, counted .entry-count .ensures) in
-    ((i .0 .stands, more), ((record { holding-long = omega (arith, u .0, i .1); output-long = omega (arith, u .1, i .2); lens-long = omega (arith, u .2, i .3) }, omega (arith, p .0 .1, i .4)), next-fits (i .0) (p .1 .0) (p .1 .1) more))
+    ((i .0 .stands, more), ((record { holding-long = omega (arith, u .0, i .1); output-long = omega (arith, u .1, i .2); lengths-long = omega (arith, u .2, i .3) }, omega (arith, p .0 .1, i .4)), next-fits (i .0) (p .1 .0) (p .1 .1) more))
 
 loop-less : tie.Need-loop-less Inv-loop μ-loop
 loop-less c =

@@ -61,7 +61,7 @@ append-requires c κs =
     fits-found (listed .list-entry .ensures .1 .0) (start .args .stage .walk .index) (listed .list-entry .ensures .1 .1 .0)
     (listed .list-entry .result .frames) (listed .list-entry .ensures .1 .1 .1)
     (omega (arith, start .pre .1 .0 .0 .output-long, listed .list-entry .kept .1 .1 .1 .0))
-    (omega (arith, start .pre .1 .0 .0 .lens-long, listed .list-entry .kept .1 .1 .1 .1 .0))
+    (omega (arith, start .pre .1 .0 .0 .lengths-long, listed .list-entry .kept .1 .1 .1 .1 .0))
     (chosen (start .pre .0 .0) (start .args .session) (with-kind .kind-at .result) (with-body .body-at .result .now) (chosen-so .is-for .result) (with-kind .kind-at .ensures) (with-body .body-at .ensures .its-bytes) (chosen-so .is-for .ensures))
     (not-false (chosen-so .is-for .result) (first-if .if1 .left)) (start .pre .1 .1)
 
@@ -92,7 +92,7 @@ returns-2 c =
     let with-body = chosen-so .before in
     let with-kind = with-body .before in
     let start = with-kind .before .before .before .before .before .before .before .before .before .before .before in
-    (listed .list-entry .ensures .1 .0, (listed .list-entry .ensures .1 .1 .0, adds-found (listed .list-entry .ensures .1 .0) (start .args .stage .walk .index) (listed .list-entry .ensures .1 .1 .0) (listed .list-entry .result .frames) (listed .list-entry .ensures .1 .1 .1) (omega (arith, start .pre .1 .0 .0 .output-long, listed .list-entry .kept .1 .1 .1 .0)) (omega (arith, start .pre .1 .0 .0 .lens-long, listed .list-entry .kept .1 .1 .1 .1 .0)) (chosen (start .pre .0 .0) (start .args .session) (with-kind .kind-at .result) (with-body .body-at .result .now) (chosen-so .is-for .result) (with-kind .kind-at .ensures) (with-body .body-at .ensures .its-bytes) (chosen-so .is-for .ensures)) (not-false (chosen-so .is-for .result) (first-if .if1 .left)) (appended .append .ensures)))
+    (listed .list-entry .ensures .1 .0, (listed .list-entry .ensures .1 .1 .0, adds-found (listed .list-entry .ensures .1 .0) (start .args .stage .walk .index) (listed .list-entry .ensures .1 .1 .0) (listed .list-entry .result .frames) (listed .list-entry .ensures .1 .1 .1) (omega (arith, start .pre .1 .0 .0 .output-long, listed .list-entry .kept .1 .1 .1 .0)) (omega (arith, start .pre .1 .0 .0 .lengths-long, listed .list-entry .kept .1 .1 .1 .1 .0)) (chosen (start .pre .0 .0) (start .args .session) (with-kind .kind-at .result) (with-body .body-at .result .now) (chosen-so .is-for .result) (with-kind .kind-at .ensures) (with-body .body-at .ensures .its-bytes) (chosen-so .is-for .ensures)) (not-false (chosen-so .is-for .result) (first-if .if1 .left)) (appended .append .ensures)))
 
 pub gather-entry-spec : {M : Type 1} → statement M
 gather-entry-spec =

@@ -10,7 +10,7 @@ use Rattle.refusal.proofs.Laws.{and-left, and-right}
 use Rattle.octets.specs.Bytes.{be16At}
 use Rattle.octets.specs.Stretch.{rest}
 use Rattle.pspsend.specs.Frames.{lengthBytes, standsWhole, most}
-use Rattle.pspsend.proofs.Unpacking.{Unpacking, unpack-begin, bytes-same, lens-same, length-there, frame-there, entry-there, unpack-turn, unpack-spoilt, unpack-whole}
+use Rattle.pspsend.proofs.Unpacking.{Unpacking, unpack-begin, bytes-same, lengths-same, length-there, frame-there, entry-there, unpack-turn, unpack-spoilt, unpack-whole}
 use borrow.Author.Needs.{needs}
 use Rattle.pspsend.proofs.frames.unpack.Statement.{statement}
 use Rattle.pspsend.proofs.frames.unpack.Tie as tie
@@ -88,7 +88,7 @@ same-length : tie.Need-same-length Inv-loop μ-loop
 same-length c = let s = c .before .before .before .before .before .before .before in let a = s .args in bytes-same (a .file .now) (a .bytes .now) (a .lengths .now) (s .pre .0) (s .pre .1) (c .before .before .before .loop .inv)
 
 same-length-2 : tie.Need-same-length-2 Inv-loop μ-loop
-same-length-2 c = let s = c .before .before .before .before .before .before .before in let a = s .args in lens-same (a .file .now) (a .bytes .now) (a .lengths .now) (s .pre .0) (s .pre .1) (c .before .before .before .loop .inv)
+same-length-2 c = let s = c .before .before .before .before .before .before .before in let a = s .args in lengths-same (a .file .now) (a .bytes .now) (a .lengths .now) (s .pre .0) (s .pre .1) (c .before .before .before .loop .inv)
 
 returns : tie.Need-returns Inv-loop μ-loop
 returns c = let s = c .before .before .before .before .before .before .before in let a = s .args in unpack-spoilt (a .file .now) (a .bytes .now) (a .lengths .now) (s .pre .0) (s .pre .1) (c .before .before .before .loop .inv) (ap (λ (b : Bool). ltb (c .before .before .before .loop .count) most && b) (sym (c .before .before .stands-whole .ensures)) ∙ c .before .if1 .left) (c .if2 .taken)
@@ -97,7 +97,7 @@ same-length-3 : tie.Need-same-length-3 Inv-loop μ-loop
 same-length-3 c = let s = c .before .before .before .before .before .before .before in let a = s .args in bytes-same (a .file .now) (a .bytes .now) (a .lengths .now) (s .pre .0) (s .pre .1) (c .before .before .before .loop .inv)
 
 same-length-4 : tie.Need-same-length-4 Inv-loop μ-loop
-same-length-4 c = let s = c .before .before .before .before .before .before .before in let a = s .args in lens-same (a .file .now) (a .bytes .now) (a .lengths .now) (s .pre .0) (s .pre .1) (c .before .before .before .loop .inv)
+same-length-4 c = let s = c .before .before .before .before .before .before .before in let a = s .args in lengths-same (a .file .now) (a .bytes .now) (a .lengths .now) (s .pre .0) (s .pre .1) (c .before .before .before .loop .inv)
 
 returns-2 : tie.Need-returns-2 Inv-loop μ-loop
 returns-2 c = let s = c .before .before .before .before .before .before .before in let a = s .args in unpack-whole (a .file .now) (a .bytes .now) (a .lengths .now) (s .pre .0) (s .pre .1) (c .before .before .before .loop .inv) (ap (λ (b : Bool). ltb (c .before .before .before .loop .count) most && b) (sym (c .before .before .stands-whole .ensures)) ∙ c .before .if1 .left) (c .if2 .left)

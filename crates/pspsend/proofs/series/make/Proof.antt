@@ -10,7 +10,7 @@ use Rattle.pspsend.proofs.series.make.Statement.{statement}
 use Rattle.pspsend.proofs.series.make.Tie as tie
 
 abbrev job : tie.Start → Job
-job s = record { session = s .args .session; flow = s .args .flow; bytes = s .args .bytes .now; lens = s .args .lengths .now }
+job s = record { session = s .args .session; flow = s .args .flow; bytes = s .args .bytes .now; lengths = s .args .lengths .now }
 
 abbrev entries : Writer → ℕ
 entries w = w .entries

@@ -16,13 +16,13 @@ use Rattle.pspsend.proofs.series.send_all.Statement.{statement}
 use Rattle.pspsend.proofs.series.send_all.Tie as tie
 
 abbrev Inv-loop : tie.InvT-loop
-Inv-loop contents₀ bodies₀ session flow number limit bytes lengths scratch₀ series₀ turns₀ contents bodies scratch series turns = (packetRoom ≤ length scratch) × (length contents ≡ length contents₀) × (length bodies ≡ length bodies₀) × Going (record { session = session; flow = flow; bytes = bytes; lens = lengths }) limit number contents₀ bodies₀ contents bodies series turns
+Inv-loop contents₀ bodies₀ session flow number limit bytes lengths scratch₀ series₀ turns₀ contents bodies scratch series turns = (packetRoom ≤ length scratch) × (length contents ≡ length contents₀) × (length bodies ≡ length bodies₀) × Going (record { session = session; flow = flow; bytes = bytes; lengths = lengths }) limit number contents₀ bodies₀ contents bodies series turns
 
 abbrev μ-loop : tie.MeasureT-loop
 μ-loop contents₀ bodies₀ session flow number limit bytes lengths scratch₀ series₀ turns₀ contents bodies scratch series turns = turns
 
 abbrev job : tie.Start Inv-loop μ-loop → Job
-job s = record { session = s .args .session; flow = s .args .flow; bytes = s .args .bytes .now; lens = s .args .lengths .now }
+job s = record { session = s .args .session; flow = s .args .flow; bytes = s .args .bytes .now; lengths = s .args .lengths .now }
 
 -- slices that are as long as they were have as much room
 still-roomy : {c b c′ b′ : List ℕ} → Roomy c b → length c′ ≡ length c → length b′ ≡ length b → Roomy c′ b′

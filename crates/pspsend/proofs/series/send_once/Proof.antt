@@ -10,7 +10,7 @@ use Rattle.pspsend.proofs.series.send_once.Statement.{statement}
 use Rattle.pspsend.proofs.series.send_once.Tie as tie
 
 abbrev job : tie.Start → Job
-job s = record { session = s .args .session; flow = s .args .flow; bytes = s .args .bytes .now; lens = s .args .lengths .now }
+job s = record { session = s .args .session; flow = s .args .flow; bytes = s .args .bytes .now; lengths = s .args .lengths .now }
 
 send-requires : tie.Need-send-requires
 send-requires c κs = search needs
