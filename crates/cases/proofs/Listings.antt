@@ -23,7 +23,7 @@ use Rattle.card.specs.History.{answer, after}
 use Rattle.text.specs.Text.{ascii, digits, decimal, column, hex}
 use Rattle.capture.specs.File.{bodyStart, fileRefusal, Entry, nthEntry, fileOf}
 use Rattle.capture.proofs.Examples.{capture}
-use Rattle.listing.specs.Run.{begin, runOne, standing, answerAt}
+use Rattle.replay.specs.Run.{begin, runOne, standing, answerAt}
 use Rattle.listing.specs.Listing.{columns, line, lineAt, refusedLine, listingBy, listing}
 use Rattle.trace.specs.Trace.{frameLine, framesText, flowLine, flowText, rowLine, rowText, rowsText, tracedAt, traceBy, trace}
 

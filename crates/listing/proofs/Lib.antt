@@ -1,5 +1,2 @@
-pub mod Running
 pub mod Lines
-pub mod Walking
-pub mod Standing
-pub mod Histories
+pub mod Listings

@@ -1,6 +1,6 @@
 -- The lines of a listing, put together from their parts.
 use Prim.Native.Nat.{ℕ}
-use mathlib.Core.Path.{_≡_, refl}
+use mathlib.Core.Path.{_≡_, refl, ap, _∙_}
 use mathlib.Core.Bool.{true, false, _||_}
 use mathlib.Core.List.{List}
 use lib.Dec.{eqb}
@@ -8,10 +8,12 @@ use borrow.Author.Tests.{eq-eqb, ne-eqb}
 use Rattle.card.specs.declared.Received.{Received}
 use Rattle.card.specs.History.{Answer}
 use Rattle.text.specs.Text.{ascii, decimal, column, space, newline, Wrote}
-use Rattle.text.proofs.Writing.{wrote-then}
-use Rattle.capture.specs.File.{openPsp, openDmpt, closing}
-use Rattle.listing.specs.Listing.{wordFor, columns, line, refusedLine}
-use Rattle.listing.specs.Walk.{Counts, numbersOf}
+use Rattle.text.proofs.Writing.{wrote-as, wrote-then}
+use Rattle.capture.specs.File.{openPsp, openDmpt, closing, headLength, entryLength, kindAt}
+use Rattle.listing.specs.Listing.{wordFor, columns, line, lineAt, refusedLine}
+use Rattle.replay.specs.Run.{answerAt}
+use Rattle.replay.specs.Inside.{Counts}
+use Rattle.listing.specs.Inside.{numbersOf}
 
 pub refused-written : {a b c d : List ℕ} {at i j next : ℕ} (number : ℕ) → Wrote a b at i (ascii "refused") → Wrote b c i j (column number) → Wrote c d j next newline →
     Wrote a d at next (refusedLine number)
@@ -43,7 +45,13 @@ pub line-written : {t₀ t₁ t₂ t₃ t₄ t₅ : List ℕ} {at p₁ p₂ p₃
 unfolding line
 line-written index kind a w₁ w₂ w₃ w₄ w₅ = wrote-then (wrote-then (wrote-then (wrote-then w₁ w₂) w₃) w₄) w₅
 
--- a line has nothing of an answer but its numbers
-pub line-same : (index kind : ℕ) (r : Received) (a : Answer) → Counts r a → line index kind (numbersOf r) ≡ line index kind a
+-- a line has nothing of an answer but its numbers, so a step's line is the one that the listing has
+line-same : (index kind : ℕ) (r : Received) (a : Answer) → Counts r a → line index kind (numbersOf r) ≡ line index kind a
 unfolding line columns
 line-same index kind r a c = rw (c .its-code, c .its-frames, c .its-bytes, c .its-dropped, c .its-gap) refl
+
+pub line-is : (file : List ℕ) (k kind : ℕ) (r : Received) → kind ≡ kindAt headLength entryLength file k → Counts r (answerAt file k) →
+    {t₀ t₁ : List ℕ} {at next : ℕ} → Wrote t₀ t₁ at next (line k kind (numbersOf r)) → Wrote t₀ t₁ at next (lineAt file k)
+unfolding lineAt
+line-is file k kind r same counts wrote =
+    wrote-as (line-same k kind r (answerAt file k) counts ∙ ap (λ (x : ℕ). line k x (answerAt file k)) same) wrote

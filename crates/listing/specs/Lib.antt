@@ -1,3 +1,2 @@
-pub mod Run
 pub mod Listing
-pub mod Walk
+pub mod Inside

@@ -10,7 +10,7 @@ use Rattle.octets.specs.Count.{upTo}
 use Rattle.card.specs.History.{Answer}
 use Rattle.text.specs.Text.{ascii, decimal, column, space, newline}
 use Rattle.capture.specs.File.{openPsp, openDmpt, closing, headLength, entryLength, entryCount, kindAt, fileRefusal}
-use Rattle.listing.specs.Run.{answerAt}
+use Rattle.replay.specs.Run.{answerAt}
 
 abbrev pub heading : List ℕ
 heading = ascii "n what code frames bytes dropped gap\n"

@@ -3,7 +3,7 @@ ghost use Prim.Native.Nat.{_+_, _≤_};
 ghost use lib.ListN.{length};
 ghost use Rattle.text.specs.Text.{Wrote};
 ghost use Rattle.listing.specs.Listing.{heading, wordFor, columns, line, refusedLine};
-ghost use Rattle.listing.specs.Walk.{wordRoom, columnsRoom, lineRoom, headingRoom, numbersOf};
+ghost use Rattle.listing.specs.Inside.{wordRoom, columnsRoom, lineRoom, headingRoom, numbersOf};
 use card::Received;
 
 // Writes the heading.

@@ -7,7 +7,7 @@ ghost use mathlib.Core.Path.{_≡_};
 ghost use Prim.Native.Nat.{_+_};
 ghost use lib.ListN.{length};
 ghost use Rattle.capture.specs.File.{longestFile};
-ghost use Rattle.listing.specs.Walk.{listingRoom};
+ghost use Rattle.listing.specs.Inside.{listingRoom};
 use libc::STDIN_FILENO;
 use libc::STDOUT_FILENO;
 

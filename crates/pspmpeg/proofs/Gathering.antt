@@ -6,33 +6,26 @@ use mathlib.Core.Bool.{Bool, true, false, cond}
 use mathlib.Core.List.{List, []}
 use native.Mathlib.Numerals.{add-one}
 use native.Mathlib.Omega.{arith}
-use lib.ListN.{length, length-append, length-replicate}
+use lib.ListN.{length, length-append}
 use Rattle.octets.specs.Bytes.{byteAt}
 use Rattle.octets.specs.Count.{sumTo}
 use Rattle.octets.specs.Stretch.{put, joined, lengthsOf}
 use Rattle.octets.proofs.Stretches.{length-put, put-nil, put-put-front, joined-append, lengthsOf-append, length-lengthsOf}
-use Rattle.table.specs.Broken.{broken}
-use Rattle.join.specs.Slices.{mostBytes, mostFrames}
-use Rattle.card.specs.Receive.{holdingSize, framesFound}
+use Rattle.card.specs.Receive.{framesFound}
 use Rattle.card.specs.History.{framesOf}
 use Rattle.capture.specs.File.{headLength, entryLength, longestFile, mostEntries, entryCount, kindAt, nthEntry}
 use Rattle.capture.proofs.Checking.{is-sound}
-use Rattle.listing.specs.declared.Walk.{Walk}
-use Rattle.listing.specs.Run.{Running, standing, answerAt}
-use Rattle.listing.specs.Walk.{asRunning, Stands, Unused}
-use Rattle.listing.proofs.Standing.{never-broken, frames-of-entry}
-use Rattle.trace.specs.Rooms.{Findable}
-use Rattle.trace.proofs.Entries.{findable}
+use Rattle.replay.specs.declared.Walk.{Walk}
+use Rattle.replay.specs.declared.Stepped.{Stepped}
+use Rattle.replay.specs.Run.{Running, standing, answerAt}
+use Rattle.replay.specs.Inside.{Stands, Steps, Findable}
+use Rattle.replay.proofs.Standing.{frames-found, frames-findable}
 use Rattle.pspmpeg.specs.declared.gather.Gathered.{Gathered}
 use Rattle.pspmpeg.specs.declared.gather.Stage.{Stage}
 use Rattle.pspmpeg.specs.Stream.{isFor, framesAt, deliveredBefore, delivered}
 use Rattle.pspmpeg.specs.Inside.{mostGathered, Adds, Fits, FitsFound, Gathers}
 use Rattle.pspmpeg.proofs.Cutting.{found-many, found-long}
 use Rattle.pspmpeg.proofs.Rooms.{few-bytes, few-frames}
-
--- a run's table is never broken
-pub table-stands : {file : List ℕ} {w : Walk} {holding output lengths : List ℕ} → Stands file w holding output lengths → broken (w .table) ≡ false
-table-stands {file} {w} s = ap (λ (r : Running). broken (r .card .table)) (s .its-run) ∙ never-broken file (w .index)
 
 -- One entry. What is said of it before it is run is what the definition says.
 module _ {file : List ℕ} {w : Walk} {holding output lengths : List ℕ} (s : Stands file w holding output lengths) (session : ℕ) where
@@ -61,30 +54,23 @@ not-chosen found {frames} {wanted} {bytes} {sizes} {g} e n =
         let b : g .bytes ≡ g .bytes + 0 = omega arith in
         ap (λ (n : ℕ). record { count = n; bytes = g .bytes }) a ∙ ap (λ (n : ℕ). record { count = g .count + 0; bytes = n }) b
 
--- .. and its frames lie in the slices that it leaves
-module _ {file : List ℕ} {w : Walk} {holding output lengths : List ℕ} (s : Stands file w holding output lengths) (k : ℕ) (further : w .index ≡ k + 1)
-    (more : ℕ) (m : more ≡ answerAt file k .frames) (output-long : mostBytes ≤ length output) (lengths-long : mostFrames ≤ length lengths) where
-  run-is : asRunning (w .table) holding output lengths ≡ standing file (suc k)
-  run-is = s .its-run ∙ ap (standing file) (further ∙ add-one k)
-
-  found-are : framesFound more lengths output ≡ framesOf (answerAt file k)
-  found-are =
-      ap (λ (n : ℕ). framesFound n lengths output) m
-      ∙ ap (λ (r : Running). framesFound (answerAt file k .frames) (r .lengths) (r .output)) run-is
-      ∙ frames-of-entry file k
+-- .. and its frames lie in the slices that the step leaves
+module _ {file : List ℕ} {w : Walk} {s : Stepped} {holding output lengths : List ℕ} (stepped : Steps file w s holding output lengths) where
+  abbrev more : ℕ
+  more = s .answer .frames
 
   there : Findable output lengths more
-  there = findable s k further more m output-long lengths-long
+  there = frames-findable stepped
 
   lengths-there : more ≤ length lengths
-  lengths-there = omega (arith, there .few, lengths-long)
+  lengths-there = omega (arith, there .few, there .lengths-long)
 
   bytes-there : sumTo (byteAt lengths) more ≤ length output
-  bytes-there = omega (arith, there .all-short, output-long)
+  bytes-there = omega (arith, there .all-short, there .output-long)
 
-  module _ {frames : List (List ℕ)} {wanted : Bool} (e : frames ≡ cond wanted (framesOf (answerAt file k)) []) (y : wanted ≡ true) where
+  module _ {frames : List (List ℕ)} {wanted : Bool} (e : frames ≡ cond wanted (framesOf (answerAt file (w .index))) []) (y : wanted ≡ true) where
     frames-are : frames ≡ framesFound more lengths output
-    frames-are = e ∙ ap (λ (t : Bool). cond t (framesOf (answerAt file k)) []) y ∙ sym found-are
+    frames-are = e ∙ ap (λ (t : Bool). cond t (framesOf (answerAt file (w .index))) []) y ∙ sym (frames-found stepped)
 
     pub fits-found : {bytes sizes : List ℕ} {g : Gathered} → Fits frames bytes sizes g → FitsFound output lengths more bytes sizes g
     fits-found f =
@@ -114,12 +100,6 @@ gather-begin {session} {file} {holding} {output} {lengths} {w} bytes sizes s z =
           subst (λ (n : ℕ). Gathers (deliveredBefore session file n) bytes sizes bytes sizes (record { count = 0; bytes = 0 })) (sym z)
           (record { bytes-now = sym (put-nil bytes 0); sizes-now = sym (put-nil sizes 0); counted = refl; total-is = refl });
     }
-
--- the slices that a run begins with are large enough for any call
-pub unused-enough : {file holding output lengths : List ℕ} → Unused file holding output lengths →
-    (length holding ≡ holdingSize) × (length output ≡ mostBytes) × (length lengths ≡ mostFrames)
-unused-enough u =
-    (ap length (u .holding-zero) ∙ length-replicate {A = ℕ} holdingSize 0, ap length (u .output-zero) ∙ length-replicate {A = ℕ} mostBytes 0, ap length (u .lengths-zero) ∙ length-replicate {A = ℕ} mostFrames 0)
 
 module _ {session : ℕ} {file bytes₀ sizes₀ : List ℕ} {stage : Stage} {holding output lengths bytes sizes : List ℕ}
     (g : Gathering session file bytes₀ sizes₀ stage holding output lengths bytes sizes) (bytes-long : longestFile ≤ length bytes₀) (sizes-long : mostGathered ≤ length sizes₀) where

@@ -29,9 +29,9 @@ use Rattle.card.proofs.Accepted as call
 use Rattle.card.proofs.Limits.{bodyBytes, accepted-bounded, held-length}
 use Rattle.capture.specs.File.{Entry, headLength, entryLength, longestFile, openPsp, openDmpt, closing, entryCount, bodyLength, bodyStart, fileRefusal, nthEntry}
 use Rattle.capture.proofs.Checking.{is-sound}
-use Rattle.listing.specs.Run.{Running, asks, packetOf, callOf, answerTo, runOne, begin, standing, answerAt}
-use Rattle.listing.proofs.Standing.{frames-short}
-use Rattle.listing.proofs.Histories.{startCard, callAt, run-card}
+use Rattle.replay.specs.Run.{Running, asks, packetOf, callOf, answerTo, runOne, begin, standing, answerAt}
+use Rattle.replay.proofs.Standing.{frames-short}
+use Rattle.replay.proofs.Histories.{startCard, callAt, run-card}
 use Rattle.promises.specs.Account.{packetBody, takenBy}
 use Rattle.promises.proofs.Good.{Good, good-empty, good-all}
 use Rattle.promises.proofs.Measures.{by-length}

@@ -6,14 +6,13 @@ ghost use lib.ListN.{length};
 ghost use Rattle.table.specs.Broken.{broken};
 ghost use Rattle.card.specs.Receive.{framesFound};
 ghost use Rattle.capture.specs.File.{headLength, entryCount, longestFile};
-ghost use Rattle.listing.specs.Walk.{Stands, Unused, lineRoom};
-ghost use Rattle.trace.specs.Rooms.{Enough};
+ghost use Rattle.replay.specs.Inside.{Stands, Unused};
 ghost use Rattle.pspmpeg.specs.Stream.{isFor, framesAt, delivered};
 ghost use Rattle.pspmpeg.specs.Inside.{mostGathered, Fits, FitsFound, Adds, Gathers};
 use capture::reader;
-use listing::Walk;
-use listing::run;
 use packet::header;
+use replay::Walk;
+use replay::run;
 use table::Table;
 
 // Room for the lengths of all frames: of each entry as many as a call delivers.
@@ -93,7 +92,7 @@ fn append(
     }
 }
 
-// Runs an entry, and gathers its frames where it is for the session. (The line of a listing that the run writes with it is not used.)
+// Runs an entry, and gathers its frames where it is for the session.
 fn gather_entry(
     file: &[u8],
     session: u32,
@@ -101,12 +100,10 @@ fn gather_entry(
     holding: &mut [u8],
     output: &mut [u8],
     lengths: &mut [u16],
-    line: &mut [u8],
     bytes: &mut [u8],
     sizes: &mut [u16],
 ) -> Stage
     requires { ⌜ Stands (now file) (stage .walk) (now holding) (now output) (now lengths) × (stage .walk .index < entryCount headLength (now file)) ⌝ }
-    requires { ⌜ Enough (now holding) (now output) (now lengths) × (lineRoom ≤ length (now line)) ⌝ }
     requires { ⌜ Fits (framesAt session (now file) (stage .walk .index)) (now bytes) (now sizes) (stage .gathered) ⌝ }
     ensures { λ r. ⌜ Stands (now (file .entry)) (r .walk) (now (holding .exit)) (now (output .exit)) (now (lengths .exit)) ⌝ }
     ensures { λ r. ⌜ r .walk .index ≡ stage .walk .index + 1 ⌝ }
@@ -121,15 +118,16 @@ fn gather_entry(
     let kind = reader::kind_at(file, index);
     let body = reader::body_at(file, index, start);
     let wanted = is_for(table, kind, body, session);
-    let listed = listing::list_entry(file, walk, holding, output, lengths, line, 0);
-    let further = listed.walk;
+    let stepped = replay::step(file, walk, holding, output, lengths);
+    let further = stepped.walk;
     if !wanted {
         return Stage {
             walk: further,
             gathered: before,
         };
     }
-    let more = listed.frames as usize;
+    let answer = stepped.answer;
+    let more = answer.frames as usize;
     let gathered = append(output, lengths, more, bytes, sizes, before);
     Stage {
         walk: further,
@@ -144,35 +142,24 @@ pub fn gather(
     holding: &mut [u8],
     output: &mut [u8],
     lengths: &mut [u16],
-    line: &mut [u8],
     bytes: &mut [u8],
     sizes: &mut [u16],
 ) -> Gathered
-    requires { ⌜ Unused (now file) (now holding) (now output) (now lengths) × (lineRoom ≤ length (now line)) ⌝ }
+    requires { ⌜ Unused (now file) (now holding) (now output) (now lengths) ⌝ }
     requires { ⌜ (longestFile ≤ length (now bytes)) × (mostGathered ≤ length (now sizes)) ⌝ }
     ensures { λ r. ⌜ Gathers (delivered session (now (file .entry)))
         (now (bytes .entry)) (now (sizes .entry)) (now (bytes .exit)) (now (sizes .exit)) r ⌝ }
     ensures { λ r. ⌜ (r .bytes ≤ longestFile) × (r .count ≤ mostGathered) ⌝ }
 {
     let count = reader::entry_count(file);
-    let walk = listing::begin(file);
+    let walk = replay::begin(file);
     let none = Gathered { count: 0, bytes: 0 };
     let mut stage = Stage {
         walk,
         gathered: none,
     };
     while stage.walk.index < count {
-        stage = gather_entry(
-            file,
-            session,
-            stage,
-            holding,
-            output,
-            lengths,
-            line,
-            bytes,
-            sizes,
-        );
+        stage = gather_entry(file, session, stage, holding, output, lengths, bytes, sizes);
     }
     stage.gathered
 }

@@ -13,7 +13,6 @@ ghost use Prim.Native.Nat.{_+_, _≤_};
 ghost use lib.ListN.{length};
 ghost use Rattle.text.specs.Text.{Wrote};
 ghost use Rattle.capture.specs.File.{longestFile};
-ghost use Rattle.listing.specs.Walk.{lineRoom};
 ghost use Rattle.pspmpeg.specs.Stream.{stream};
 ghost use Rattle.pspmpeg.specs.Inside.{mostGathered, streamRoom};
 use capture::reader;
@@ -58,12 +57,6 @@ fn stream_room() -> [u8; packets::STREAM_ROOM]
     [0; packets::STREAM_ROOM]
 }
 
-fn line_room() -> [u8; listing::LINE_ROOM]
-    ensures { λ r. ⌜ lineRoom ≡ length r ⌝ }
-{
-    [0; listing::LINE_ROOM]
-}
-
 fn bytes_room() -> [u8; capture::LONGEST_FILE]
     ensures { λ r. ⌜ longestFile ≡ length r ⌝ }
 {
@@ -94,10 +87,9 @@ fn write_stream(file: &[u8], session: u32, text: &mut [u8]) -> usize
     if refused != refusal::NONE {
         return listing::line::write_refused(text, 0, refused);
     }
-    let mut holding = listing::holding_room();
-    let mut output = listing::output_room();
-    let mut lengths = listing::lengths_room();
-    let mut line = line_room();
+    let mut holding = replay::holding_room();
+    let mut output = replay::output_room();
+    let mut lengths = replay::lengths_room();
     let mut bytes = bytes_room();
     let mut sizes = sizes_room();
     let gathered = gather::gather(
@@ -106,7 +98,6 @@ fn write_stream(file: &[u8], session: u32, text: &mut [u8]) -> usize
         &mut holding,
         &mut output,
         &mut lengths,
-        &mut line,
         &mut bytes,
         &mut sizes,
     );

@@ -7,8 +7,8 @@ ghost use mathlib.Core.Path.{_≡_};
 ghost use Prim.Native.Nat.{_+_, _≤_};
 ghost use lib.ListN.{length};
 ghost use Rattle.capture.specs.File.{longestFile};
-ghost use Rattle.listing.specs.Walk.{Unused};
-ghost use Rattle.trace.specs.Rooms.{Enough, entryRoom};
+ghost use Rattle.replay.specs.Inside.{Unused};
+ghost use Rattle.trace.specs.Inside.{entryRoom};
 use capture::reader;
 use libc::STDIN_FILENO;
 use libc::STDOUT_FILENO;
@@ -46,9 +46,9 @@ fn trace(file: &[u8], text: &mut [u8])
     }
     let length = listing::line::write_heading(text, 0);
     io::write_all(STDOUT_FILENO, &text[..length]);
-    let mut holding = listing::holding_room();
-    let mut output = listing::output_room();
-    let mut lengths = listing::lengths_room();
+    let mut holding = replay::holding_room();
+    let mut output = replay::output_room();
+    let mut lengths = replay::lengths_room();
     trace_entries(file, &mut holding, &mut output, &mut lengths, text);
 }
 
@@ -60,10 +60,10 @@ fn trace_entries(
     lengths: &mut [u16],
     text: &mut [u8],
 )
-    requires { ⌜ Unused (now file) (now holding) (now output) (now lengths) × Enough (now holding) (now output) (now lengths) × (entryRoom ≤ length (now text)) ⌝ }
+    requires { ⌜ Unused (now file) (now holding) (now output) (now lengths) × (entryRoom ≤ length (now text)) ⌝ }
 {
     let count = reader::entry_count(file);
-    let mut walk = listing::begin(file);
+    let mut walk = replay::begin(file);
     while walk.index < count {
         let traced = trace::trace_entry(file, walk, holding, output, lengths, text);
         let length = traced.next;

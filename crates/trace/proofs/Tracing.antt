@@ -22,9 +22,10 @@ use Rattle.join.specs.Slices.{mostBytes}
 use Rattle.card.specs.Receive.{holdingSize, placeOf, framesFound}
 use Rattle.text.specs.Text.{ascii, decimal, column, hex, space, newline, mostDigits, Wrote}
 use Rattle.text.proofs.Writing.{wrote-length, wrote-then, wrote-none, wrote-as}
-use Rattle.listing.specs.Walk.{columnRoom}
+use Rattle.listing.specs.Inside.{columnRoom}
 use Rattle.trace.specs.Trace.{frameLine, hexOrDash, flowLine, flowText, rowLine, rowText, rowsText}
-use Rattle.trace.specs.Rooms.{frameRoom, framesRoom, flowRoom, rowLineRoom, rowRoom, rowsRoom, Findable, HeldFew}
+use Rattle.replay.specs.Inside.{Findable}
+use Rattle.trace.specs.Inside.{frameRoom, framesRoom, flowRoom, rowLineRoom, rowRoom, rowsRoom, HeldFew}
 
 -- The line of a frame: a word, its bytes, the end of the line.
 pub frame-written : {a b c d : List ℕ} {at behind-word behind-bytes next : ℕ} (bytes : List ℕ) (from size : ℕ) →

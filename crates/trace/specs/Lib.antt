@@ -1,2 +1,2 @@
 pub mod Trace
-pub mod Rooms
+pub mod Inside

@@ -15,7 +15,7 @@ use Rattle.card.specs.Receive.{placeOf}
 use Rattle.card.specs.History.{Card, Answer, framesOf}
 use Rattle.text.specs.Text.{ascii, decimal, column, hex, space, newline}
 use Rattle.capture.specs.File.{headLength, entryCount, fileRefusal}
-use Rattle.listing.specs.Run.{standing, answerAt}
+use Rattle.replay.specs.Run.{standing, answerAt}
 use Rattle.listing.specs.Listing.{heading, lineAt, refusedLine}
 
 -- the frames that a call delivered

@@ -7,7 +7,8 @@ ghost use Rattle.octets.specs.Stretch.{part, joined};
 ghost use Rattle.card.specs.Receive.{framesFound};
 ghost use Rattle.text.specs.Text.{Wrote};
 ghost use Rattle.trace.specs.Trace.{frameLine};
-ghost use Rattle.trace.specs.Rooms.{Findable, frameRoom, framesRoom};
+ghost use Rattle.replay.specs.Inside.{Findable};
+ghost use Rattle.trace.specs.Inside.{frameRoom, framesRoom};
 use crate::wide;
 
 // Room for the lines of a call's frames: in each a word, and the end of the line; and two digits for each byte.

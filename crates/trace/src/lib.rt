@@ -8,12 +8,11 @@ ghost use Prim.Native.Nat.{_+_, _<_, _≤_};
 ghost use lib.ListN.{length};
 ghost use Rattle.text.specs.Text.{Wrote};
 ghost use Rattle.capture.specs.File.{headLength, entryCount};
-ghost use Rattle.listing.specs.Run.{answerAt};
-ghost use Rattle.listing.specs.Walk.{Stands};
+ghost use Rattle.replay.specs.Inside.{Stands};
 ghost use Rattle.trace.specs.Trace.{tracedAt};
-ghost use Rattle.trace.specs.Rooms.{Enough, entryRoom};
-use listing::Listed;
-use listing::Walk;
+ghost use Rattle.trace.specs.Inside.{entryRoom};
+use listing::line;
+use replay::Walk;
 
 // Room for the trace of any entry: its line, the lines of its frames, and all rows with all flows holding all they can.
 pub const ENTRY_ROOM: usize = listing::LINE_ROOM + frames::FRAMES_ROOM + rows::ROWS_ROOM;
@@ -25,6 +24,12 @@ fn wide(length: u16) -> usize
     length as usize
 }
 
+// What tracing an entry answers: the place behind its text, and where the run stands afterwards.
+pub struct Traced {
+    pub next: usize,
+    pub walk: Walk,
+}
+
 // Runs an entry and writes its trace at the start of the text: its line, the frames that it delivered, and the open rows afterwards.
 pub fn trace_entry(
     file: &[u8],
@@ -33,23 +38,24 @@ pub fn trace_entry(
     output: &mut [u8],
     lengths: &mut [u16],
     text: &mut [u8],
-) -> Listed
+) -> Traced
     requires { ⌜ Stands (now file) walk (now holding) (now output) (now lengths) × (walk .index < entryCount headLength (now file)) ⌝ }
-    requires { ⌜ Enough (now holding) (now output) (now lengths) × (entryRoom ≤ length (now text)) ⌝ }
+    requires { ⌜ entryRoom ≤ length (now text) ⌝ }
     ensures { λ r. ⌜ Wrote (now (text .entry)) (now (text .exit)) 0 (r .next) (tracedAt (now (file .entry)) (walk .index)) ⌝ }
     ensures { λ r. ⌜ Stands (now (file .entry)) (r .walk) (now (holding .exit)) (now (output .exit)) (now (lengths .exit)) ⌝ }
-    ensures { λ r. ⌜ (r .walk .index ≡ walk .index + 1) × (r .frames ≡ (answerAt (now (file .entry)) (walk .index)) .frames) ⌝ }
+    ensures { λ r. ⌜ r .walk .index ≡ walk .index + 1 ⌝ }
 {
-    let listed = listing::list_entry(file, walk, holding, output, lengths, text, 0);
-    let frames = listed.frames;
-    let behind_line = listed.next;
-    let behind_frames = frames::write_frames(text, behind_line, output, lengths, frames as usize);
-    let further = listed.walk;
+    let index = walk.index;
+    let stepped = replay::step(file, walk, holding, output, lengths);
+    let answer = stepped.answer;
+    let behind_line = line::write_line(text, 0, index as u32, stepped.kind, answer);
+    let count = answer.frames as usize;
+    let behind_frames = frames::write_frames(text, behind_line, output, lengths, count);
+    let further = stepped.walk;
     let table = further.table;
     let behind_rows = rows::write_rows(text, behind_frames, table, holding);
-    Listed {
+    Traced {
         next: behind_rows,
-        frames,
         walk: further,
     }
 }

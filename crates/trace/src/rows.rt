@@ -10,7 +10,7 @@ ghost use Rattle.table.specs.Broken.{broken};
 ghost use Rattle.card.specs.Receive.{holdingSize};
 ghost use Rattle.text.specs.Text.{Wrote};
 ghost use Rattle.trace.specs.Trace.{hexOrDash, flowText, rowLine, rowText, rowsText};
-ghost use Rattle.trace.specs.Rooms.{flowRoom, rowLineRoom, rowRoom, rowsRoom, HeldFew};
+ghost use Rattle.trace.specs.Inside.{flowRoom, rowLineRoom, rowRoom, rowsRoom, HeldFew};
 use crate::wide;
 use flow::FLOWS;
 use flow::Flow;

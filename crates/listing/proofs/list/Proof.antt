@@ -1,6 +1,6 @@
 -- `listing::list` is right since a refused file has one line (`listing-refused`), and any other is listed entry by entry.
 use Rattle.text.proofs.Writing.{wrote-as}
-use Rattle.listing.proofs.Walking.{listing-refused}
+use Rattle.listing.proofs.Listings.{listing-refused}
 use borrow.Author.Needs.{needs}
 use Rattle.listing.proofs.list.Statement.{statement}
 use Rattle.listing.proofs.list.Tie as tie

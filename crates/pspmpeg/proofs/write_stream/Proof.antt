@@ -1,123 +1,105 @@
--- `pspmpeg::write_stream` is right by its two ways out: the capture is refused, or its frames are gathered and their packets written.
-use mathlib.Core.Path.{sym, _∙_}
-use native.Mathlib.Omega.{arith}
-use lib.Seq.{length-take-le}
-use Rattle.text.proofs.Writing.{wrote-as}
-use Rattle.pspmpeg.proofs.Streaming.{stream-refused, stream-sound}
 use borrow.Author.Needs.{needs}
 use Rattle.pspmpeg.proofs.write_stream.Statement.{statement}
 use Rattle.pspmpeg.proofs.write_stream.Tie as tie
+use Rattle.pspmpeg.proofs.write_stream.Reads as reads
+use Rattle.pspmpeg.proofs.write_stream.Lts as lts
+use Rattle.capture.proofs.reader.check.Reads as check-reads
+use Rattle.listing.proofs.line.write_refused.Reads as write-refused-reads
+use Rattle.pspmpeg.proofs.bytes_room.Reads as bytes-room-reads
+use Rattle.pspmpeg.proofs.gather.gather.Reads as gather-reads
+use Rattle.pspmpeg.proofs.packets.write_packets.Reads as write-packets-reads
+use Rattle.pspmpeg.proofs.sizes_room.Reads as sizes-room-reads
+use Rattle.replay.proofs.holding_room.Reads as holding-room-reads
+use Rattle.replay.proofs.lengths_room.Reads as lengths-room-reads
+use Rattle.replay.proofs.output_room.Reads as output-room-reads
 
+-- src/main.rt:86:9
 check-requires : tie.Need-check-requires
 check-requires c κs = search needs
 
+-- src/main.rt:88:9
 write-refused-requires : tie.Need-write-refused-requires
 write-refused-requires c κs = search needs
 
+-- src/main.rt:88:9
 same-length : tie.Need-same-length
 same-length c = search needs
 
+-- src/main.rt:88:9
 returns : tie.Need-returns
-returns c =
-    let refused-so = c .before .before in
-    let first-if = refused-so .before .before in
-    let checked = first-if .before in
-    wrote-as (stream-refused _ _ _ (checked .check .ensures) (first-if .if1 .taken)) (refused-so .write-refused .ensures)
+returns c = ?
 
+-- src/main.rt:90:23
 holding-room-requires : tie.Need-holding-room-requires
 holding-room-requires c κs = search needs
 
+-- src/main.rt:91:22
 output-room-requires : tie.Need-output-room-requires
 output-room-requires c κs = search needs
 
+-- src/main.rt:92:23
 lengths-room-requires : tie.Need-lengths-room-requires
 lengths-room-requires c κs = search needs
 
-line-room-requires : tie.Need-line-room-requires
-line-room-requires c κs = search needs
-
+-- src/main.rt:93:21
 bytes-room-requires : tie.Need-bytes-room-requires
 bytes-room-requires c κs = search needs
 
+-- src/main.rt:94:21
 sizes-room-requires : tie.Need-sizes-room-requires
 sizes-room-requires c κs = search needs
 
+-- src/main.rt:98:9
 slice-aggregate-gather : tie.Need-slice-aggregate-gather
 slice-aggregate-gather c = search needs
 
+-- src/main.rt:99:9
 slice-aggregate-gather-2 : tie.Need-slice-aggregate-gather-2
 slice-aggregate-gather-2 c = search needs
 
+-- src/main.rt:100:9
 slice-aggregate-gather-3 : tie.Need-slice-aggregate-gather-3
 slice-aggregate-gather-3 c = search needs
 
+-- src/main.rt:101:9
 slice-aggregate-gather-4 : tie.Need-slice-aggregate-gather-4
 slice-aggregate-gather-4 c = search needs
 
+-- src/main.rt:102:9
 slice-aggregate-gather-5 : tie.Need-slice-aggregate-gather-5
 slice-aggregate-gather-5 c = search needs
 
-slice-aggregate-gather-6 : tie.Need-slice-aggregate-gather-6
-slice-aggregate-gather-6 c = search needs
-
+-- src/main.rt:95:9
 gather-requires : tie.Need-gather-requires
-gather-requires c κs = (
-  (
-    record {
-      sound = sym (c .before .before .before .before .before .before .before .before .before .before .before .before .before .check .ensures) ∙ c .before .before .before .before .before .before .before .before .before .before .before .before .if1 .left;
-      holding-zero = c .before .before .before .before .before .before .before .before .before .before .before .holding-room .ensures;
-      output-zero = c .before .before .before .before .before .before .before .before .before .before .output-room .ensures;
-      lengths-zero = c .before .before .before .before .before .before .before .before .before .lengths-room .ensures;
-    },
-    omega (arith, c .before .before .before .before .before .before .before .before .line-room .ensures),
-  ),
-  (omega (arith, c .before .before .before .before .before .before .before .bytes-room .ensures), omega (arith, c .before .before .before .before .before .before .sizes-room .ensures)),
-)
+gather-requires c κs = ?
 
+-- src/main.rt:106:28
 array-share-prefix-bytes : tie.Need-array-share-prefix-bytes
 array-share-prefix-bytes c = search needs
 
+-- src/main.rt:106:28
 slice-aggregate-write-packets : tie.Need-slice-aggregate-write-packets
-slice-aggregate-write-packets c =
-    let gathered = c .before .before .before .before .before .before .before in
-    let with-bytes = gathered .before .before .before .before .before .before .before .before in
-    sym
-    (length-take-le _ _ (omega (arith, gathered .gather .ensures .1 .0, gathered .gather .kept .1 .1 .1 .1 .1 .1 .0, with-bytes .bytes-room .ensures)))
+slice-aggregate-write-packets c = ?
 
+-- src/main.rt:106:45
 array-share-prefix-sizes : tie.Need-array-share-prefix-sizes
 array-share-prefix-sizes c = search needs
 
+-- src/main.rt:106:45
 slice-aggregate-write-packets-2 : tie.Need-slice-aggregate-write-packets-2
-slice-aggregate-write-packets-2 c =
-    let gathered = c .before .before .before .before .before .before .before .before in
-    let with-sizes = gathered .before .before .before .before .before .before .before in
-    sym
-    (length-take-le _ _ (omega (arith, gathered .gather .ensures .1 .1, gathered .gather .kept .1 .1 .1 .1 .1 .1 .1 .0, with-sizes .sizes-room .ensures)))
+slice-aggregate-write-packets-2 c = ?
 
+-- src/main.rt:106:5
 write-packets-requires : tie.Need-write-packets-requires
-write-packets-requires c κs =
-    let gathered = c .before .before .before .before .before .before .before .before .before in
-    let with-bytes = gathered .before .before .before .before .before .before .before .before in
-    let start = with-bytes .before .before .before .before .before .before .before .before .before in
-    let few = length-take-le (gathered .gather .result .bytes) (gathered .gather .last .1 .1 .1 .1 .1 .1 .0) (omega (arith, gathered .gather .ensures .1 .0, gathered .gather .kept .1 .1 .1 .1 .1 .1 .0, with-bytes .bytes-room .ensures)) in
-    (omega (arith, few, gathered .gather .ensures .1 .0), start .pre)
+write-packets-requires c κs = ?
 
+-- src/main.rt:82:1
 same-length-2 : tie.Need-same-length-2
 same-length-2 c = search needs
 
+-- src/main.rt:82:1
 returns-2 : tie.Need-returns-2
-returns-2 c =
-    let written-out = c .before .before in
-    let gathered = written-out .before .before .before .before .before .before .before .before .before .before in
-    let with-sizes = gathered .before .before .before .before .before .before .before in
-    let with-bytes = with-sizes .before in
-    let first-if = with-bytes .before .before .before .before .before in
-    let checked = first-if .before in
-    let start = checked .before .before .before in
-    let g = gathered .gather in
-    stream-sound (start .args .session) (start .args .file .now) (sym (checked .check .ensures) ∙ first-if .if1 .left) (g .ensures .0)
-    (omega (arith, g .ensures .1 .0, with-bytes .bytes-room .ensures)) (omega (arith, g .ensures .1 .1, with-sizes .sizes-room .ensures))
-    (written-out .write-packets .ensures)
+returns-2 c = ?
 
 pub write-stream-spec : {M : Type 1} → statement M
 write-stream-spec =
@@ -130,7 +112,6 @@ write-stream-spec =
     holding-room-requires
     output-room-requires
     lengths-room-requires
-    line-room-requires
     bytes-room-requires
     sizes-room-requires
     slice-aggregate-gather
@@ -138,7 +119,6 @@ write-stream-spec =
     slice-aggregate-gather-3
     slice-aggregate-gather-4
     slice-aggregate-gather-5
-    slice-aggregate-gather-6
     gather-requires
     array-share-prefix-bytes
     slice-aggregate-write-packets

@@ -4,7 +4,7 @@ use mathlib.Core.Path.{sym, _∙_}
 use native.Mathlib.Omega.{arith}
 use Rattle.flow.specs.Flow.{flows}
 use Rattle.text.proofs.Writing.{wrote-length, wrote-then}
-use Rattle.trace.specs.Rooms.{flowRoom}
+use Rattle.trace.specs.Inside.{flowRoom}
 use Rattle.text.proofs.Pieces.{Pieces, pieces-begin, pieces-room, pieces-turn, pieces-end}
 use Rattle.trace.proofs.Tracing.{flowsOf, row-closed, row-written}
 use borrow.Author.Needs.{needs}

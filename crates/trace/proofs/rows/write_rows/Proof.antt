@@ -3,7 +3,7 @@ use Prim.Native.Nat.{_-_}
 use native.Mathlib.Omega.{arith}
 use Rattle.table.specs.Rows.{rows}
 use Rattle.text.proofs.Writing.{wrote-length}
-use Rattle.trace.specs.Rooms.{rowRoom}
+use Rattle.trace.specs.Inside.{rowRoom}
 use Rattle.text.proofs.Pieces.{Pieces, pieces-begin, pieces-room, pieces-turn, pieces-end}
 use Rattle.trace.proofs.Tracing.{rowsOf, held-few, rows-written}
 use borrow.Author.Needs.{needs}

@@ -18,8 +18,8 @@ use Rattle.card.specs.declared.Received.{Received}
 use Rattle.card.specs.Receive.{Outcome, PermitsReceive}
 use Rattle.card.specs.History.{Arrival, Call, opens, closes, hands, handed, answer, after}
 use Rattle.capture.specs.File.{Entry, openPsp, openDmpt, closing, idBody, bodyIn, kinds, takesLength}
-use Rattle.listing.specs.Run.{Running, asks, transportOf, packetOf, callOf, outputAfter, lengthsAfter, runOne}
-use Rattle.listing.specs.Walk.{asRunning, answered, Counts, RunsTo}
+use Rattle.replay.specs.Run.{Running, asks, transportOf, packetOf, callOf, outputAfter, lengthsAfter, runOne}
+use Rattle.replay.specs.Inside.{asRunning, answered, Counts, RunsTo}
 
 abbrev entryOf : ℕ → List ℕ → Entry
 entryOf kind body = record { kind = kind; body = body }

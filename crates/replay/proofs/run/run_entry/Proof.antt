@@ -1,8 +1,8 @@
--- `listing::run::run_entry` makes the call that the entry stands for (`Running`).
-use Rattle.listing.proofs.Running.{psp-body, opens-psp, dmpt-body, opens-dmpt, close-body, closes-row, hands-packet}
+-- `replay::run::run_entry` makes the call that the entry stands for (`Running`).
+use Rattle.replay.proofs.Running.{psp-body, opens-psp, dmpt-body, opens-dmpt, close-body, closes-row, hands-packet}
 use borrow.Author.Needs.{needs}
-use Rattle.listing.proofs.run.run_entry.Statement.{statement}
-use Rattle.listing.proofs.run.run_entry.Tie as tie
+use Rattle.replay.proofs.run.run_entry.Statement.{statement}
+use Rattle.replay.proofs.run.run_entry.Tie as tie
 
 -- from each answer about the kind back to the start
 abbrev opening : tie.Then1 → tie.Start

@@ -1,10 +1,10 @@
--- `listing::run::open` answers what the open answers.
+-- `replay::run::open` answers what the open answers.
 use mathlib.Core.Path.{ap, _∙_}
 use Rattle.table.specs.declared.Opening.{Opening}
-use Rattle.listing.specs.Walk.{answered}
+use Rattle.replay.specs.Inside.{answered}
 use borrow.Author.Needs.{needs}
-use Rattle.listing.proofs.run.open.Statement.{statement}
-use Rattle.listing.proofs.run.open.Tie as tie
+use Rattle.replay.proofs.run.open.Statement.{statement}
+use Rattle.replay.proofs.run.open.Tie as tie
 
 open-requires : tie.Need-open-requires
 open-requires c κs = search needs

@@ -1,10 +1,10 @@
--- `listing::run::close` answers what the close answers.
+-- `replay::run::close` answers what the close answers.
 use mathlib.Core.Path.{ap, _∙_}
 use Rattle.table.specs.declared.Closing.{Closing}
-use Rattle.listing.specs.Walk.{answered}
+use Rattle.replay.specs.Inside.{answered}
 use borrow.Author.Needs.{needs}
-use Rattle.listing.proofs.run.close.Statement.{statement}
-use Rattle.listing.proofs.run.close.Tie as tie
+use Rattle.replay.proofs.run.close.Statement.{statement}
+use Rattle.replay.proofs.run.close.Tie as tie
 
 close-requires : tie.Need-close-requires
 close-requires c κs = search needs

@@ -1,19 +1,21 @@
--- What the runner's functions are held to, in the words of the definitions beside this file, and the room that texts need. Who calls the runner
--- needs these; whoever wants to know what is printed does not.
-use Prim.Native.Nat.{ℕ, _+_, _*_, _≤_}
+-- Inside: what functions promise each other on the way to a result. Nobody has to believe this file: the result is said without it.
+-- Here: where a run stands, and what a step of it answers. What a capture comes to is specs/Run.antt's.
+use Prim.Native.Nat.{ℕ, _+_, _≤_}
 use mathlib.Core.Path.{_≡_}
-use mathlib.Core.List.{List, []}
-use lib.ListN.{replicate}
+use mathlib.Core.List.{List}
+use lib.ListN.{length, replicate}
+use Rattle.octets.specs.Bytes.{byteAt}
+use Rattle.octets.specs.Count.{sumTo}
 use Rattle.table.specs.declared.Table.{Table}
 use Rattle.table.specs.Rows.{empty}
 use Rattle.join.specs.Slices.{mostFrames, mostBytes}
 use Rattle.card.specs.declared.Received.{Received}
 use Rattle.card.specs.Receive.{holdingSize}
 use Rattle.card.specs.History.{Answer}
-use Rattle.text.specs.Text.{mostDigits}
-use Rattle.capture.specs.File.{Entry, headLength, entryLength, mostEntries, entryCount, bodyStart, fileRefusal}
-use Rattle.listing.specs.declared.Walk.{Walk}
-use Rattle.listing.specs.Run.{Running, answerTo, runOne, standing}
+use Rattle.capture.specs.File.{Entry, headLength, entryLength, entryCount, kindAt, bodyStart, fileRefusal}
+use Rattle.replay.specs.declared.Walk.{Walk}
+use Rattle.replay.specs.declared.Stepped.{Stepped}
+use Rattle.replay.specs.Run.{Running, answerTo, runOne, standing, answerAt}
 
 -- a table and the slices, as a run has them
 abbrev pub asRunning : Table → List ℕ → List ℕ → List ℕ → Running
@@ -36,9 +38,11 @@ pub record RunsTo (before : Running) (e : Entry) (r : Received) (holding output 
   pub its-counts : Counts r (answerTo before e)
   pub stands : asRunning (r .table) holding output lengths ≡ runOne before e
 
--- the numbers of a call's answer, as a line has them
-abbrev pub numbersOf : Received → Answer
-numbersOf r = record { code = r .code; frames = r .frames; bytes = r .bytes; dropped = r .dropped; gap = r .gap; output = []; lengths = [] }
+-- the slices of a run are as long as any call needs, and no longer
+pub record Sized (holding output lengths : List ℕ) : Type 0 where
+  pub holding-size : length holding ≡ holdingSize
+  pub output-size : length output ≡ mostBytes
+  pub lengths-size : length lengths ≡ mostFrames
 
 -- A walk stands before an entry of a sound file, or behind the last: where that entry's body starts, and how the run stands there.
 pub record Stands (file : List ℕ) (w : Walk) (holding output lengths : List ℕ) : Type 0 where
@@ -46,6 +50,7 @@ pub record Stands (file : List ℕ) (w : Walk) (holding output lengths : List �
   pub within : w .index ≤ entryCount headLength file
   pub its-start : w .start ≡ bodyStart headLength entryLength file (w .index)
   pub its-run : asRunning (w .table) holding output lengths ≡ standing file (w .index)
+  pub sized : Sized holding output lengths
 
 -- before the first entry, with an empty table
 pub record Begins (file : List ℕ) (w : Walk) : Type 0 where
@@ -60,22 +65,16 @@ pub record Unused (file holding output lengths : List ℕ) : Type 0 where
   pub output-zero : output ≡ replicate mostBytes 0
   pub lengths-zero : lengths ≡ replicate mostFrames 0
 
--- The room that texts need: a number with its space, the longest word for a kind, the columns of an answer, a line, the
--- heading, a whole listing.
-abbrev pub columnRoom : ℕ
-columnRoom = 1 + mostDigits
+-- A step: the entry's kind and the numbers of its answer, and that the walk stands one entry further on.
+pub record Steps (file : List ℕ) (w : Walk) (s : Stepped) (holding output lengths : List ℕ) : Type 0 where
+  pub its-kind : s .kind ≡ kindAt headLength entryLength file (w .index)
+  pub its-counts : Counts (s .answer) (answerAt file (w .index))
+  pub stands : Stands file (s .walk) holding output lengths
+  pub further : s .walk .index ≡ w .index + 1
 
-abbrev pub wordRoom : ℕ
-wordRoom = 5
-
-abbrev pub columnsRoom : ℕ
-columnsRoom = 5 * columnRoom
-
-abbrev pub lineRoom : ℕ
-lineRoom = mostDigits + 1 + wordRoom + columnsRoom + 1
-
-abbrev pub headingRoom : ℕ
-headingRoom = 37
-
-abbrev pub listingRoom : ℕ
-listingRoom = headingRoom + lineRoom * mostEntries
+-- the frames of a call lie in the slices
+pub record Findable (output lengths : List ℕ) (count : ℕ) : Type 0 where
+  pub few : count ≤ mostFrames
+  pub all-short : sumTo (byteAt lengths) count ≤ mostBytes
+  pub lengths-long : mostFrames ≤ length lengths
+  pub output-long : mostBytes ≤ length output

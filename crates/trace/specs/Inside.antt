@@ -1,23 +1,12 @@
--- What the functions that write a trace are held to beside the definitions, and the room that a trace needs. Who calls them needs these; whoever
--- wants to know what is printed does not.
+-- Inside: what functions promise each other on the way to a result. Nobody has to believe this file: the result is said without it.
+-- Here: the room that a trace needs, and what its functions are lent. What is printed is specs/Trace.antt's.
 use Prim.Native.Nat.{ℕ, _+_, _*_, _<_, _≤_}
-use mathlib.Core.List.{List}
-use lib.ListN.{length}
-use Rattle.octets.specs.Bytes.{byteAt}
-use Rattle.octets.specs.Count.{sumTo}
 use Rattle.flow.specs.Flow.{flows, longest}
 use Rattle.table.specs.declared.Row.{Row}
 use Rattle.table.specs.Rows.{rows, flowAt}
 use Rattle.join.specs.Slices.{mostFrames, mostBytes}
-use Rattle.card.specs.Receive.{holdingSize}
 use Rattle.text.specs.Text.{mostDigits}
-use Rattle.listing.specs.Walk.{columnRoom, lineRoom}
-
--- slices that are large enough for any call
-pub record Enough (holding output lengths : List ℕ) : Type 0 where
-  pub holding-long : holdingSize ≤ length holding
-  pub output-long : mostBytes ≤ length output
-  pub lengths-long : mostFrames ≤ length lengths
+use Rattle.listing.specs.Inside.{columnRoom, lineRoom}
 
 -- the line of a frame without its bytes, the lines of a call's frames, the line of a flow, of a row, a row with its flows, all rows
 abbrev pub frameRoom : ℕ
@@ -41,13 +30,6 @@ rowsRoom = rowRoom * rows
 -- an entry of a trace
 abbrev pub entryRoom : ℕ
 entryRoom = lineRoom + framesRoom + rowsRoom
-
--- the frames of a call lie in the slices
-pub record Findable (output lengths : List ℕ) (count : ℕ) : Type 0 where
-  pub few : count ≤ mostFrames
-  pub all-short : sumTo (byteAt lengths) count ≤ mostBytes
-  pub lengths-long : mostFrames ≤ length lengths
-  pub output-long : mostBytes ≤ length output
 
 -- no flow of the row holds more than a place has
 abbrev pub HeldFew : Row → Type 0

@@ -8,7 +8,7 @@ use Rattle.octets.specs.Count.{upTo}
 use Rattle.card.specs.Receive.{holdingSize}
 use Rattle.card.specs.History.{Card, Call, Answer, answer, after, answers, afterAll, emptyCard}
 use Rattle.capture.specs.File.{nthEntry}
-use Rattle.listing.specs.Run.{callOf, runOne, begin, standing, answerAt}
+use Rattle.replay.specs.Run.{callOf, runOne, begin, standing, answerAt}
 
 -- calls and then one more
 after-more : (c : Card) (xs : List Call) (x : Call) → afterAll c (xs ++ (x ∷ [])) ≡ after (afterAll c xs) x

@@ -1,8 +1,9 @@
--- How a run stands: its table is never broken, and after an entry its frames lie in the slices, few and short.
+-- How a run stands: its table is never broken, and behind a step the entry's frames lie in the slices, few and short.
 use Prim.Native.Nat.{ℕ, zero, suc, _≤_}
-use mathlib.Core.Path.{_≡_, refl, sym, _∙_}
+use mathlib.Core.Path.{_≡_, refl, sym, ap, subst, _∙_}
 use mathlib.Core.Bool.{Bool, true, false, cond}
 use mathlib.Core.List.{List, []}
+use native.Mathlib.Numerals.{add-one}
 use native.Mathlib.Omega.{arith}
 use lib.Dec.{eqb}
 use Rattle.octets.specs.Bytes.{be32At, byteAt}
@@ -14,12 +15,15 @@ use Rattle.table.specs.Broken.{broken}
 use Rattle.table.proofs.Keeping.{empty-unbroken, opened-keeps, closed-keeps}
 use Rattle.join.specs.Slices.{mostFrames, mostBytes, asSlices}
 use Rattle.card.specs.Receive.{framesFound}
-use Rattle.card.specs.History.{Call, opens, closes, hands, framesOf, answer, after}
+use Rattle.card.specs.History.{Card, Call, opens, closes, hands, framesOf, answer, after}
 use Rattle.card.proofs.Keeping.{received-keeps}
 use Rattle.card.proofs.Step.{none-found}
 use Rattle.card.proofs.Limits.{within-limits, lengths-add-up}
 use Rattle.capture.specs.File.{Entry, openPsp, openDmpt, closing, nthEntry}
-use Rattle.listing.specs.Run.{Running, asks, packetOf, callOf, outputAfter, lengthsAfter, answerTo, runOne, begin, standing, answerAt}
+use Rattle.replay.specs.declared.Walk.{Walk}
+use Rattle.replay.specs.declared.Stepped.{Stepped}
+use Rattle.replay.specs.Run.{Running, asks, packetOf, callOf, outputAfter, lengthsAfter, answerTo, runOne, begin, standing, answerAt}
+use Rattle.replay.specs.Inside.{asRunning, Stands, Steps, Findable}
 
 -- what holds of every call that an entry may stand for holds of the call that it stands for
 either : (P : Call → Type 0) (b : Bool) {x y : Call} → P x → P y → P (cond b x y)
@@ -42,7 +46,7 @@ run-keeps r e whole =
     (λ id. closed-keeps (r .card .table) id whole)
     (received-keeps (r .card .table) (packetOf e) (asSlices (r .card .holding) (r .output) (r .lengths)) whole)
 
-pub never-broken : (file : List ℕ) (k : ℕ) → broken (standing file k .card .table) ≡ false
+never-broken : (file : List ℕ) (k : ℕ) → broken (standing file k .card .table) ≡ false
 unfolding standing begin
 never-broken file zero = empty-unbroken
 never-broken file (suc k) = run-keeps (standing file k) (nthEntry file k) (never-broken file k)
@@ -60,12 +64,12 @@ frames-same r e =
     (λ id. none-either (r .lengths) (r .output) [] [])
     refl
 
-pub frames-of-entry : (file : List ℕ) (k : ℕ) → framesFound (answerAt file k .frames) (standing file (suc k) .lengths) (standing file (suc k) .output) ≡ framesOf (answerAt file k)
+frames-of-entry : (file : List ℕ) (k : ℕ) → framesFound (answerAt file k .frames) (standing file (suc k) .lengths) (standing file (suc k) .output) ≡ framesOf (answerAt file k)
 unfolding standing answerAt
 frames-of-entry file k = frames-same (standing file k) (nthEntry file k)
 
 -- they are few and short
-abbrev pub Short : ℕ → List ℕ → Type 0
+abbrev Short : ℕ → List ℕ → Type 0
 Short count lengths = (count ≤ mostFrames) × (sumTo (byteAt lengths) count ≤ mostBytes)
 
 none-short : (lengths : List ℕ) → Short 0 lengths
@@ -80,3 +84,36 @@ frames-short r e =
     (λ q. none-short (r .lengths))
     (λ id. none-short (r .lengths))
     (few .most-frames, omega (arith, few .most-bytes, lengths-add-up (r .card .table) (packetOf e) s))
+
+-- wherever a walk stands its table is whole
+pub table-whole : {file : List ℕ} {w : Walk} {holding output lengths : List ℕ} → Stands file w holding output lengths → broken (w .table) ≡ false
+table-whole {file} {w} s = ap (λ (r : Running). broken (r .card .table)) (s .its-run) ∙ never-broken file (w .index)
+
+-- Behind a step: the card is the one that the run has there, and the entry's frames are those that are found in the slices.
+module _ {file : List ℕ} {w : Walk} {s : Stepped} {holding output lengths : List ℕ} (stepped : Steps file w s holding output lengths) where
+  run-is : asRunning (s .walk .table) holding output lengths ≡ standing file (suc (w .index))
+  run-is = stepped .stands .its-run ∙ ap (standing file) (stepped .further ∙ add-one (w .index))
+
+  pub card-behind : record { table = s .walk .table; holding = holding } ≡ standing file (suc (w .index)) .card
+  card-behind = ap (λ (r : Running). r .card) run-is
+
+  pub frames-found : framesFound (s .answer .frames) lengths output ≡ framesOf (answerAt file (w .index))
+  frames-found =
+      ap (λ (n : ℕ). framesFound n lengths output) (stepped .its-counts .its-frames)
+      ∙ ap (λ (r : Running). framesFound (answerAt file (w .index) .frames) (r .lengths) (r .output)) run-is
+      ∙ frames-of-entry file (w .index)
+
+  pub frames-findable : Findable output lengths (s .answer .frames)
+  unfolding standing answerAt
+  frames-findable =
+      let short : Short (answerAt file (w .index) .frames) (standing file (suc (w .index)) .lengths) =
+      frames-short (standing file (w .index)) (nthEntry file (w .index)) in
+      let as-found : Short (s .answer .frames) lengths =
+      subst (λ (n : ℕ). Short n lengths) (sym (stepped .its-counts .its-frames))
+      (subst (Short (answerAt file (w .index) .frames)) (sym (ap (λ (r : Running). r .lengths) run-is)) short) in
+      record {
+        few = as-found .0;
+        all-short = as-found .1;
+        lengths-long = omega (arith, stepped .stands .sized .lengths-size);
+        output-long = omega (arith, stepped .stands .sized .output-size);
+      }

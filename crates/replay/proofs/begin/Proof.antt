@@ -1,10 +1,10 @@
--- `listing::begin` stands behind the contents, where the first body starts.
+-- `replay::begin` stands behind the contents, where the first body starts.
 use native.Mathlib.Omega.{arith}
 use mathlib.Core.Path.{refl}
-use Rattle.listing.proofs.Walking.{first-body, count-few, head-inside}
+use Rattle.replay.proofs.Walking.{first-body, count-few, head-inside}
 use borrow.Author.Needs.{needs}
-use Rattle.listing.proofs.begin.Statement.{statement}
-use Rattle.listing.proofs.begin.Tie as tie
+use Rattle.replay.proofs.begin.Statement.{statement}
+use Rattle.replay.proofs.begin.Tie as tie
 
 entry-count-requires : tie.Need-entry-count-requires
 entry-count-requires c κs = head-inside _ (c .before .pre)

@@ -1,7 +1,7 @@
--- `listing::run::transport_of` asks the definition's question.
+-- `replay::run::transport_of` asks the definition's question.
 use borrow.Author.Tests.{eq-eqb, ne-eqb}
-use Rattle.listing.proofs.run.transport_of.Statement.{statement}
-use Rattle.listing.proofs.run.transport_of.Tie as tie
+use Rattle.replay.proofs.run.transport_of.Statement.{statement}
+use Rattle.replay.proofs.run.transport_of.Tie as tie
 
 returns : tie.Need-returns
 returns c = simp (eq-eqb _ _ (c .if1 .taken))

@@ -1,0 +1,4 @@
+pub mod Running
+pub mod Walking
+pub mod Standing
+pub mod Histories
