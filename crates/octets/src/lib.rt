@@ -6,11 +6,17 @@ ghost use lib.ListN.{length};
 ghost use Rattle.octets.specs.Bytes.{be16At, be32At, two, four};
 ghost use Rattle.octets.specs.Stretch.{part, put};
 
-// A byte as a wider number. The contract says its bound, which a sum needs.
-fn wide(byte: u8) -> u16
+// A byte, and a number of two bytes, as numbers to count with. The contracts say their bounds, which a sum needs.
+pub fn wide_u8(byte: u8) -> usize
     ensures { λ r. ⌜ (r ≡ byte) × (r < 256) ⌝ }
 {
-    byte as u16
+    byte as usize
+}
+
+pub fn wide_u16(number: u16) -> usize
+    ensures { λ r. ⌜ (r ≡ number) × (r < 65536) ⌝ }
+{
+    number as usize
 }
 
 // The number in the two bytes from place `at` on.
@@ -18,9 +24,9 @@ pub fn read_u16(bytes: &[u8], at: usize) -> u16
     requires { ⌜ at + 1 < length (now bytes) ⌝ }
     ensures { λ r. ⌜ r ≡ be16At (now (bytes .entry)) at ⌝ }
 {
-    let high = wide(bytes[at]);
-    let low = wide(bytes[at + 1]);
-    high * 256 + low
+    let high = wide_u8(bytes[at]);
+    let low = wide_u8(bytes[at + 1]);
+    (high * 256 + low) as u16
 }
 
 // The number in the four bytes from place `at` on.
