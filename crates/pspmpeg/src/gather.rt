@@ -30,13 +30,6 @@ struct Stage {
     gathered: Gathered,
 }
 
-// A frame's length as a number to count with. The contract says its bound, which a sum needs.
-fn wide(length: u16) -> usize
-    ensures { λ r. ⌜ (r ≡ length) × (r < 65536) ⌝ }
-{
-    length as usize
-}
-
 // Whether an entry is a packet for the session, while the session is open as PSP.
 fn is_for(table: Table, kind: u8, body: &[u8], session: u32) -> bool
     requires { ⌜ broken table ≡ false ⌝ }
@@ -80,7 +73,7 @@ fn append(
     let mut sum: usize = 0;
     let mut i: usize = 0;
     while i < more {
-        let size = wide(lengths[i]);
+        let size = octets::wide_u16(lengths[i]);
         sizes[count + i] = size as u16;
         sum += size;
         i += 1;

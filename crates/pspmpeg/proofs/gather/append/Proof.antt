@@ -18,14 +18,14 @@ abbrev μ-loop : tie.MeasureT-loop
 loop-holds : tie.Need-loop-holds Inv-loop μ-loop
 loop-holds c = append-begin _ _ _ _
 
-mul-wide : tie.Need-mul-wide Inv-loop μ-loop
-mul-wide c = search needs
+mul-wide-u16 : tie.Need-mul-wide-u16 Inv-loop μ-loop
+mul-wide-u16 c = search needs
 
-shared-slice-read-wide : tie.Need-shared-slice-read-wide Inv-loop μ-loop
-shared-slice-read-wide c = omega (arith, c .before .loop-test .taken, c .before .before .before .before .before .before .before .pre .lengths-there)
+shared-slice-read-wide-u16 : tie.Need-shared-slice-read-wide-u16 Inv-loop μ-loop
+shared-slice-read-wide-u16 c = omega (arith, c .before .loop-test .taken, c .before .before .before .before .before .before .before .pre .lengths-there)
 
-wide-requires : tie.Need-wide-requires Inv-loop μ-loop
-wide-requires c κs = search needs
+wide-u16-requires : tie.Need-wide-u16-requires Inv-loop μ-loop
+wide-u16-requires c κs = search needs
 
 cast-sizes : tie.Need-cast-sizes Inv-loop μ-loop
 cast-sizes c = search needs
@@ -52,7 +52,7 @@ add-sum c =
     let turn = tested .before in
     let start = turn .before .before .before .before .before in
     omega
-    (arith, turn .loop .inv .sum-is, c .wide .ensures .0, sum-within (byteAt (start .args .lengths .now)) (turn .loop .i) (start .args .more) (tested .loop-test .taken), start .pre .bytes-there, start .good .0 .0)
+    (arith, turn .loop .inv .sum-is, c .wide-u16 .ensures .0, sum-within (byteAt (start .args .lengths .now)) (turn .loop .i) (start .args .more) (tested .loop-test .taken), start .pre .bytes-there, start .good .0 .0)
 
 add-i : tie.Need-add-i Inv-loop μ-loop
 add-i c = search needs
@@ -65,7 +65,7 @@ loop-again c =
     let tested = c .before .before in
     let turn = tested .before in
     let start = turn .before .before .before .before .before in
-    append-turn (turn .loop .inv) (start .pre .lengths-there) (start .pre .sizes-fit) (tested .loop-test .taken) (c .wide .result) (c .wide .ensures .0)
+    append-turn (turn .loop .inv) (start .pre .lengths-there) (start .pre .sizes-fit) (tested .loop-test .taken) (c .wide-u16 .result) (c .wide-u16 .ensures .0)
     refl
 
 copy-requires : tie.Need-copy-requires Inv-loop μ-loop
@@ -114,9 +114,9 @@ append-spec =
     Inv-loop
     μ-loop
     loop-holds
-    mul-wide
-    shared-slice-read-wide
-    wide-requires
+    mul-wide-u16
+    shared-slice-read-wide-u16
+    wide-u16-requires
     cast-sizes
     add-sizes
     mul-sizes
