@@ -3,7 +3,8 @@
 In README.md, docs/ and the pages of examples/, second/ and bench/, every path in backquotes that begins with a folder of this repository exists, and every
 `file`: `name`, `name` names declarations of that file. Every wrong program and every wrong definition stands in docs/PROMISES.md, and every one named
 there exists; each says after 'promise:' for which promises it stands, and they are those of the rows that name it. README.md shows host/example.c as it
-is. Prints what is wrong and ends with status 1; ends with 0 where nothing is."""
+is. Of the definitions, those that nobody has to believe are called Inside and say so in one and the same sentence, and no others do. Prints what is wrong
+and ends with status 1; ends with 0 where nothing is."""
 import glob
 import os
 import re
@@ -88,7 +89,17 @@ def wrong_example():
         yield "README.md: the example in C is not host/example.c"
 
 
+INSIDE = "-- Inside: what functions promise each other on the way to a result. Nobody has to believe "
+
+
+def wrong_inside():
+    for path in sorted(glob.glob("crates/*/specs/**/*.antt", recursive=True)):
+        text = open(path, encoding="utf-8").read()
+        if ("/specs/Inside" in path) != text.startswith(INSIDE):
+            yield f"{path}: a file of definitions is called Inside where it begins '{INSIDE}..', and nowhere else"
+
+
 documents = ["README.md", *sorted(glob.glob("docs/**/*.md", recursive=True)), "examples/README.md", "second/README.md", "bench/README.md"]
-wrong = [line for document in documents for line in wrong_in(document)] + list(wrong_edits()) + list(wrong_example())
+wrong = [line for document in documents for line in wrong_in(document)] + list(wrong_edits()) + list(wrong_example()) + list(wrong_inside())
 print("\n".join(wrong) or f"{len(documents)} documents name what is there")
 sys.exit(1 if wrong else 0)
