@@ -13,12 +13,13 @@ use Rattle.octets.specs.Stretch.{part, put, joined, lengthsOf, cutBy}
 use Rattle.octets.proofs.Counts.{true-or-false}
 use Rattle.octets.proofs.Stretches.{part-put, length-lengthsOf, cut-joined, total, total-lengthsOf, total-part, part-all}
 use Rattle.text.specs.Text.{Wrote}
-use Rattle.text.proofs.Writing.{wrote-as}
 use Rattle.listing.specs.Listing.{refusedLine}
 use Rattle.mpeg.specs.declared.reader.ReadBack.{ReadBack}
 use Rattle.mpeg.specs.Read.{reading, AskedRead, ReadOutcome, notRead, readBy, read}
 use Rattle.mpeg.specs.Read.{gotBack as got-back}
-use Rattle.mpegframes.specs.Frames.{framesFile, gotBack, mostRead, textRoom}
+use Rattle.frames.specs.Frames.{lengthBytes, framesFile, PermitsPack}
+use Rattle.frames.proofs.Laws.{length-pack}
+use Rattle.mpegframes.specs.Back.{gotBack, mostRead, textRoom}
 use Rattle.mpeg.proofs.Passes.{reading-fits}
 
 -- The call, with rooms for as much as is read: the frames, or 53.
@@ -93,19 +94,29 @@ module _ (packets output lengths : List ℕ) (short : length packets ≤ mostRea
 
       pub pack-asks : (text : List ℕ) → textRoom ≤ length text →
           (sumTo (byteAt (take (r .frames) lengths′)) (length (take (r .frames) lengths′)) ≤ length (take (r .bytes) output′))
-          × (length (take (r .bytes) output′) + 2 * length (take (r .frames) lengths′) ≤ length text)
+          × (length (take (r .bytes) output′) + lengthBytes * length (take (r .frames) lengths′) ≤ length text)
       pack-asks text room =
           rw (front-bytes, front-lengths) (
             omega (arith, sum-is (lengthsOf frames), total-lengthsOf frames),
             omega (arith, length-lengthsOf frames, bytes-fit, frames-fit, room),
           )
 
-      pub pack-gives : {text text′ : List ℕ} {next : ℕ} → Wrote text text′ 0 next (framesFile (cutBy (take (r .frames) lengths′) (take (r .bytes) output′))) →
-          Wrote text text′ 0 next (gotBack packets)
+      written : framesFile (cutBy (take (r .frames) lengths′) (take (r .bytes) output′)) ≡ gotBack packets
       unfolding gotBack
-      pack-gives w =
-          wrote-as
-          (ap (λ (l : List ℕ). framesFile (cutBy l (take (r .bytes) output′))) front-lengths
+      written =
+          ap (λ (l : List ℕ). framesFile (cutBy l (take (r .bytes) output′))) front-lengths
           ∙ ap (λ (l : List ℕ). framesFile (cutBy (lengthsOf frames) l)) (front-bytes ∙ sym (append-nil (joined frames)))
           ∙ ap framesFile (cut-joined frames [])
-          ∙ ap (λ (b : Bool). cond b (framesFile frames) (refusedLine 53)) (sym is-sound)) w
+          ∙ ap (λ (b : Bool). cond b (framesFile frames) (refusedLine 53)) (sym is-sound)
+
+      pub pack-gives : {text text′ : List ℕ} {next : ℕ} → textRoom ≤ length text →
+          PermitsPack (take (r .bytes) output′) (take (r .frames) lengths′) text next text′ → Wrote text text′ 0 next (gotBack packets)
+      unfolding gotBack
+      pack-gives {text} room p =
+          let size : length (gotBack packets) ≡ length (framesFile frames) =
+          ap (λ (b : Bool). length (cond b (framesFile frames) (refusedLine 53))) is-sound in
+          record {
+            there = p .its-file ∙ ap (put text 0) written;
+            next-place = omega (arith, p .its-length, ap length written);
+            inside = omega (arith, size, length-pack frames, bytes-fit, frames-fit, room);
+          }

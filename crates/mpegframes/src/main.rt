@@ -5,12 +5,12 @@
 // last frame is not handed out. Packets that no run of the writer gives come to one line, `refused 53`.
 //
 // A file of more than 65,536 bytes is not read: that is said on standard error, and nothing is written on standard output.
-mod frames;
+mod back;
 
 ghost use mathlib.Core.Path.{_≡_};
 ghost use Prim.Native.Nat.{_+_};
 ghost use lib.ListN.{length};
-ghost use Rattle.mpegframes.specs.Frames.{mostRead, textRoom};
+ghost use Rattle.mpegframes.specs.Back.{mostRead, textRoom};
 use libc::STDERR_FILENO;
 use libc::STDIN_FILENO;
 use libc::STDOUT_FILENO;
@@ -25,25 +25,25 @@ fn too_long() {
 fn main() {
     let mut file = file_room();
     let read = io::read_full(STDIN_FILENO, &mut file);
-    if frames::MOST_READ < read {
+    if back::MOST_READ < read {
         too_long();
         return;
     }
     let mut text = text_room();
-    let length = frames::get_back(&file[..read], &mut text);
+    let length = back::get_back(&file[..read], &mut text);
     io::write_all(STDOUT_FILENO, &text[..length]);
 }
 
 // Rooms of zeros. The contracts say how long they are, which lending one as a slice needs. That for the file has one byte more than is read, so
 // that a longer one is seen to be too long.
-fn file_room() -> [u8; frames::MOST_READ + 1]
+fn file_room() -> [u8; back::MOST_READ + 1]
     ensures { λ r. ⌜ mostRead + 1 ≡ length r ⌝ }
 {
-    [0; frames::MOST_READ + 1]
+    [0; back::MOST_READ + 1]
 }
 
-fn text_room() -> [u8; frames::TEXT_ROOM]
+fn text_room() -> [u8; back::TEXT_ROOM]
     ensures { λ r. ⌜ textRoom ≡ length r ⌝ }
 {
-    [0; frames::TEXT_ROOM]
+    [0; back::TEXT_ROOM]
 }

@@ -1,3 +1,3 @@
-pub mod Unpacking
+pub mod Taking
 pub mod Making
 pub mod Complete

@@ -1,3 +1,3 @@
-pub mod Frames
+pub mod Input
 pub mod Capture
 pub mod Inside

@@ -8,14 +8,14 @@
 // What it cannot do it refuses by one line on standard error, `refused` and document 01's number, and writes nothing on standard output:
 // 31 to 33 and 35 are the sender's (a frames file that is cut short has lengths that do not add up to its bytes, 33; an empty one leaves
 // nothing to send, 35), 41 and 43 a capture's (over 60,000 bytes, over 1,000 entries).
-mod frames;
+mod input;
 mod series;
 
 ghost use mathlib.Core.Path.{_≡_};
 ghost use Prim.Native.Nat.{_+_, _*_, _≤_};
 ghost use lib.ListN.{length};
 ghost use Rattle.capture.specs.File.{headLength, entryLength, longestFile, mostEntries};
-ghost use Rattle.pspsend.specs.Frames.{most};
+ghost use Rattle.pspsend.specs.Input.{most};
 ghost use Rattle.pspsend.specs.Inside.{mostBytes};
 use libc::STDERR_FILENO;
 use libc::STDIN_FILENO;
@@ -71,10 +71,10 @@ fn file_room() -> [u8; FILE_ROOM]
     [0; FILE_ROOM]
 }
 
-fn lengths_room() -> [u16; frames::MOST]
+fn lengths_room() -> [u16; input::MOST]
     ensures { λ r. ⌜ most ≡ length r ⌝ }
 {
-    [0; frames::MOST]
+    [0; input::MOST]
 }
 
 fn contents_room() -> [u8; series::CONTENTS_ROOM]
@@ -95,9 +95,9 @@ fn run(session: u32, flow: usize, number: u16, limit: usize) {
     let read = io::read_full(STDIN_FILENO, &mut file);
     let mut bytes = file_room();
     let mut lengths = lengths_room();
-    let unpacked = frames::unpack(&file[..read], &mut bytes, &mut lengths);
-    let count = unpacked.count;
-    let total = unpacked.bytes;
+    let taken = input::take_frames(&file[..read], &mut bytes, &mut lengths);
+    let count = taken.count;
+    let total = taken.bytes;
     send(
         session,
         flow,

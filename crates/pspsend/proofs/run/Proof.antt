@@ -25,17 +25,17 @@ lengths-room-requires c κs = search needs
 array-share-prefix-file : tie.Need-array-share-prefix-file
 array-share-prefix-file c = search needs
 
-slice-aggregate-unpack : tie.Need-slice-aggregate-unpack
-slice-aggregate-unpack c = search needs
+slice-aggregate-take-frames : tie.Need-slice-aggregate-take-frames
+slice-aggregate-take-frames c = search needs
 
-slice-aggregate-unpack-2 : tie.Need-slice-aggregate-unpack-2
-slice-aggregate-unpack-2 c = search needs
+slice-aggregate-take-frames-2 : tie.Need-slice-aggregate-take-frames-2
+slice-aggregate-take-frames-2 c = search needs
 
-slice-aggregate-unpack-3 : tie.Need-slice-aggregate-unpack-3
-slice-aggregate-unpack-3 c = search needs
+slice-aggregate-take-frames-3 : tie.Need-slice-aggregate-take-frames-3
+slice-aggregate-take-frames-3 c = search needs
 
-unpack-requires : tie.Need-unpack-requires
-unpack-requires c κs = search needs
+take-frames-requires : tie.Need-take-frames-requires
+take-frames-requires c κs = search needs
 
 array-share-prefix-bytes : tie.Need-array-share-prefix-bytes
 array-share-prefix-bytes c = search needs
@@ -50,7 +50,7 @@ slice-aggregate-send-2 : tie.Need-slice-aggregate-send-2
 slice-aggregate-send-2 c = sym (length-take-le _ _ (array-share-prefix-lengths (c .before)))
 
 send-requires : tie.Need-send-requires
-send-requires c κs = let u = c .before .before .before .before .unpack in omega (arith, length-take (u .result .bytes) (u .last .1 .0), u .kept .1 .0, c .before .before .before .before .before .before .before .before .before .file-room2 .ensures)
+send-requires c κs = let u = c .before .before .before .before .take-frames in omega (arith, length-take (u .result .bytes) (u .last .1 .0), u .kept .1 .0, c .before .before .before .before .before .before .before .before .before .file-room2 .ensures)
 
 returns : tie.Need-returns
 returns c = search needs
@@ -65,10 +65,10 @@ run-spec =
     file-room-requires-2
     lengths-room-requires
     array-share-prefix-file
-    slice-aggregate-unpack
-    slice-aggregate-unpack-2
-    slice-aggregate-unpack-3
-    unpack-requires
+    slice-aggregate-take-frames
+    slice-aggregate-take-frames-2
+    slice-aggregate-take-frames-3
+    take-frames-requires
     array-share-prefix-bytes
     slice-aggregate-send
     array-share-prefix-lengths

@@ -1,12 +1,12 @@
--- `mpegframes::frames::get_back` is right by its two ways out: the packets are refused, or the frames that they bring back are packed.
+-- `mpegframes::back::get_back` is right by its two ways out: the packets are refused, or the frames that they bring back are packed.
 use mathlib.Core.Path.{sym}
 use native.Mathlib.Omega.{arith}
 use lib.Seq.{length-take-le}
 use Rattle.text.proofs.Writing.{wrote-as}
 use Rattle.mpegframes.proofs.Enough.{bytes-fit, frames-fit, back-refused, bytes-are, count-is, pack-asks, pack-gives}
 use borrow.Author.Needs.{needs}
-use Rattle.mpegframes.proofs.frames.get_back.Statement.{statement}
-use Rattle.mpegframes.proofs.frames.get_back.Tie as tie
+use Rattle.mpegframes.proofs.back.get_back.Statement.{statement}
+use Rattle.mpegframes.proofs.back.get_back.Tie as tie
 
 output-room-requires : tie.Need-output-room-requires
 output-room-requires c κs = search needs
@@ -104,7 +104,7 @@ returns-2 c =
     let start = with-output .before .before .before in
     pack-gives (start .args .packets .now) (with-output .output-room .result) (with-lengths .lengths-room .result) (start .pre .0)
     (sym (with-output .output-room .ensures)) (sym (with-lengths .lengths-room .ensures)) (read-back .read .result) (read-back .read .last .1 .0)
-    (read-back .read .last .1 .1 .0) (read-back .read .ensures) (first-if .if1 .left) (packed-up .pack .ensures)
+    (read-back .read .last .1 .1 .0) (read-back .read .ensures) (first-if .if1 .left) (start .pre .1) (packed-up .pack .ensures)
 
 pub get-back-spec : {M : Type 1} → statement M
 get-back-spec =

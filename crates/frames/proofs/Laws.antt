@@ -1,0 +1,147 @@
+-- The laws of the frames file: reading undoes writing, writing undoes reading, and how long each is.
+use Prim.Native.Nat.{ℕ, zero, suc, _+_, _*_, _<_, _≤_}
+use mathlib.Core.Path.{_≡_, refl, sym, ap, _∙_}
+use mathlib.Core.Bool.{Bool, true, false, cond, _&&_, true≢false}
+use mathlib.Core.List.{List, [], _∷_, _++_, map, append-nil, append-assoc}
+use native.Mathlib.Omega.{arith}
+use native.Mathlib.Nat.{not-suc-le-zero, le-of-suc-le-suc}
+use lib.Dec.{leb}
+use lib.ListN.{length, drop, length-append, take-append-drop}
+use lib.Seq.{drop-at}
+use borrow.Author.Tests.{leb-true, le-leb}
+use Rattle.octets.specs.Bytes.{byteAt, be16At, two, AllBytes}
+use Rattle.octets.specs.Each.{Each}
+use Rattle.octets.specs.Stretch.{part, rest, joined}
+use Rattle.octets.proofs.Numbers.{two-reads-back, two-read}
+use Rattle.octets.proofs.Stretches.{length-part, part-between, part-part-front, length-rest, byte-rest}
+use Rattle.frames.specs.Frames.{lengthBytes, packed, framesFile, standsWhole, frontFrame, behindFront, wholeFrames, leftBehind}
+
+-- what a whole frame at the front says of lengths
+pub stands-long : (file : List ℕ) → standsWhole file ≡ true → (lengthBytes ≤ length file) × (lengthBytes + be16At file 0 ≤ length file)
+stands-long file stands = by (leb lengthBytes (length file)) refl
+  where
+    all : Bool
+    all = leb (lengthBytes + be16At file 0) (length file)
+
+    by : (t : Bool) → leb lengthBytes (length file) ≡ t → (lengthBytes ≤ length file) × (lengthBytes + be16At file 0 ≤ length file)
+    by true e =
+        (leb-true lengthBytes (length file) e, leb-true (lengthBytes + be16At file 0) (length file) (sym (ap (λ (t : Bool). t && all) e) ∙ stands))
+    by false e = absurd (true≢false (sym stands ∙ ap (λ (t : Bool). t && all) e))
+
+-- A frame that was written stands whole at the front, and behind it what was written behind it.
+abbrev pub Sayable : List ℕ → Type 0
+Sayable f = length f < 65536
+
+module _ (f behind : List ℕ) (short : Sayable f) where
+  abbrev file : List ℕ
+  file = packed f ++ behind
+
+  says : be16At file 0 ≡ length f
+  says = two-reads-back (length f) short
+
+  long : length file ≡ lengthBytes + length f + length behind
+  long = let a = length-append f behind in omega arith
+
+  whole-there : standsWhole file ≡ true
+  whole-there =
+      rw (le-leb lengthBytes (length file) (omega (arith, long)), says) (le-leb (lengthBytes + length f) (length file) (omega (arith, long)))
+
+  front-there : frontFrame file ≡ f
+  front-there = ap (part file lengthBytes) says ∙ part-between (two (length f)) f behind
+
+  behind-there : behindFront file ≡ behind
+  unfolding rest
+  behind-there =
+      ap (λ (n : ℕ). drop (lengthBytes + n) file) says ∙ drop-at (two (length f) ++ f) behind (lengthBytes + length f) (omega arith)
+
+-- Reading back what was written gives the frames, and leaves nothing.
+pub unpack-pack : (n : ℕ) (fs : List (List ℕ)) → Each Sayable fs → length fs ≤ n →
+    (wholeFrames n (framesFile fs) ≡ fs) × (leftBehind n (framesFile fs) ≡ [])
+unfolding wholeFrames leftBehind framesFile joined
+unpack-pack zero [] s l = (refl, refl)
+unpack-pack zero (f ∷ fs) s l = absurd (not-suc-le-zero l)
+unpack-pack (suc n) [] s l = (refl, refl)
+unpack-pack (suc n) (f ∷ fs) s l =
+    let r = unpack-pack n fs (s .1) (le-of-suc-le-suc l) in
+    let behind = joined (map packed fs) in (
+      rw (whole-there f behind (s .0), front-there f behind (s .0), behind-there f behind (s .0)) (ap (λ (x : List (List ℕ)). f ∷ x) (r .0)),
+      rw (whole-there f behind (s .0), behind-there f behind (s .0)) (r .1),
+    )
+
+-- A whole frame at the front, written again, and what stands behind it are the file.
+packed-front : (file : List ℕ) → AllBytes file → standsWhole file ≡ true → packed (frontFrame file) ++ behindFront file ≡ file
+unfolding part rest
+packed-front file bytes stands =
+    let size = be16At file 0 in
+    let there = stands-long file stands in
+    let long : length (frontFrame file) ≡ size = length-part file lengthBytes size (there .1) in
+    let said : two (length (frontFrame file)) ≡ part file 0 lengthBytes = ap two long ∙ two-read file 0 bytes (there .0) in
+    ap (λ (head : List ℕ). head ++ frontFrame file ++ behindFront file) said
+    ∙ ap (λ (front : List ℕ). front ++ behindFront file) (part-part-front file lengthBytes size)
+    ∙ take-append-drop (lengthBytes + size) file
+
+bytes-rest : (l : List ℕ) (from : ℕ) → AllBytes l → AllBytes (rest l from)
+bytes-rest l from bytes i = rw (byte-rest l from i) (bytes (from + i))
+
+-- Writing what was read, with what is left behind it, gives the file.
+pub pack-unpack-left : (n : ℕ) (file : List ℕ) → AllBytes file → framesFile (wholeFrames n file) ++ leftBehind n file ≡ file
+unfolding framesFile wholeFrames leftBehind joined
+pack-unpack-left zero file bytes = refl
+pack-unpack-left (suc n) file bytes =
+    by (standsWhole file) refl (pack-unpack-left n (behindFront file) (bytes-rest file (lengthBytes + be16At file 0) bytes))
+  where
+    next : List ℕ
+    next = behindFront file
+
+    by : (t : Bool) → standsWhole file ≡ t → framesFile (wholeFrames n next) ++ leftBehind n next ≡ next →
+        framesFile (wholeFrames (suc n) file) ++ leftBehind (suc n) file ≡ file
+    by true e more =
+        rw e
+        (append-assoc (packed (frontFrame file)) (framesFile (wholeFrames n next)) (leftBehind n next)
+        ∙ ap (λ (x : List ℕ). packed (frontFrame file) ++ x) more
+        ∙ packed-front file bytes e)
+    by false e more = rw e refl
+
+-- So a file of bytes that leaves nothing behind is what writing its frames gives.
+pub pack-unpack : (n : ℕ) (file : List ℕ) → AllBytes file → leftBehind n file ≡ [] → framesFile (wholeFrames n file) ≡ file
+pack-unpack n file bytes none =
+    sym (append-nil (framesFile (wholeFrames n file)))
+    ∙ ap (λ (behind : List ℕ). framesFile (wholeFrames n file) ++ behind) (sym none)
+    ∙ pack-unpack-left n file bytes
+
+-- How long a file is, and how much is read from one.
+pub length-pack : (fs : List (List ℕ)) → length (framesFile fs) ≡ length (joined fs) + lengthBytes * length fs
+unfolding framesFile joined
+length-pack [] = refl
+length-pack (f ∷ fs) =
+    omega (arith, length-pack fs, length-append (packed f) (framesFile fs), length-append f (joined fs))
+
+pub length-unpack : (n : ℕ) (file : List ℕ) →
+    length (joined (wholeFrames n file)) + lengthBytes * length (wholeFrames n file) + length (leftBehind n file) ≡ length file
+unfolding wholeFrames leftBehind joined
+length-unpack zero file = omega arith
+length-unpack (suc n) file = by (standsWhole file) refl (length-unpack n (behindFront file))
+  where
+    next : List ℕ
+    next = behindFront file
+
+    by : (t : Bool) → standsWhole file ≡ t →
+        length (joined (wholeFrames n next)) + lengthBytes * length (wholeFrames n next) + length (leftBehind n next) ≡ length next →
+        length (joined (wholeFrames (suc n) file)) + lengthBytes * length (wholeFrames (suc n) file) + length (leftBehind (suc n) file) ≡ length file
+    by true e more =
+        let size = be16At file 0 in
+        let there = stands-long file e in
+        let long = length-part file lengthBytes size (there .1) in
+        let left = length-rest file (lengthBytes + size) in
+        let all = length-append (frontFrame file) (joined (wholeFrames n next)) in
+        rw e (omega (arith, more, long, left, all, there .1))
+    by false e more = rw e (omega arith)
+
+pub unpack-few : (n : ℕ) (file : List ℕ) → length (wholeFrames n file) ≤ n
+unfolding wholeFrames
+unpack-few zero file = omega arith
+unpack-few (suc n) file = by (standsWhole file) refl (unpack-few n (behindFront file))
+  where
+    by : (t : Bool) → standsWhole file ≡ t → length (wholeFrames n (behindFront file)) ≤ n → length (wholeFrames (suc n) file) ≤ suc n
+    by true e more = rw e (omega (arith, more))
+    by false e more = rw e (omega arith)

@@ -1,0 +1,4 @@
+pub mod Laws
+pub mod Unpacking
+pub mod Packing
+pub mod Examples
