@@ -25,7 +25,10 @@ pub some-read : (wholeFrames 1 file ≡ (0xA0 ∷ 0xA1 ∷ []) ∷ []) × (leftB
 unfolding wholeFrames leftBehind part rest
 some-read = (refl, refl)
 
-pub cut-short : (wholeFrames 3 (0 ∷ 1 ∷ 0xC0 ∷ 0 ∷ 2 ∷ 0xA0 ∷ []) ≡ (0xC0 ∷ []) ∷ []) × (leftBehind 3 (0 ∷ 1 ∷ 0xC0 ∷ 0 ∷ 2 ∷ 0xA0 ∷ []) ≡ 0 ∷ 2 ∷ 0xA0 ∷ [])
+abbrev cut : List ℕ
+cut = 0 ∷ 1 ∷ 0xC0 ∷ 0 ∷ 2 ∷ 0xA0 ∷ []
+
+pub cut-short : (wholeFrames 3 cut ≡ (0xC0 ∷ []) ∷ []) × (leftBehind 3 cut ≡ 0 ∷ 2 ∷ 0xA0 ∷ [])
 unfolding wholeFrames leftBehind part rest
 cut-short = (refl, refl)
 

@@ -25,7 +25,8 @@ stands-long file stands = by (leb lengthBytes (length file)) refl
 
     by : (t : Bool) → leb lengthBytes (length file) ≡ t → (lengthBytes ≤ length file) × (lengthBytes + be16At file 0 ≤ length file)
     by true e =
-        (leb-true lengthBytes (length file) e, leb-true (lengthBytes + be16At file 0) (length file) (sym (ap (λ (t : Bool). t && all) e) ∙ stands))
+        let all-there : all ≡ true = sym (ap (λ (t : Bool). t && all) e) ∙ stands in
+        (leb-true lengthBytes (length file) e, leb-true (lengthBytes + be16At file 0) (length file) all-there)
     by false e = absurd (true≢false (sym stands ∙ ap (λ (t : Bool). t && all) e))
 
 -- A frame that was written stands whole at the front, and behind it what was written behind it.
@@ -44,7 +45,8 @@ module _ (f behind : List ℕ) (short : Sayable f) where
 
   whole-there : standsWhole file ≡ true
   whole-there =
-      rw (le-leb lengthBytes (length file) (omega (arith, long)), says) (le-leb (lengthBytes + length f) (length file) (omega (arith, long)))
+      rw (le-leb lengthBytes (length file) (omega (arith, long)), says)
+      (le-leb (lengthBytes + length f) (length file) (omega (arith, long)))
 
   front-there : frontFrame file ≡ f
   front-there = ap (part file lengthBytes) says ∙ part-between (two (length f)) f behind
@@ -64,7 +66,8 @@ unpack-pack (suc n) [] s l = (refl, refl)
 unpack-pack (suc n) (f ∷ fs) s l =
     let r = unpack-pack n fs (s .1) (le-of-suc-le-suc l) in
     let behind = joined (map packed fs) in (
-      rw (whole-there f behind (s .0), front-there f behind (s .0), behind-there f behind (s .0)) (ap (λ (x : List (List ℕ)). f ∷ x) (r .0)),
+      rw (whole-there f behind (s .0), front-there f behind (s .0), behind-there f behind (s .0))
+          (ap (λ (x : List (List ℕ)). f ∷ x) (r .0)),
       rw (whole-there f behind (s .0), behind-there f behind (s .0)) (r .1),
     )
 
@@ -116,8 +119,10 @@ length-pack [] = refl
 length-pack (f ∷ fs) =
     omega (arith, length-pack fs, length-append (packed f) (framesFile fs), length-append f (joined fs))
 
-pub length-unpack : (n : ℕ) (file : List ℕ) →
-    length (joined (wholeFrames n file)) + lengthBytes * length (wholeFrames n file) + length (leftBehind n file) ≡ length file
+abbrev allRead : ℕ → List ℕ → ℕ
+allRead n file = length (joined (wholeFrames n file)) + lengthBytes * length (wholeFrames n file) + length (leftBehind n file)
+
+pub length-unpack : (n : ℕ) (file : List ℕ) → allRead n file ≡ length file
 unfolding wholeFrames leftBehind joined
 length-unpack zero file = omega arith
 length-unpack (suc n) file = by (standsWhole file) refl (length-unpack n (behindFront file))
@@ -125,9 +130,7 @@ length-unpack (suc n) file = by (standsWhole file) refl (length-unpack n (behind
     next : List ℕ
     next = behindFront file
 
-    by : (t : Bool) → standsWhole file ≡ t →
-        length (joined (wholeFrames n next)) + lengthBytes * length (wholeFrames n next) + length (leftBehind n next) ≡ length next →
-        length (joined (wholeFrames (suc n) file)) + lengthBytes * length (wholeFrames (suc n) file) + length (leftBehind (suc n) file) ≡ length file
+    by : (t : Bool) → standsWhole file ≡ t → allRead n next ≡ length next → allRead (suc n) file ≡ length file
     by true e more =
         let size = be16At file 0 in
         let there = stands-long file e in

@@ -8,7 +8,8 @@ use Rattle.octets.specs.Bytes.{byteAt, two}
 use Rattle.octets.specs.Count.{sumTo}
 use Rattle.octets.specs.Stretch.{part, put, joined, cutBy}
 use Rattle.octets.proofs.Counts.{sum-none, sum-more, sum-within, sum-below}
-use Rattle.octets.proofs.Stretches.{length-part, length-put, put-nil, put-put, put-put-front, part-none, part-all, part-more, joined-map-more, cut-more, total, total-part}
+use Rattle.octets.proofs.Stretches.{length-part, length-put, put-nil, put-put, put-put-front, part-none, part-all, part-more}
+use Rattle.octets.proofs.Stretches.{joined-map-more, cut-more, total, total-part}
 use Rattle.frames.specs.Frames.{lengthBytes, packed, framesFile, PermitsPack}
 
 -- the file of the first k frames
@@ -35,7 +36,8 @@ pack-begin file bytes lengths =
     }
 
 module _ {file₀ file bytes lengths : List ℕ} {from at k : ℕ} (p : Packing file₀ file bytes lengths from at k)
-    (enough : sumTo (byteAt lengths) (length lengths) ≤ length bytes) (room : length bytes + lengthBytes * length lengths ≤ length file₀) where
+    (enough : sumTo (byteAt lengths) (length lengths) ≤ length bytes)
+    (room : length bytes + lengthBytes * length lengths ≤ length file₀) where
   inside : at ≤ length file₀
   inside = omega (arith, p .at-is, p .from-is, sum-below (byteAt lengths) k (length lengths) (p .within), p .within, enough, room)
 

@@ -1,5 +1,5 @@
--- How a frames file is taken apart: after each turn the frames so far stand at the front of the slices, and the rest of the file is still to
--- be read (`Unpacking`, the loop's invariant).
+-- How a frames file is taken apart: after each turn the frames so far stand at the front of the slices, and the rest of the file is still
+-- to be read (`Unpacking`, the loop's invariant).
 use Prim.Native.Nat.{ℕ, zero, suc, _+_, _-_, _<_, _≤_}
 use mathlib.Core.Path.{_≡_, refl, sym, ap, _∙_}
 use mathlib.Core.Bool.{Bool, true, false, cond, _&&_}
@@ -12,7 +12,8 @@ use lib.Seq.{drop-drop}
 use borrow.Author.Tests.{leb-true, leb-false, ltb-true, ltb-false, lt-leb, le-leb}
 use Rattle.octets.specs.Bytes.{byteAt, be16At}
 use Rattle.octets.specs.Stretch.{part, rest, put, joined, lengthsOf}
-use Rattle.octets.proofs.Stretches.{length-part, length-rest, byte-rest, part-rest, length-put, put-nil, put-put-front, set-put, joined-one-more, lengthsOf-append, length-lengthsOf}
+use Rattle.octets.proofs.Stretches.{length-part, length-rest, byte-rest, part-rest, length-put, put-nil, put-put-front, set-put}
+use Rattle.octets.proofs.Stretches.{joined-one-more, lengthsOf-append, length-lengthsOf}
 use Rattle.frames.specs.declared.Unpacked.{Unpacked}
 use Rattle.frames.specs.Frames.{lengthBytes, standsWhole, frontFrame, behindFront, wholeFrames, leftBehind, PermitsUnpack}
 use Rattle.frames.proofs.Laws.{stands-long}
@@ -87,8 +88,8 @@ unpack-begin file bytes lengths =
       short = omega arith;
     }
 
-module _ {file bytes₀ lengths₀ bytes lengths : List ℕ} {count total at : ℕ} (u : Unpacking file bytes₀ lengths₀ bytes lengths count total at)
-    (bytes-long : length file ≤ length bytes₀) where
+module _ {file bytes₀ lengths₀ bytes lengths : List ℕ} {count total at : ℕ}
+    (u : Unpacking file bytes₀ lengths₀ bytes lengths count total at) (bytes-long : length file ≤ length bytes₀) where
   abbrev most : ℕ
   most = length lengths₀
 
@@ -97,7 +98,8 @@ module _ {file bytes₀ lengths₀ bytes lengths : List ℕ} {count total at : �
 
   pub lengths-same : length lengths ≡ length lengths₀
   lengths-same =
-      ap length (u .lengths-now) ∙ length-put lengths₀ 0 (lengthsOf (u .taken)) (omega (arith, length-lengthsOf (u .taken), u .counted, u .few))
+      ap length (u .lengths-now)
+      ∙ length-put lengths₀ 0 (lengthsOf (u .taken)) (omega (arith, length-lengthsOf (u .taken), u .counted, u .few))
 
   -- one frame more
   module _ (room : count < length lengths) (stands : standsWhole (rest file at) ≡ true) where

@@ -51,14 +51,14 @@ unfoldable pub leftBehind : ℕ → List ℕ → List ℕ
 leftBehind zero file = file
 leftBehind (suc n) file = cond (standsWhole file) (leftBehind n (behindFront file)) file
 
--- What writing permits, whole: of frames that are lent back to back with their lengths, the file stands at the front of the slice for it, and its
--- length is answered.
+-- What writing permits, whole: of frames that are lent back to back with their lengths, the file stands at the front of the slice for it,
+-- and its length is answered.
 pub record PermitsPack (bytes lengths file : List ℕ) (r : ℕ) (file′ : List ℕ) : Type 0 where
   pub its-length : r ≡ length (framesFile (cutBy lengths bytes))
   pub its-file : file′ ≡ put file 0 (framesFile (cutBy lengths bytes))
 
--- What reading permits, whole: as many frames are read as there are lengths lent, or fewer; their bytes and their lengths stand at the front of the two
--- slices.
+-- What reading permits, whole: as many frames are read as there are lengths lent, or fewer; their bytes and their lengths stand at the front
+-- of the two slices.
 pub record PermitsUnpack (file bytes lengths : List ℕ) (r : Unpacked) (bytes′ lengths′ : List ℕ) : Type 0 where
   pub its-count : r .count ≡ length (wholeFrames (length lengths) file)
   pub its-size : r .bytes ≡ length (joined (wholeFrames (length lengths) file))

@@ -1,5 +1,5 @@
-// A frames file: for each frame its length, in two bytes, most significant first, and then its bytes. Here frames are written as such a file, and read
-// from one.
+// A frames file: for each frame its length, in two bytes, most significant first, and then its bytes. Here frames are written as such a
+// file, and read from one.
 ghost use mathlib.Core.Path.{_≡_};
 ghost use Prim.Native.Nat.{_+_, _*_, _≤_};
 ghost use lib.ListN.{length};
@@ -54,7 +54,8 @@ fn stands_whole(file: &[u8], at: usize) -> bool
 // Takes the frames apart into their bytes, back to back, and their lengths: at most as many as there are lengths lent.
 pub fn unpack(file: &[u8], bytes: &mut [u8], lengths: &mut [u16]) -> Unpacked
     requires { ⌜ length (now file) ≤ length (now bytes) ⌝ }
-    ensures { λ r. ⌜ PermitsUnpack (now (file .entry)) (now (bytes .entry)) (now (lengths .entry)) r (now (bytes .exit)) (now (lengths .exit)) ⌝ }
+    ensures { λ r. ⌜ PermitsUnpack (now (file .entry)) (now (bytes .entry)) (now (lengths .entry)) r
+        (now (bytes .exit)) (now (lengths .exit)) ⌝ }
 {
     let mut count: usize = 0;
     let mut total: usize = 0;

@@ -1,8 +1,8 @@
 // mpegframes < FILE.ts > FRAMES
 //
-// Gets the frames back from MPEG packets that a writer wrote from a frame's start on, as a modem does (W3), and writes them as a frames file: for each
-// frame its length, in two bytes, most significant first, and then its bytes. `pspsend` takes such files. Null packets are skipped, and an unfinished
-// last frame is not handed out. Packets that no run of the writer gives come to one line, `refused 53`.
+// Gets the frames back from MPEG packets that a writer wrote from a frame's start on, as a modem does (W3), and writes them as a frames
+// file: for each frame its length, in two bytes, most significant first, and then its bytes. `pspsend` takes such files. Null packets are
+// skipped, and an unfinished last frame is not handed out. Packets that no run of the writer gives come to one line, `refused 53`.
 //
 // A file of more than 65,536 bytes is not read: that is said on standard error, and nothing is written on standard output.
 mod back;
@@ -34,8 +34,8 @@ fn main() {
     io::write_all(STDOUT_FILENO, &text[..length]);
 }
 
-// Rooms of zeros. The contracts say how long they are, which lending one as a slice needs. That for the file has one byte more than is read, so
-// that a longer one is seen to be too long.
+// Rooms of zeros. The contracts say how long they are, which lending one as a slice needs. That for the file has one byte more than is
+// read, so that a longer one is seen to be too long.
 fn file_room() -> [u8; back::MOST_READ + 1]
     ensures { λ r. ⌜ mostRead + 1 ≡ length r ⌝ }
 {

@@ -1,4 +1,5 @@
--- What pspsend makes of the frames that were read from a file; and that the file of frames that can be sent is not spoilt, and brings these frames.
+-- What pspsend makes of the frames that were read from a file; and that the file of frames that can be sent is not spoilt, and brings these
+-- frames.
 use Prim.Native.Nat.{ℕ, _≤_}
 use mathlib.Core.Path.{_≡_, refl, sym, ap, _∙_}
 use mathlib.Core.Bool.{Bool, true, false, _&&_, true≢false}
@@ -14,8 +15,8 @@ use Rattle.frames.specs.Frames.{framesFile, wholeFrames, leftBehind, PermitsUnp
 use Rattle.frames.proofs.Laws.{Sayable, unpack-pack, length-unpack, unpack-few}
 use Rattle.pspsend.specs.Input.{most, framesIn, spoilt, Takes}
 
-module _ (file bytes₀ lengths₀ bytes lengths : List ℕ) (r : Unpacked) (bytes-long : length file ≤ length bytes₀) (as-many : most ≡ length lengths₀)
-    (unpacked : PermitsUnpack file bytes₀ lengths₀ r bytes lengths) where
+module _ (file bytes₀ lengths₀ bytes lengths : List ℕ) (r : Unpacked) (bytes-long : length file ≤ length bytes₀)
+    (as-many : most ≡ length lengths₀) (unpacked : PermitsUnpack file bytes₀ lengths₀ r bytes lengths) where
   abbrev frames : List (List ℕ)
   frames = framesIn file
 
@@ -46,7 +47,8 @@ module _ (file bytes₀ lengths₀ bytes lengths : List ℕ) (r : Unpacked) (byt
         short = omega arith;
       }
 
-  pub take-whole : (ltb (r .count) most && ltb 0 (r .left)) ≡ false → Takes file bytes lengths (record { count = r .count; bytes = r .bytes })
+  pub take-whole : (ltb (r .count) most && ltb 0 (r .left)) ≡ false →
+      Takes file bytes lengths (record { count = r .count; bytes = r .bytes })
   take-whole e =
       let L = lengthsOf frames in
       let many = length-lengthsOf frames in
@@ -64,7 +66,8 @@ module _ (file bytes₀ lengths₀ bytes lengths : List ℕ) (r : Unpacked) (byt
       }
 
 -- The file of frames reads back as these frames, and is not spoilt.
-pub frames-file-unpacks : (fs : List (List ℕ)) → Each Sayable fs → length fs ≤ most → (framesIn (framesFile fs) ≡ fs) × (spoilt (framesFile fs) ≡ false)
+pub frames-file-unpacks : (fs : List (List ℕ)) → Each Sayable fs → length fs ≤ most →
+    (framesIn (framesFile fs) ≡ fs) × (spoilt (framesFile fs) ≡ false)
 frames-file-unpacks fs s l =
     let r = unpack-pack most fs s l in
     let fewer = ltb (length (framesIn (framesFile fs))) most in

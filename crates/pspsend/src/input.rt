@@ -1,4 +1,5 @@
-// What a frames file brings to send. One that does not end with a whole frame is to be refused by 33, and so it is handed on as bytes without a length.
+// What a frames file brings to send. One that does not end with a whole frame is to be refused by 33, and so it is handed on as bytes
+// without a length.
 ghost use mathlib.Core.Path.{_≡_};
 ghost use Prim.Native.Nat.{_≤_};
 ghost use lib.ListN.{length};
@@ -13,8 +14,8 @@ pub struct Taken {
     pub bytes: usize,
 }
 
-// Takes the frames apart into their bytes, back to back, and their lengths. Of a file that does not end with a whole frame it answers all its
-// bytes and no length, and a send refuses them by 33: the lengths do not add up to the bytes.
+// Takes the frames apart into their bytes, back to back, and their lengths. Of a file that does not end with a whole frame it answers all
+// its bytes and no length, and a send refuses them by 33: the lengths do not add up to the bytes.
 pub fn take_frames(file: &[u8], bytes: &mut [u8], lengths: &mut [u16]) -> Taken
     requires { ⌜ (length (now file) ≤ length (now bytes)) × (most ≡ length (now lengths)) ⌝ }
     ensures { λ r. ⌜ Takes (now (file .entry)) (now (bytes .exit)) (now (lengths .exit)) r ⌝ }

@@ -1,8 +1,8 @@
 // pspsend SESSION FLOW NUMBER L < FRAMES > CAPTURE
 //
 // Makes a capture for a person: reads frames on standard input, sends them by `sender::send` again and again, and writes a capture file
-// with one entry that opens the session as PSP and a data entry for each packet. SESSION is the session ID, FLOW the flow, NUMBER the first
-// sequence number and L the limit on everything behind the session ID, all in decimal. A frames file has for each frame its length, in two
+// with one entry that opens the session as PSP and a data entry for each packet. SESSION is the session ID, FLOW the flow, NUMBER the
+// first sequence number and L the limit on everything behind the session ID, all in decimal. A frames file has for each frame its length, in two
 // bytes, most significant first, and then its bytes.
 //
 // What it cannot do it refuses by one line on standard error, `refused` and document 01's number, and writes nothing on standard output:

@@ -104,8 +104,8 @@ loop-again : tie.Need-loop-again Inv-loop μ-loop
 loop-again c =
     let z = sized (said c) in
     let l = loop z in
-    pack-turn (l .loop .inv) (start l .pre .0) (start l .pre .1) (z .before .before .loop-test .taken) (z .wide-u16 .result) (z .wide-u16 .ensures .0) _ _
-    (said c .before .before .write-u16 .ensures) (c .before .before .copy .ensures)
+    pack-turn (l .loop .inv) (start l .pre .0) (start l .pre .1) (z .before .before .loop-test .taken) (z .wide-u16 .result)
+    (z .wide-u16 .ensures .0) _ _ (said c .before .before .write-u16 .ensures) (c .before .before .copy .ensures)
 
 same-length : tie.Need-same-length Inv-loop μ-loop
 same-length c = let l = c .before in file-same (l .loop .inv) (start l .pre .0) (start l .pre .1)

@@ -21,7 +21,8 @@ wide-u16-requires c κs = search needs
 returns-2 : tie.Need-returns-2
 returns-2 c =
     let s = c .before .before .before .before in
-    stands-if (s .args .file .now) (s .args .at) (s .pre) (omega (arith, c .before .before .if1 .left)) (c .wide-u16 .result) (c .wide-u16 .ensures .0 ∙ c .before .read-u16 .ensures)
+    stands-if (s .args .file .now) (s .args .at) (s .pre) (omega (arith, c .before .before .if1 .left)) (c .wide-u16 .result)
+    (c .wide-u16 .ensures .0 ∙ c .before .read-u16 .ensures)
 
 pub stands-whole-spec : {M : Type 1} → statement M
 stands-whole-spec = tie.close (tie.spec sub-left returns read-u16-requires wide-u16-requires returns-2)

@@ -9,7 +9,8 @@ use borrow.Author.Tests.{ltb-true}
 use Rattle.octets.specs.Bytes.{be16At}
 use Rattle.octets.specs.Stretch.{rest}
 use Rattle.frames.specs.Frames.{lengthBytes, standsWhole}
-use Rattle.frames.proofs.Unpacking.{Unpacking, unpack-begin, bytes-same, lengths-same, length-there, frame-there, unpack-turn, unpack-end}
+use Rattle.frames.proofs.Unpacking.{Unpacking, unpack-begin, bytes-same, lengths-same, unpack-turn, unpack-end}
+use Rattle.frames.proofs.Unpacking.{length-there, frame-there}
 use borrow.Author.Needs.{needs}
 use Rattle.frames.proofs.unpack.Statement.{statement}
 use Rattle.frames.proofs.unpack.Tie as tie
@@ -78,7 +79,8 @@ module _ (z : Sized) where
   size = z .wide-u16 .ensures .0 ∙ z .before .read-u16 .ensures
 
   frame-inside : there .loop .at + lengthBytes + z .wide-u16 .result ≤ length (start there .args .file .now)
-  frame-inside = omega (arith, size, frame-there (start there .args .file .now) (there .loop .at) (there .loop .inv .inside) (stands (turn z)))
+  frame-inside =
+      omega (arith, size, frame-there (start there .args .file .now) (there .loop .at) (there .loop .inv .inside) (stands (turn z)))
 
 loop-holds : tie.Need-loop-holds Inv-loop μ-loop
 loop-holds c = unpack-begin _ _ _
@@ -132,7 +134,8 @@ loop-again : tie.Need-loop-again Inv-loop μ-loop
 loop-again c =
     let z = sized c in
     let l = loop (turn z) in
-    unpack-turn (l .loop .inv) (start l .pre) (room (turn z)) (stands (turn z)) (z .wide-u16 .result) _ _ (size z) (c .before .before .copy .ensures) refl
+    unpack-turn (l .loop .inv) (start l .pre) (room (turn z)) (stands (turn z)) (z .wide-u16 .result) _ _ (size z)
+    (c .before .before .copy .ensures) refl
 
 sub-t19 : tie.Need-sub-t19 Inv-loop μ-loop
 sub-t19 c = left c .loop .inv .inside

@@ -50,7 +50,11 @@ slice-aggregate-send-2 : tie.Need-slice-aggregate-send-2
 slice-aggregate-send-2 c = sym (length-take-le _ _ (array-share-prefix-lengths (c .before)))
 
 send-requires : tie.Need-send-requires
-send-requires c κs = let u = c .before .before .before .before .take-frames in omega (arith, length-take (u .result .bytes) (u .last .1 .0), u .kept .1 .0, c .before .before .before .before .before .before .before .before .before .file-room2 .ensures)
+send-requires c κs =
+    let taken = c .before .before .before .before in
+    let with-bytes = taken .before .before .before .before .before in
+    let u = taken .take-frames in
+    omega (arith, length-take (u .result .bytes) (u .last .1 .0), u .kept .1 .0, with-bytes .file-room2 .ensures)
 
 returns : tie.Need-returns
 returns c = search needs

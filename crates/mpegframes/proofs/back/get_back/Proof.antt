@@ -3,10 +3,42 @@ use mathlib.Core.Path.{sym}
 use native.Mathlib.Omega.{arith}
 use lib.Seq.{length-take-le}
 use Rattle.text.proofs.Writing.{wrote-as}
-use Rattle.mpegframes.proofs.Enough.{bytes-fit, frames-fit, back-refused, bytes-are, count-is, pack-asks, pack-gives}
+use Rattle.mpegframes.proofs.Enough.{Call, bytes-inside, frames-inside, back-refused, pack-asks, pack-gives}
 use borrow.Author.Needs.{needs}
 use Rattle.mpegframes.proofs.back.get_back.Statement.{statement}
 use Rattle.mpegframes.proofs.back.get_back.Tie as tie
+
+-- the places: the packets read back, that seen from behind the test of the code, and the start
+abbrev Back : Type 0
+Back = tie.After-read
+
+abbrev lengths-made : Back → tie.After-lengths-room
+lengths-made b = b .before .before .before
+
+abbrev output-made : Back → tie.After-output-room
+output-made b = lengths-made b .before
+
+abbrev start : Back → tie.Start
+start b = output-made b .before .before .before
+
+abbrev good : tie.Else1 → Back
+good c = c .before .before .before .before
+
+-- the call of the reader
+abbrev call : Back → Call
+call b =
+    record {
+      packets = start b .args .packets .now;
+      output = output-made b .output-room .result;
+      lengths = lengths-made b .lengths-room .result;
+      short = start b .pre .0;
+      output-long = sym (output-made b .output-room .ensures);
+      lengths-long = sym (lengths-made b .lengths-room .ensures);
+      answer = b .read .result;
+      output-left = b .read .last .1 .0;
+      lengths-left = b .read .last .1 .1 .0;
+      outcome = b .read .ensures;
+    }
 
 output-room-requires : tie.Need-output-room-requires
 output-room-requires c κs = search needs
@@ -32,64 +64,31 @@ same-length c = search needs
 returns : tie.Need-returns
 returns c =
     let refused-so = c .before .before in
-    let first-if = refused-so .before .before in
-    let read-back = first-if .before .before .before .before in
-    let with-lengths = read-back .before .before .before in
-    let with-output = with-lengths .before in
-    let start = with-output .before .before .before in
-    wrote-as
-    (back-refused (start .args .packets .now) (with-output .output-room .result) (with-lengths .lengths-room .result) (start .pre .0) (sym (with-output .output-room .ensures)) (sym (with-lengths .lengths-room .ensures)) (read-back .read .result) (read-back .read .last .1 .0) (read-back .read .last .1 .1 .0) (read-back .read .ensures) (first-if .if1 .taken))
-    (refused-so .write-refused .ensures)
+    let test = refused-so .before .before in
+    wrote-as (back-refused (call (test .before .before .before .before)) (test .if1 .taken)) (refused-so .write-refused .ensures)
 
 array-share-prefix-output : tie.Need-array-share-prefix-output
 array-share-prefix-output c =
-    let read-back = c .before .before .before .before in
-    let with-lengths = read-back .before .before .before in
-    let with-output = with-lengths .before in
-    let start = with-output .before .before .before in
-    omega
-    (arith, bytes-are (start .args .packets .now) (with-output .output-room .result) (with-lengths .lengths-room .result) (start .pre .0) (sym (with-output .output-room .ensures)) (sym (with-lengths .lengths-room .ensures)) (read-back .read .result) (read-back .read .last .1 .0) (read-back .read .last .1 .1 .0) (read-back .read .ensures) (c .if1 .left), bytes-fit (start .args .packets .now) (with-output .output-room .result) (with-lengths .lengths-room .result) (start .pre .0) (sym (with-output .output-room .ensures)) (sym (with-lengths .lengths-room .ensures)), read-back .read .kept .1 .0, with-output .output-room .ensures)
+    let b = good c in
+    omega (arith, bytes-inside (call b) (c .if1 .left), b .read .kept .1 .0, output-made b .output-room .ensures)
 
 slice-aggregate-pack : tie.Need-slice-aggregate-pack
-slice-aggregate-pack c =
-    let first-if = c .before in
-    let read-back = first-if .before .before .before .before in
-    let with-lengths = read-back .before .before .before in
-    let with-output = with-lengths .before in
-    let start = with-output .before .before .before in
-    sym
-    (length-take-le _ _ (omega (arith, bytes-are (start .args .packets .now) (with-output .output-room .result) (with-lengths .lengths-room .result) (start .pre .0) (sym (with-output .output-room .ensures)) (sym (with-lengths .lengths-room .ensures)) (read-back .read .result) (read-back .read .last .1 .0) (read-back .read .last .1 .1 .0) (read-back .read .ensures) (first-if .if1 .left), bytes-fit (start .args .packets .now) (with-output .output-room .result) (with-lengths .lengths-room .result) (start .pre .0) (sym (with-output .output-room .ensures)) (sym (with-lengths .lengths-room .ensures)), read-back .read .kept .1 .0, with-output .output-room .ensures)))
+slice-aggregate-pack c = sym (length-take-le _ _ (array-share-prefix-output (c .before)))
 
 array-share-prefix-lengths : tie.Need-array-share-prefix-lengths
 array-share-prefix-lengths c =
-    let first-if = c .before in
-    let read-back = first-if .before .before .before .before in
-    let with-lengths = read-back .before .before .before in
-    let with-output = with-lengths .before in
-    let start = with-output .before .before .before in
-    omega
-    (arith, count-is (start .args .packets .now) (with-output .output-room .result) (with-lengths .lengths-room .result) (start .pre .0) (sym (with-output .output-room .ensures)) (sym (with-lengths .lengths-room .ensures)) (read-back .read .result) (read-back .read .last .1 .0) (read-back .read .last .1 .1 .0) (read-back .read .ensures) (first-if .if1 .left), frames-fit (start .args .packets .now) (with-output .output-room .result) (with-lengths .lengths-room .result) (start .pre .0) (sym (with-output .output-room .ensures)) (sym (with-lengths .lengths-room .ensures)), read-back .read .kept .1 .1 .0, with-lengths .lengths-room .ensures)
+    let test = c .before in
+    let b = good test in
+    omega (arith, frames-inside (call b) (test .if1 .left), b .read .kept .1 .1 .0, lengths-made b .lengths-room .ensures)
 
 slice-aggregate-pack-2 : tie.Need-slice-aggregate-pack-2
-slice-aggregate-pack-2 c =
-    let first-if = c .before .before in
-    let read-back = first-if .before .before .before .before in
-    let with-lengths = read-back .before .before .before in
-    let with-output = with-lengths .before in
-    let start = with-output .before .before .before in
-    sym
-    (length-take-le _ _ (omega (arith, count-is (start .args .packets .now) (with-output .output-room .result) (with-lengths .lengths-room .result) (start .pre .0) (sym (with-output .output-room .ensures)) (sym (with-lengths .lengths-room .ensures)) (read-back .read .result) (read-back .read .last .1 .0) (read-back .read .last .1 .1 .0) (read-back .read .ensures) (first-if .if1 .left), frames-fit (start .args .packets .now) (with-output .output-room .result) (with-lengths .lengths-room .result) (start .pre .0) (sym (with-output .output-room .ensures)) (sym (with-lengths .lengths-room .ensures)), read-back .read .kept .1 .1 .0, with-lengths .lengths-room .ensures)))
+slice-aggregate-pack-2 c = sym (length-take-le _ _ (array-share-prefix-lengths (c .before)))
 
 pack-requires : tie.Need-pack-requires
 pack-requires c κs =
-    let first-if = c .before .before .before in
-    let read-back = first-if .before .before .before .before in
-    let with-lengths = read-back .before .before .before in
-    let with-output = with-lengths .before in
-    let start = with-output .before .before .before in
-    pack-asks (start .args .packets .now) (with-output .output-room .result) (with-lengths .lengths-room .result) (start .pre .0)
-    (sym (with-output .output-room .ensures)) (sym (with-lengths .lengths-room .ensures)) (read-back .read .result) (read-back .read .last .1 .0)
-    (read-back .read .last .1 .1 .0) (read-back .read .ensures) (first-if .if1 .left) (start .args .text .now) (start .pre .1)
+    let test = c .before .before .before in
+    let b = good test in
+    pack-asks (call b) (test .if1 .left) (start b .args .text .now) (start b .pre .1)
 
 same-length-2 : tie.Need-same-length-2
 same-length-2 c = search needs
@@ -97,14 +96,9 @@ same-length-2 c = search needs
 returns-2 : tie.Need-returns-2
 returns-2 c =
     let packed-up = c .before .before in
-    let first-if = packed-up .before .before .before .before in
-    let read-back = first-if .before .before .before .before in
-    let with-lengths = read-back .before .before .before in
-    let with-output = with-lengths .before in
-    let start = with-output .before .before .before in
-    pack-gives (start .args .packets .now) (with-output .output-room .result) (with-lengths .lengths-room .result) (start .pre .0)
-    (sym (with-output .output-room .ensures)) (sym (with-lengths .lengths-room .ensures)) (read-back .read .result) (read-back .read .last .1 .0)
-    (read-back .read .last .1 .1 .0) (read-back .read .ensures) (first-if .if1 .left) (start .pre .1) (packed-up .pack .ensures)
+    let test = packed-up .before .before .before .before in
+    let b = good test in
+    pack-gives (call b) (test .if1 .left) (start b .pre .1) (packed-up .pack .ensures)
 
 pub get-back-spec : {M : Type 1} → statement M
 get-back-spec =
