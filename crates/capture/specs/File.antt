@@ -2,6 +2,16 @@
 -- an entry for each, of four bytes: its kind, a zero byte and the length of its body; then the bodies back to back. Kinds 1 to 3 have a
 -- session ID as body, and a data entry has a packet. How many bytes stand before the entries, and how many an entry has, are parameters of
 -- all that reads a file by place and of its refusals: `head` and `width`. From `fileRefusal` on they are those of this form, 2 and 4.
+--
+--    0                   1                   2                   3
+--    0 1 2 3 4 5 6 7 8 9 0 1 2 3 4 5 6 7 8 9 0 1 2 3 4 5 6 7 8 9 0 1
+--   +-+-+-+-+-+-+-+-+-+-+-+-+-+-+-+-+
+--   |               N               |
+--   +-+-+-+-+-+-+-+-+-+-+-+-+-+-+-+-+-+-+-+-+-+-+-+-+-+-+-+-+-+-+-+-+
+--   |     kind      |    second     |            length             |   entry 0; then those to entry N - 1
+--   +-+-+-+-+-+-+-+-+-+-+-+-+-+-+-+-+-+-+-+-+-+-+-+-+-+-+-+-+-+-+-+-+
+--   |              body of entry 0, of `length` bytes               |   then those to entry N - 1
+--   +-+-+-+-+-+-+-+-+-+-+-+-+-+-+-+-+-+-+-+-+-+-+-+-+-+-+-+-+-+-+-+-+
 use Prim.Native.Nat.{ℕ, _+_, _-_, _*_, _<_}
 use mathlib.Core.Path.{_≡_}
 use mathlib.Core.Bool.{Bool, true, false, not, cond, _&&_, _||_}
