@@ -11,7 +11,7 @@ use borrow.Author.Tests.{eq-eqb, ne-eqb, eqb-true, eqb-false, leb-true, leb-fals
 use Rattle.octets.specs.Count.{any, sumTo}
 use Rattle.octets.proofs.Counts.{or-false-left, or-false-right, any-none, any-more, sum-none, sum-more}
 use Rattle.packet.specs.Header.{headerLength, segmentCount}
-use Rattle.packet.specs.Segments.{bBit, eBit, entryAt, beginsIn, endsIn, lengthIn, lengthAt}
+use Rattle.packet.specs.Segments.{bBit, eBit, lengthValues, entryAt, beginsIn, endsIn, lengthIn, lengthAt}
 use Rattle.packet.specs.Psp.{badEntry, badAt}
 
 -- entry k ends before entry n begins
@@ -34,7 +34,7 @@ fewer-entries width k n room h r =
 pub record Summing (width : ℕ) (sub : List ℕ) (n total k : ℕ) : Type 0 where
   pub within : k ≤ n
   pub sum : total ≡ sumTo (lengthAt width sub) k
-  pub small : total ≤ eBit * k
+  pub small : total ≤ lengthValues * k
 
 pub sum-begin : (width : ℕ) (sub : List ℕ) (n : ℕ) → Summing width sub n 0 0
 sum-begin width sub n = record { within = omega arith; sum = sym (sum-none (lengthAt width sub)); small = omega arith }
@@ -43,7 +43,7 @@ pub sum-turn : {width : ℕ} {sub : List ℕ} {n total k entry size : ℕ} →
     Summing width sub n total k → k < n → entry ≡ entryAt width sub k → size ≡ lengthIn entry → Summing width sub n (total + size) (k + 1)
 sum-turn {width} {sub} {n} {total} {k} {entry} {size} s l e z =
     let size-is : size ≡ lengthAt width sub k = z ∙ ap lengthIn e in
-    let less : size < eBit = omega arith in
+    let less : size < lengthValues = omega arith in
     record {
       within = omega arith;
       sum = rw (sum-more (lengthAt width sub) k, s .sum, size-is) refl;
@@ -65,7 +65,7 @@ marks-by true false entry small l f =
     let whole = or-false-left (eqb (lengthIn entry) 0 || not (beginsIn entry)) (not (endsIn entry)) f in
     let ends : entry / eBit % 2 ≡ 1 = eqb-true _ _ (not-false (endsIn entry) (or-false-right (eqb (lengthIn entry) 0 || not (beginsIn entry)) (not (endsIn entry)) f)) in
     let begins : entry / bBit % 2 ≡ 1 = eqb-true _ _ (not-false (beginsIn entry) (or-false-right (eqb (lengthIn entry) 0) (not (beginsIn entry)) whole)) in
-    let some : entry % eBit ≡ 0 → ⊥ = eqb-false _ _ (or-false-left (eqb (lengthIn entry) 0) (not (beginsIn entry)) whole) in
+    let some : entry % lengthValues ≡ 0 → ⊥ = eqb-false _ _ (or-false-left (eqb (lengthIn entry) 0) (not (beginsIn entry)) whole) in
     let below : entry ≤ bBit + eBit = leb-true _ _ l in
     absurd (omega (arith, some))
 marks-by false fault entry small l f =

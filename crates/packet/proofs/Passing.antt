@@ -17,7 +17,7 @@ use Rattle.octets.proofs.Counts.{none-at, or-false-left, or-false-right, sum-wi
 use Rattle.octets.proofs.Stretches.{length-rest}
 use Rattle.flow.specs.Flow.{topFlow}
 use Rattle.packet.specs.Header.{Packet, transportUnknown, lead, notVersion3, idLength, sessionId, sub, headerLength}
-use Rattle.packet.specs.Header.{flowId}
+use Rattle.packet.specs.Header.{flowId, countValues}
 use Rattle.packet.specs.Header.{segmentCount, notPlain, shortestPacket, longestPacket, beforeSession}
 use Rattle.packet.specs.Segments.{entryWidth, entryAt, beginsIn, endsIn, lengthIn, lengthAt, bodyAt}
 use Rattle.packet.specs.Psp.{wanted, badAt, segmentRefusals, pspRefusals}
@@ -174,5 +174,5 @@ pub cause-passed : (kind : ℕ) (p : Packet) (k : ℕ) → segmentCause kind p k
 cause-passed kind p k z = psp-cause-passed p k (ap (λ (n : ℕ). segmentCause n p k) (sym (cause-psp kind p k z)) ∙ z)
 
 -- A table of 127 entries at most, each of 4 bytes at most, is small.
-pub table-small : (width count : ℕ) → width ≤ 4 → count < 128 → width * count ≤ 512
-table-small width count w c = let h : width * count ≤ 4 * 128 = mul-le-mul w (let l : count ≤ 128 = omega arith in l) in h
+pub table-small : (width count : ℕ) → width ≤ 4 → count < countValues → width * count ≤ 512
+table-small width count w c = let h : width * count ≤ 4 * countValues = mul-le-mul w (let l : count ≤ countValues = omega arith in l) in h

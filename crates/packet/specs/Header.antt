@@ -3,12 +3,17 @@
 -- the session ID is called `sub`: the sub-layer header and all behind that. Places are counted from the start of `sub`, so the paper's byte
 -- 4 is byte 0 here, its byte 5 is byte 1 and its bytes 6-7 are bytes 2-3, whatever the transport.
 --
---   |T . . . . . . .|. . . . version|. . . . . . . .|. . . . . . . .|   over UDP alone
+--    0                   1                   2                   3
+--    0 1 2 3 4 5 6 7 8 9 0 1 2 3 4 5 6 7 8 9 0 1 2 3 4 5 6 7 8 9 0 1
+--   +-+-+-+-+-+-+-+-+-+-+-+-+-+-+-+-+-+-+-+-+-+-+-+-+-+-+-+-+-+-+-+-+
+--   |T|. . . . . . .|. . . .|version|. . . . . . . . . . . . . . . .|   over UDP alone
+--   +-+-+-+-+-+-+-+-+-+-+-+-+-+-+-+-+-+-+-+-+-+-+-+-+-+-+-+-+-+-+-+-+
 --   |                          session ID                           |
---   |V S H H X  flow|.    count     |        sequence number        |   `sub` starts here; then segments, or MPEG packets
+--   +-+-+-+-+-+-+-+-+-+-+-+-+-+-+-+-+-+-+-+-+-+-+-+-+-+-+-+-+-+-+-+-+
+--   |V|S| H |X| flow|X|    count    |        sequence number        |   `sub` starts here; then segments, or MPEG packets
+--   +-+-+-+-+-+-+-+-+-+-+-+-+-+-+-+-+-+-+-+-+-+-+-+-+-+-+-+-+-+-+-+-+
 --
--- Each byte is drawn from its top bit on. T, V, S and X are a bit each, and H is two; the version has four bits, the flow ID three, the
--- count of segments seven. X and all that is drawn as a dot is read by nobody.
+-- Each byte is drawn from its top bit on. X and all that is drawn as a dot is read by nobody.
 use Prim.Native.Nat.{ℕ, _+_, _/_, _%_}
 use mathlib.Core.Bool.{Bool, cond, not, _&&_, _||_}
 use mathlib.Core.List.{List, [], _∷_, _++_}
@@ -61,12 +66,19 @@ leadOf transport = cond (eqb transport overUdp) udpLead 0
 abbrev pub lead : Packet → ℕ
 lead p = leadOf (p .transport)
 
--- what stands there: T, which marks a control message, and the version of L2TP
+-- what stands there: T, which marks a control message, with what it is worth in its byte; and the version of L2TP, with how many values it
+-- has, in the low bits
+abbrev pub tBit : ℕ
+tBit = 128
+
 abbrev pub tSet : List ℕ → Bool
-tSet bytes = eqb (byteAt bytes 0 / 128 % 2) 1
+tSet bytes = eqb (byteAt bytes 0 / tBit % 2) 1
+
+abbrev pub versionValues : ℕ
+versionValues = 16
 
 abbrev pub version : List ℕ → ℕ
-version bytes = byteAt bytes 1 % 16
+version bytes = byteAt bytes 1 % versionValues
 
 -- refusal 15: T set, or another version than 3; over IP there is neither
 abbrev pub notVersion3 : Packet → Bool
@@ -85,24 +97,40 @@ sub p = rest (p .bytes) (lead p + idLength)
 abbrev pub headerLength : ℕ
 headerLength = 4
 
-abbrev pub vSet : List ℕ → Bool
-vSet sub = eqb (byteAt sub 0 / 128 % 2) 1
+-- what V and S are worth in their byte, and the lower bit of H
+abbrev pub vBit : ℕ
+vBit = 128
 
--- what S is worth in its byte
 abbrev pub sBit : ℕ
 sBit = 64
+
+abbrev pub hBit : ℕ
+hBit = 16
+
+-- how many values H has, the flow ID, and the count of segments; the flow ID and the count stand in the low bits of their bytes
+abbrev pub hValues : ℕ
+hValues = 4
+
+abbrev pub flowValues : ℕ
+flowValues = 8
+
+abbrev pub countValues : ℕ
+countValues = 128
+
+abbrev pub vSet : List ℕ → Bool
+vSet sub = eqb (byteAt sub 0 / vBit % 2) 1
 
 abbrev pub sSet : List ℕ → Bool
 sSet sub = eqb (byteAt sub 0 / sBit % 2) 1
 
 abbrev pub hBits : List ℕ → ℕ
-hBits sub = byteAt sub 0 / 16 % 4
+hBits sub = byteAt sub 0 / hBit % hValues
 
 abbrev pub flowId : List ℕ → ℕ
-flowId sub = byteAt sub 0 % 8
+flowId sub = byteAt sub 0 % flowValues
 
 abbrev pub segmentCount : List ℕ → ℕ
-segmentCount sub = byteAt sub 1 % 128
+segmentCount sub = byteAt sub 1 % countValues
 
 abbrev pub number : List ℕ → ℕ
 number sub = be16At sub 2

@@ -2,6 +2,12 @@
 -- for each segment, with B in its top bit, E in the next and the length in the low 14; then the segment bodies in the same order, to
 -- the end of the packet. Read, such a packet is a list of segments, and no rule above this crate looks into an entry. How many bytes
 -- an entry has is a parameter, `width`: 2 in this edition of the header. Its marks and its length stand in the first two.
+--
+--    0                   1
+--    0 1 2 3 4 5 6 7 8 9 0 1 2 3 4 5
+--   +-+-+-+-+-+-+-+-+-+-+-+-+-+-+-+-+
+--   |B|E|          length           |
+--   +-+-+-+-+-+-+-+-+-+-+-+-+-+-+-+-+
 use Prim.Native.Nat.{ℕ, _+_, _*_, _/_, _%_}
 use mathlib.Core.Bool.{Bool}
 use mathlib.Core.List.{List}
@@ -14,12 +20,15 @@ use Rattle.packet.specs.Header.{headerLength, segmentCount}
 abbrev pub entryWidth : ℕ
 entryWidth = 2
 
--- what B and E are worth in an entry; the length is what stands below E
+-- what B and E are worth in an entry, and how many values the length has, in the low bits
 abbrev pub bBit : ℕ
 bBit = 32768
 
 abbrev pub eBit : ℕ
 eBit = 16384
+
+abbrev pub lengthValues : ℕ
+lengthValues = 16384
 
 -- entry number k, and what an entry says
 abbrev pub entryAt : ℕ → List ℕ → ℕ → ℕ
@@ -32,7 +41,7 @@ abbrev pub endsIn : ℕ → Bool
 endsIn entry = eqb (entry / eBit % 2) 1
 
 abbrev pub lengthIn : ℕ → ℕ
-lengthIn entry = entry % eBit
+lengthIn entry = entry % lengthValues
 
 abbrev pub lengthAt : ℕ → List ℕ → ℕ → ℕ
 lengthAt width sub k = lengthIn (entryAt width sub k)

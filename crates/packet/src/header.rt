@@ -5,7 +5,7 @@ ghost use Prim.Native.Nat.{_+_, _<_, _≤_};
 ghost use lib.ListN.{length};
 ghost use Rattle.refusal.specs.Refusal.{first};
 ghost use Rattle.packet.specs.Header.{packetBy, udpLead, leadOf, notVersion3, idLength, sessionId, sub, headerLength, vSet, sSet};
-ghost use Rattle.packet.specs.Header.{hBits, flowId, segmentCount, number, notPlain, beforeSession};
+ghost use Rattle.packet.specs.Header.{hBits, flowValues, flowId, countValues, segmentCount, number, notPlain, beforeSession};
 
 // The transports as the host program numbers them.
 pub const IP: u32 = 1;
@@ -15,6 +15,11 @@ pub const UDP: u32 = 2;
 // How many bytes stand before the session ID over UDP; over IP none do.
 const UDP_LEAD: usize = 4;
 
+// What T is worth in the first of these bytes, and how many values the version has, in the low bits of the second.
+const T_BIT: u8 = 128;
+
+const VERSION_VALUES: u8 = 16;
+
 // The version of L2TP that these bytes must name.
 const VERSION: u8 = 3;
 
@@ -22,8 +27,19 @@ pub const ID_LENGTH: usize = 4;
 
 pub const HEADER_LENGTH: usize = 4;
 
-// What S is worth in its byte.
+// What V and S are worth in their byte, and the lower bit of H.
+const V_BIT: u8 = 128;
+
 pub const S_BIT: u8 = 64;
+
+const H_BIT: u8 = 16;
+
+// How many values H has, the flow ID, and the count of segments. The flow ID and the count stand in the low bits of their bytes.
+const H_VALUES: u8 = 4;
+
+const FLOW_VALUES: u8 = 8;
+
+const COUNT_VALUES: u8 = 128;
 
 // A packet over IP has 8 to 4,100 bytes, and over UDP four more.
 const SHORTEST_PACKET: usize = 8;
@@ -68,7 +84,7 @@ pub fn v_set(sub: &[u8]) -> bool
     requires { ⌜ headerLength ≤ length (now sub) ⌝ }
     ensures { λ r. ⌜ r ≡ vSet (now (sub .entry)) ⌝ }
 {
-    sub[0] / 128 % 2 == 1
+    sub[0] / V_BIT % 2 == 1
 }
 
 // Whether the sequence number is valid.
@@ -83,21 +99,21 @@ pub fn h_bits(sub: &[u8]) -> u8
     requires { ⌜ headerLength ≤ length (now sub) ⌝ }
     ensures { λ r. ⌜ r ≡ hBits (now (sub .entry)) ⌝ }
 {
-    sub[0] / 16 % 4
+    sub[0] / H_BIT % H_VALUES
 }
 
 pub fn flow_id(sub: &[u8]) -> usize
     requires { ⌜ headerLength ≤ length (now sub) ⌝ }
-    ensures { λ r. ⌜ (r ≡ flowId (now (sub .entry))) × (r < 8) ⌝ }
+    ensures { λ r. ⌜ (r ≡ flowId (now (sub .entry))) × (r < flowValues) ⌝ }
 {
-    wide(sub[0] % 8)
+    wide(sub[0] % FLOW_VALUES)
 }
 
 pub fn segment_count(sub: &[u8]) -> usize
     requires { ⌜ headerLength ≤ length (now sub) ⌝ }
-    ensures { λ r. ⌜ (r ≡ segmentCount (now (sub .entry))) × (r < 128) ⌝ }
+    ensures { λ r. ⌜ (r ≡ segmentCount (now (sub .entry))) × (r < countValues) ⌝ }
 {
-    wide(sub[1] % 128)
+    wide(sub[1] % COUNT_VALUES)
 }
 
 // The sequence number.
@@ -124,7 +140,7 @@ fn not_version_3(packet: &[u8], transport: u32) -> bool
     if transport != UDP {
         return false;
     }
-    (packet[0] / 128 % 2 == 1) | (packet[1] % 16 != VERSION)
+    (packet[0] / T_BIT % 2 == 1) | (packet[1] % VERSION_VALUES != VERSION)
 }
 
 // Refusals 24, 2, 3, 15 and 4, which need no session; or 0, and then the packet has a whole header.

@@ -6,7 +6,7 @@ ghost use lib.ListN.{length};
 ghost use Rattle.refusal.specs.Refusal.{first};
 ghost use Rattle.packet.specs.Header.{headerLength, segmentCount};
 ghost use Rattle.octets.specs.Count.{any, sumTo};
-ghost use Rattle.packet.specs.Segments.{eBit, entryAt, beginsIn, endsIn, lengthIn, lengthAt, bodyAt};
+ghost use Rattle.packet.specs.Segments.{lengthValues, entryAt, beginsIn, endsIn, lengthIn, lengthAt, bodyAt};
 ghost use Rattle.packet.specs.Psp.{badEntry, badAt, segmentRefusals, pspRefusals};
 use crate::header;
 use flow::Flow;
@@ -14,10 +14,12 @@ use flow::Flow;
 // The width of an entry in this edition of the header.
 pub const ENTRY_WIDTH: usize = 2;
 
-// What B and E are worth in an entry. The length is what stands below E.
+// What B and E are worth in an entry, and how many values the length has, in the low bits.
 pub const B_BIT: u16 = 32768;
 
 pub const E_BIT: u16 = 16384;
+
+const LENGTH_VALUES: u16 = 16384;
 
 // Entry k, as the number in its first two bytes.
 pub fn entry(sub: &[u8], width: usize, k: usize) -> u16
@@ -40,9 +42,9 @@ pub fn ends(entry: u16) -> bool
 }
 
 pub fn length_of(entry: u16) -> usize
-    ensures { λ r. ⌜ (r ≡ lengthIn entry) × (r < eBit) ⌝ }
+    ensures { λ r. ⌜ (r ≡ lengthIn entry) × (r < lengthValues) ⌝ }
 {
-    (entry % E_BIT) as usize
+    (entry % LENGTH_VALUES) as usize
 }
 
 // Whether entry k of `count` is bad: its length is 0, or B is missing though it is not the first, or E though it is not the last.
@@ -56,7 +58,7 @@ pub fn bad_entry(count: usize, k: usize, entry: u16) -> bool
 // How long the segments of the first n entries are together.
 fn total_length(sub: &[u8], width: usize, n: usize) -> usize
     requires { ⌜ (2 ≤ width) × (n ≤ segmentCount (now sub)) × (headerLength + width * n ≤ length (now sub)) ⌝ }
-    ensures { λ r. ⌜ (r ≡ sumTo (lengthAt width (now (sub .entry))) n) × (r ≤ eBit * n) ⌝ }
+    ensures { λ r. ⌜ (r ≡ sumTo (lengthAt width (now (sub .entry))) n) × (r ≤ lengthValues * n) ⌝ }
 {
     let mut total: usize = 0;
     let mut k: usize = 0;
@@ -80,15 +82,15 @@ fn survey(sub: &[u8], width: usize, count: usize) -> Surveyed
     requires { ⌜ (2 ≤ width) × (1 ≤ count) × (count ≡ segmentCount (now sub)) × (headerLength + width * count ≤ length (now sub)) ⌝ }
     ensures { λ r. ⌜ r .total ≡ sumTo (lengthAt width (now (sub .entry))) count ⌝ }
     ensures { λ r. ⌜ r .bad ≡ any (badAt width (now (sub .entry))) count ⌝ }
-    ensures { λ r. ⌜ r .total ≤ eBit * count ⌝ }
+    ensures { λ r. ⌜ r .total ≤ lengthValues * count ⌝ }
 {
     let first = entry(sub, width, 0);
-    let mut total = (first % E_BIT) as u32;
+    let mut total = (first % LENGTH_VALUES) as u32;
     let mut bad = bad_entry(count, 0, first);
     let mut k: usize = 1;
     while k + 1 < count {
         let middle = entry(sub, width, k);
-        total += (middle % E_BIT) as u32;
+        total += (middle % LENGTH_VALUES) as u32;
         bad = bad | (middle <= B_BIT + E_BIT);
         k += 1;
     }
@@ -99,7 +101,7 @@ fn survey(sub: &[u8], width: usize, count: usize) -> Surveyed
         }; // the first is the last
     }
     let last = entry(sub, width, k);
-    total += (last % E_BIT) as u32;
+    total += (last % LENGTH_VALUES) as u32;
     bad = bad | bad_entry(count, k, last);
     Surveyed {
         total: total as usize,

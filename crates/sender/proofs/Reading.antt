@@ -20,14 +20,16 @@ use Rattle.octets.proofs.Numbers.{two-reads-back, four-reads-back}
 use Rattle.octets.proofs.Stretches.{part-between}
 use Rattle.octets.proofs.Counts.{none-all, sum-none, sum-more}
 use Rattle.flow.specs.Flow.{topFlow}
-use Rattle.packet.specs.Header.{ip, sBit, headerLength, shortestPacket, longestPacket, sub, sessionId, flowId, segmentCount, number as number-in, sSet, notPlain, beforeSession}
-use Rattle.packet.specs.Segments.{Segment, entryWidth, bBit, eBit, entryAt, beginsIn, endsIn, lengthIn, lengthAt, bodyAt, segmentAt, segments}
+use Rattle.packet.specs.Header.{ip, vBit, sBit, hBit, hValues, headerLength, shortestPacket, longestPacket, sub, sessionId, flowId}
+use Rattle.packet.specs.Header.{segmentCount, number as number-in, sSet, notPlain, beforeSession}
+use Rattle.packet.specs.Segments.{Segment, entryWidth, bBit, eBit, lengthValues, entryAt, beginsIn, endsIn, lengthIn, lengthAt}
+use Rattle.packet.specs.Segments.{bodyAt, segmentAt, segments}
 use Rattle.packet.specs.Psp.{wanted, badAt, pspRefusals}
 use Rattle.packet.specs.Check.{kindPsp, checkRefusals, check}
 use Rattle.sender.specs.Packet.{entryNumber, entryOf, bodyOf, packetOf}
 
 -- An entry: its number fits two bytes, and says again what it was made from.
-module _ (n : ℕ) (short : n < eBit) where
+module _ (n : ℕ) (short : n < lengthValues) where
   entry-fits : (b e : Bool) → entryNumber b e n < 65536
   entry-fits true true = omega arith
   entry-fits true false = omega arith
@@ -104,7 +106,7 @@ pub record Sendable (session flow number : ℕ) (segs : List Segment) : Type 0 w
   pub some : 1 ≤ length segs
   pub few : length segs ≤ 127
   pub filled : (k : ℕ) → k < length segs → 1 ≤ length ((nth segs k) .body)
-  pub short : (k : ℕ) → k < length segs → length ((nth segs k) .body) < eBit
+  pub short : (k : ℕ) → k < length segs → length ((nth segs k) .body) < lengthValues
   pub begun : (k : ℕ) → k < length segs → (k ≡ 0 → ⊥) → (nth segs k) .begins ≡ true
   pub ended : (k : ℕ) → k < length segs → (k + 1 ≡ length segs → ⊥) → (nth segs k) .ends ≡ true
   pub not-long : length (packetOf session flow number segs) ≤ longestPacket
@@ -230,8 +232,8 @@ module _ (session flow number : ℕ) (segs : List Segment) where
 
     plain : notPlain behindId ≡ false
     plain =
-        let v : eqb ((sBit + flow) / 128 % 2) 1 ≡ false = ne-eqb ((sBit + flow) / 128 % 2) 1 (λ z. omega (arith, w .to-flow)) in
-        let h : eqb ((sBit + flow) / 16 % 4) 0 ≡ true = eq-eqb ((sBit + flow) / 16 % 4) 0 (omega (arith, w .to-flow)) in
+        let v : eqb ((sBit + flow) / vBit % 2) 1 ≡ false = ne-eqb ((sBit + flow) / vBit % 2) 1 (λ z. omega (arith, w .to-flow)) in
+        let h : eqb ((sBit + flow) / hBit % hValues) 0 ≡ true = eq-eqb ((sBit + flow) / hBit % hValues) 0 (omega (arith, w .to-flow)) in
         rw (v, h) refl
 
     numbered : sSet behindId ≡ true

@@ -14,7 +14,7 @@ ghost use Rattle.octets.specs.Stretch.{put};
 ghost use Rattle.octets.specs.Count.{any, sumTo};
 ghost use Rattle.flow.specs.Flow.{longest, topFlow};
 ghost use Rattle.packet.specs.Header.{shortestPacket};
-ghost use Rattle.packet.specs.Segments.{entryWidth, eBit};
+ghost use Rattle.packet.specs.Segments.{entryWidth, lengthValues};
 ghost use Rattle.sender.specs.Cut.{frameLength, indexOf, leastRoom};
 ghost use Rattle.sender.specs.Packet.{worth as bitWorth, entryNumber, headerOf};
 ghost use Rattle.sender.specs.Send.{mostFrames, mostSegments, greatestLimit, badSize, badLength, badFrames, outside, earlyRefusals, laterRefusals, PermitsSend};
@@ -250,7 +250,7 @@ fn worth(set: bool, value: u16) -> u16
 
 // What an entry says, as a number: B, E and the length.
 fn entry_number(begins: bool, ends: bool, size: usize) -> u16
-    requires { ⌜ size < eBit ⌝ }
+    requires { ⌜ size < lengthValues ⌝ }
     ensures { λ r. ⌜ r ≡ entryNumber begins ends size ⌝ }
 {
     let marks = worth(begins, psp::B_BIT) + worth(ends, psp::E_BIT);
