@@ -132,54 +132,54 @@ same-ids a b =
     rw (other, ne-eqb b a (λ e. eqb-false a b other (sym e))) (and-false (not (eqb a 0) && not (eqb b 0))))
     (true-or-false (eqb a b))
 
-id-at : (t : Table) (i : ℕ) → i < rows → getD (idsOf t) i 0 ≡ rowAt t i .id
+id-at : (t : Table) (r : ℕ) → r < rows → getD (idsOf t) r 0 ≡ rowAt t r .id
 id-at t zero l = refl
 id-at t (suc zero) l = refl
 id-at t (suc (suc zero)) l = refl
 id-at t (suc (suc (suc zero))) l = refl
 id-at t (suc (suc (suc (suc zero)))) l = refl
 id-at t (suc (suc (suc (suc (suc zero))))) l = refl
-id-at t (suc (suc (suc (suc (suc (suc i)))))) l = absurd (omega arith)
+id-at t (suc (suc (suc (suc (suc (suc r)))))) l = absurd (omega arith)
 
 -- All rows.
 module _ (t : Table) where
   abbrev anyRow : Bool
-  anyRow = any (λ i. rowBroken (rowAt t i)) rows
+  anyRow = any (λ r. rowBroken (rowAt t r)) rows
 
   abbrev anyTwice : Bool
-  anyTwice = any (λ i. any (idTwice (idsOf t) i) i) rows
+  anyTwice = any (λ r. any (idTwice (idsOf t) r) r) rows
 
   -- the ways out of `is_broken`: at a row, or by the IDs
   pub row-breaks : anyRow ≡ true → broken t ≡ true
   row-breaks found =
       ⊎-elim
       (λ (b : broken t ≡ true). b)
-      (λ (b : broken t ≡ false). absurd (true≢false (sym found ∙ none-all (λ i. rowBroken (rowAt t i)) rows (rows-sound t b))))
+      (λ (b : broken t ≡ false). absurd (true≢false (sym found ∙ none-all (λ r. rowBroken (rowAt t r)) rows (rows-sound t b))))
       (true-or-false (broken t))
 
   module _ (sound : anyRow ≡ false) where
-    closed-at : (i : ℕ) → i < rows → isClosed (rowAt t i .kind) ≡ eqb (rowAt t i .id) 0
-    closed-at i l = closed-by-id (rowAt t i) (none-at (λ i. rowBroken (rowAt t i)) rows i sound l)
+    closed-at : (r : ℕ) → r < rows → isClosed (rowAt t r .kind) ≡ eqb (rowAt t r .id) 0
+    closed-at r l = closed-by-id (rowAt t r) (none-at (λ r. rowBroken (rowAt t r)) rows r sound l)
 
-    same-asked : (i j : ℕ) → i < rows → j < rows → sameOpen (rowAt t i) (rowAt t j) ≡ idTwice (idsOf t) i j
-    same-asked i j l m =
-        rw (id-at t i l, id-at t j m, closed-at i l, closed-at j m) (same-ids (rowAt t i .id) (rowAt t j .id))
+    same-asked : (r r′ : ℕ) → r < rows → r′ < rows → sameOpen (rowAt t r) (rowAt t r′) ≡ idTwice (idsOf t) r r′
+    same-asked r r′ l m =
+        rw (id-at t r l, id-at t r′ m, closed-at r l, closed-at r′ m) (same-ids (rowAt t r .id) (rowAt t r′ .id))
 
-    twice-asked : (i : ℕ) → i < rows → openTwice t i ≡ any (idTwice (idsOf t) i) i
-    twice-asked i l =
-        any-same (λ j. sameOpen (rowAt t i) (rowAt t j)) (idTwice (idsOf t) i) i (λ j m. same-asked i j l (omega arith))
+    twice-asked : (r : ℕ) → r < rows → openTwice t r ≡ any (idTwice (idsOf t) r) r
+    twice-asked r l =
+        any-same (λ r′. sameOpen (rowAt t r) (rowAt t r′)) (idTwice (idsOf t) r) r (λ r′ m. same-asked r r′ l (omega arith))
 
     pub ids-break : broken t ≡ anyTwice
     unfolding broken
     ids-break =
-        any-same (λ i. rowBroken (rowAt t i) || openTwice t i) (λ i. any (idTwice (idsOf t) i) i) rows
-        (λ i l. rw (none-at (λ i. rowBroken (rowAt t i)) rows i sound l) (twice-asked i l))
+        any-same (λ r. rowBroken (rowAt t r) || openTwice t r) (λ r. any (idTwice (idsOf t) r) r) rows
+        (λ r l. rw (none-at (λ r. rowBroken (rowAt t r)) rows r sound l) (twice-asked r l))
 
 -- A session is looked for by its ID alone, which is not 0: no closed row has it.
-pub found-by-id : (t : Table) (id i : ℕ) → broken t ≡ false → (id ≡ 0 → ⊥) → i < rows → openIn t id i ≡ eqb (rowAt t i .id) id
-found-by-id t id i whole named l =
+pub found-by-id : (t : Table) (id r : ℕ) → broken t ≡ false → (id ≡ 0 → ⊥) → r < rows → openIn t id r ≡ eqb (rowAt t r .id) id
+found-by-id t id r whole named l =
     ⊎-elim
-    (λ (same : eqb (rowAt t i .id) id ≡ true).
-    rw (closed-by-id (rowAt t i) (rows-sound t whole i l), eqb-true (rowAt t i .id) id same, ne-eqb id 0 named) refl)
-    (λ (other : eqb (rowAt t i .id) id ≡ false). rw other (and-false (not (isClosed (rowAt t i .kind)))))
-    (true-or-false (eqb (rowAt t i .id) id))
+    (λ (same : eqb (rowAt t r .id) id ≡ true).
+    rw (closed-by-id (rowAt t r) (rows-sound t whole r l), eqb-true (rowAt t r .id) id same, ne-eqb id 0 named) refl)
+    (λ (other : eqb (rowAt t r .id) id ≡ false). rw other (and-false (not (isClosed (rowAt t r .kind)))))
+    (true-or-false (eqb (rowAt t r .id) id))

@@ -38,9 +38,9 @@ after-set P (x ∷ l) zero a d (suc j) new old = old
 after-set P (x ∷ l) (suc i) a d zero new old = old
 after-set P (x ∷ l) (suc i) a d (suc j) new old = after-set P l i a d j (λ e. new (ap suc e)) old
 
-after-row : (P : Row → Type 0) (t : Table) (i : ℕ) (row : Row) (j : ℕ) → (j ≡ i → P row) → P (rowAt t j) →
-    P (rowAt (withRow t i row) j)
-after-row P t i row j new old = after-set P (t .rows) i row _ j new old
+after-row : (P : Row → Type 0) (t : Table) (r : ℕ) (row : Row) (r′ : ℕ) → (r′ ≡ r → P row) → P (rowAt t r′) →
+    P (rowAt (withRow t r row) r′)
+after-row P t r row r′ new old = after-set P (t .rows) r row _ r′ new old
 
 -- at the very place stands the new element, or the default past the end
 set-there : {A : Type 0} (P : A → Type 0) (l : List A) (i : ℕ) (a d : A) → P a → P d → P (getD (set l i a) i d)
@@ -62,25 +62,25 @@ same-sym a b =
     ∙ ap (λ (z : Bool). not (isClosed (b .kind)) && not (isClosed (a .kind)) && z) (eqb-sym (a .id) (b .id))
 
 -- What it is not to be broken: every row is sound by itself, and no two rows have one ID open.
-row-clear : (t : Table) → broken t ≡ false → (i : ℕ) → i < rows → (rowBroken (rowAt t i) || openTwice t i) ≡ false
+row-clear : (t : Table) → broken t ≡ false → (r : ℕ) → r < rows → (rowBroken (rowAt t r) || openTwice t r) ≡ false
 unfolding broken
-row-clear t whole i l = none-at (λ i. rowBroken (rowAt t i) || openTwice t i) rows i whole l
+row-clear t whole r l = none-at (λ r. rowBroken (rowAt t r) || openTwice t r) rows r whole l
 
-pub rows-sound : (t : Table) → broken t ≡ false → (i : ℕ) → i < rows → rowBroken (rowAt t i) ≡ false
-rows-sound t whole i l = or-false-left (rowBroken (rowAt t i)) (openTwice t i) (row-clear t whole i l)
+pub rows-sound : (t : Table) → broken t ≡ false → (r : ℕ) → r < rows → rowBroken (rowAt t r) ≡ false
+rows-sound t whole r l = or-false-left (rowBroken (rowAt t r)) (openTwice t r) (row-clear t whole r l)
 
-apart-below : (t : Table) → broken t ≡ false → (i j : ℕ) → i < rows → j < i → sameOpen (rowAt t i) (rowAt t j) ≡ false
-apart-below t whole i j l m =
-    none-at (λ j. sameOpen (rowAt t i) (rowAt t j)) i j
-    (or-false-right (rowBroken (rowAt t i)) (openTwice t i) (row-clear t whole i l)) m
+apart-below : (t : Table) → broken t ≡ false → (r r′ : ℕ) → r < rows → r′ < r → sameOpen (rowAt t r) (rowAt t r′) ≡ false
+apart-below t whole r r′ l m =
+    none-at (λ r′. sameOpen (rowAt t r) (rowAt t r′)) r r′
+    (or-false-right (rowBroken (rowAt t r)) (openTwice t r) (row-clear t whole r l)) m
 
-pub rows-apart : (t : Table) → broken t ≡ false → (i j : ℕ) → i < rows → j < rows → (j ≡ i → ⊥) →
-    sameOpen (rowAt t i) (rowAt t j) ≡ false
-rows-apart t whole i j l m other =
+pub rows-apart : (t : Table) → broken t ≡ false → (r r′ : ℕ) → r < rows → r′ < rows → (r′ ≡ r → ⊥) →
+    sameOpen (rowAt t r) (rowAt t r′) ≡ false
+rows-apart t whole r r′ l m other =
     ⊎-elim
-    (λ (b : ltb j i ≡ true). apart-below t whole i j l (ltb-true j i b))
-    (λ (b : ltb j i ≡ false). same-sym (rowAt t i) (rowAt t j) ∙ apart-below t whole j i m (omega (arith, ltb-false j i b)))
-    (true-or-false (ltb j i))
+    (λ (b : ltb r′ r ≡ true). apart-below t whole r r′ l (ltb-true r′ r b))
+    (λ (b : ltb r′ r ≡ false). same-sym (rowAt t r) (rowAt t r′) ∙ apart-below t whole r′ r m (omega (arith, ltb-false r′ r b)))
+    (true-or-false (ltb r′ r))
 
 -- no session has ID 0
 pub zero-unopened : (t : Table) → broken t ≡ false → isOpen t 0 ≡ false
@@ -94,29 +94,29 @@ zero-unopened t whole =
         or-false-left (not (isClosed (row .kind)) && eqb (row .id) 0) (isClosed (row .kind) && notZero (row .id))
         (or-false-right (kindBroken row) (idBroken row) heading)
 
-pub unbroken : (t : Table) → ((i : ℕ) → i < rows → rowBroken (rowAt t i) ≡ false) →
-    ((i j : ℕ) → i < rows → j < rows → (j ≡ i → ⊥) → sameOpen (rowAt t i) (rowAt t j) ≡ false) → broken t ≡ false
+pub unbroken : (t : Table) → ((r : ℕ) → r < rows → rowBroken (rowAt t r) ≡ false) →
+    ((r r′ : ℕ) → r < rows → r′ < rows → (r′ ≡ r → ⊥) → sameOpen (rowAt t r) (rowAt t r′) ≡ false) → broken t ≡ false
 unfolding broken
 unbroken t sound apart =
-    none-all (λ i. rowBroken (rowAt t i) || openTwice t i) rows
-    (λ i l. simp (sound i l, none-all (λ j. sameOpen (rowAt t i) (rowAt t j)) i (λ j m. apart i j l (omega arith) (λ e. omega arith))))
+    none-all (λ r. rowBroken (rowAt t r) || openTwice t r) rows
+    (λ r l. simp (sound r l, none-all (λ r′. sameOpen (rowAt t r) (rowAt t r′)) r (λ r′ m. apart r r′ l (omega arith) (λ e. omega arith))))
 
 pub empty-unbroken : broken empty ≡ false
 unfolding broken any
 empty-unbroken = refl
 
 -- The step that every call takes: one row replaced.
-pub row-keeps : (t : Table) (i : ℕ) (row : Row) → broken t ≡ false → rowBroken row ≡ false →
-    ((j : ℕ) → j < rows → (j ≡ i → ⊥) → sameOpen row (rowAt t j) ≡ false) → broken (withRow t i row) ≡ false
-row-keeps t i row whole sound alone =
-    unbroken (withRow t i row)
-    (λ j l. after-row (λ r. rowBroken r ≡ false) t i row j (λ e. sound) (rows-sound t whole j l))
-    (λ j k l m other.
-    after-row (λ r. sameOpen r (rowAt (withRow t i row) k) ≡ false) t i row j
-    (λ e. after-row (λ r. sameOpen row r ≡ false) t i row k (λ d. absurd (other (d ∙ sym e))) (alone k m (λ d. other (d ∙ sym e))))
-    (after-row (λ r. sameOpen (rowAt t j) r ≡ false) t i row k
-    (λ d. same-sym (rowAt t j) row ∙ alone j l (λ e. other (d ∙ sym e)))
-    (rows-apart t whole j k l m other)))
+pub row-keeps : (t : Table) (r : ℕ) (row : Row) → broken t ≡ false → rowBroken row ≡ false →
+    ((r′ : ℕ) → r′ < rows → (r′ ≡ r → ⊥) → sameOpen row (rowAt t r′) ≡ false) → broken (withRow t r row) ≡ false
+row-keeps t r row whole sound alone =
+    unbroken (withRow t r row)
+    (λ r′ l. after-row (λ x. rowBroken x ≡ false) t r row r′ (λ e. sound) (rows-sound t whole r′ l))
+    (λ r′ r″ l m other.
+    after-row (λ x. sameOpen x (rowAt (withRow t r row) r″) ≡ false) t r row r′
+    (λ e. after-row (λ x. sameOpen row x ≡ false) t r row r″ (λ d. absurd (other (d ∙ sym e))) (alone r″ m (λ d. other (d ∙ sym e))))
+    (after-row (λ x. sameOpen (rowAt t r′) x ≡ false) t r row r″
+    (λ d. same-sym (rowAt t r′) row ∙ alone r′ l (λ e. other (d ∙ sym e)))
+    (rows-apart t whole r′ r″ l m other)))
 
 -- Opening: the ID is open nowhere, so that the fresh row is alone with it.
 pub record Opens (t : Table) (id : ℕ) : Type 0 where
@@ -159,14 +159,14 @@ fresh-sound q named = by (isDmpt (kindIn (numberOf (q .kind))))
     by true = simp (opens-some (q .kind), some-kind (q .kind), named)
     by false = simp (opens-some (q .kind), some-kind (q .kind), named)
 
-fresh-alone : (t : Table) (q : Request) → any (openIn t (q .id)) rows ≡ false → (j : ℕ) → j < rows →
-    sameOpen (freshRow q) (rowAt t j) ≡ false
-fresh-alone t q absent j l = simp (opens-some (q .kind), eqb-sym (q .id) (rowAt t j .id)) (none-at (openIn t (q .id)) rows j absent l)
+fresh-alone : (t : Table) (q : Request) → any (openIn t (q .id)) rows ≡ false → (r : ℕ) → r < rows →
+    sameOpen (freshRow q) (rowAt t r) ≡ false
+fresh-alone t q absent r l = simp (opens-some (q .kind), eqb-sym (q .id) (rowAt t r .id)) (none-at (openIn t (q .id)) rows r absent l)
 
 fresh-keeps : (t : Table) (q : Request) → Opens t (q .id) → broken (withRow t (lowestFree t) (freshRow q)) ≡ false
 fresh-keeps t q o =
     row-keeps t (lowestFree t) (freshRow q) (o .whole) (fresh-sound q (o .named))
-    (λ j l other. fresh-alone t q (o .absent) j l)
+    (λ r l other. fresh-alone t q (o .absent) r l)
 
 opened-by-keeps : (c : ℕ) (t : Table) (q : Request) → first (openRefusals t q) ≡ c → broken t ≡ false →
     broken (openedBy c t q .table) ≡ false
@@ -178,9 +178,9 @@ unfolding opened
 opened-keeps t q whole = opened-by-keeps (first (openRefusals t q)) t q refl whole
 
 -- Closing: a closed row is never open with another.
-emptied-keeps : (t : Table) (i : ℕ) → broken t ≡ false → broken (withRow t i closedRow) ≡ false
+emptied-keeps : (t : Table) (r : ℕ) → broken t ≡ false → broken (withRow t r closedRow) ≡ false
 unfolding any
-emptied-keeps t i whole = row-keeps t i closedRow whole refl (λ j l other. refl)
+emptied-keeps t r whole = row-keeps t r closedRow whole refl (λ r′ l other. refl)
 
 closed-by-keeps : (c : ℕ) (t : Table) (id : ℕ) → broken t ≡ false → broken (closedBy c t id .table) ≡ false
 closed-by-keeps zero t id whole = emptied-keeps t (find t id) whole
@@ -208,11 +208,11 @@ flow-sound row k f sound good =
         (λ e. rw e good)
         (none-at (flowBrokenIn row) flows j (row-flows row sound) l)
 
-pub flow-keeps : (t : Table) (i k : ℕ) (f : Flow) → broken t ≡ false → i < rows →
-    flowBroken (isClosed (rowAt t i .kind)) (isDmpt (kindIn (rowAt t i .kind))) k f ≡ false → broken (withFlow t i k f) ≡ false
-flow-keeps t i k f whole l good =
-    row-keeps t i (rowWith (rowAt t i) k f) whole
-    (flow-sound (rowAt t i) k f (rows-sound t whole i l) good) (λ j m other. rows-apart t whole i j l m other)
+pub flow-keeps : (t : Table) (r k : ℕ) (f : Flow) → broken t ≡ false → r < rows →
+    flowBroken (isClosed (rowAt t r .kind)) (isDmpt (kindIn (rowAt t r .kind))) k f ≡ false → broken (withFlow t r k f) ≡ false
+flow-keeps t r k f whole l good =
+    row-keeps t r (rowWith (rowAt t r) k f) whole
+    (flow-sound (rowAt t r) k f (rows-sound t whole r l) good) (λ r′ m other. rows-apart t whole r r′ l m other)
 
 -- the clauses of rule 13 for a flow, none of which holds
 none-of-five : (a b c d e : Bool) → (a || b || c || d || e) ≡ false →
@@ -235,11 +235,11 @@ accepted-sound true k f heard fits bare =
     simp (heard, le-ltb longest (f .held) fits, eq-eqb k 0 (bare refl .0), eq-eqb (f .held) 0 (bare refl .1))
 
 -- what a flow that accepted a number is put back as
-pub accepted-keeps : (t : Table) (i k : ℕ) (f : Flow) → broken t ≡ false → i < rows → isClosed (rowAt t i .kind) ≡ false →
-    f .heard ≡ heardMark → f .held ≤ longest → (isDmpt (kindIn (rowAt t i .kind)) ≡ true → (k ≡ 0) × (f .held ≡ 0)) →
-    broken (withFlow t i k f) ≡ false
-accepted-keeps t i k f whole l live heard fits bare =
-    flow-keeps t i k f whole l (rw live (accepted-sound (isDmpt (kindIn (rowAt t i .kind))) k f heard fits bare))
+pub accepted-keeps : (t : Table) (r k : ℕ) (f : Flow) → broken t ≡ false → r < rows → isClosed (rowAt t r .kind) ≡ false →
+    f .heard ≡ heardMark → f .held ≤ longest → (isDmpt (kindIn (rowAt t r .kind)) ≡ true → (k ≡ 0) × (f .held ≡ 0)) →
+    broken (withFlow t r k f) ≡ false
+accepted-keeps t r k f whole l live heard fits bare =
+    flow-keeps t r k f whole l (rw live (accepted-sound (isDmpt (kindIn (rowAt t r .kind))) k f heard fits bare))
 
 -- what a flow that heard a packet without a number is put back as: it holds nothing, and is else as it was
 and-less : (a b c : Bool) → (a && (b || c)) ≡ false → (a && (false || c)) ≡ false
@@ -263,13 +263,13 @@ emptied-sound closed dmpt k f whole =
       and-less dmpt (notZero (f .held)) astray (lines .4),
     )
 
-pub emptied-flow-keeps : (t : Table) (i k : ℕ) → broken t ≡ false → i < rows → k < flows →
-    broken (withFlow t i k (emptied (flowAt (rowAt t i) k))) ≡ false
-emptied-flow-keeps t i k whole l m =
-    let row = rowAt t i in
-    flow-keeps t i k (emptied (flowAt row k)) whole l
+pub emptied-flow-keeps : (t : Table) (r k : ℕ) → broken t ≡ false → r < rows → k < flows →
+    broken (withFlow t r k (emptied (flowAt (rowAt t r) k))) ≡ false
+emptied-flow-keeps t r k whole l m =
+    let row = rowAt t r in
+    flow-keeps t r k (emptied (flowAt row k)) whole l
     (emptied-sound (isClosed (row .kind)) (isDmpt (kindIn (row .kind))) k (flowAt row k)
-    (none-at (flowBrokenIn row) flows k (row-flows row (rows-sound t whole i l)) m))
+    (none-at (flowBrokenIn row) flows k (row-flows row (rows-sound t whole r l)) m))
 
 -- A call that is refused leaves the table as it was, and drops nothing.
 opened-by-refused : (c : ℕ) (t : Table) (q : Request) → (openedBy c t q .code ≡ 0 → ⊥) →
@@ -337,13 +337,13 @@ fresh-at t q six o = getD-set-same (t .rows) (lowestFree t) (freshRow q) _ (omeg
 fresh-first : (t : Table) (q : Request) → Opens t (q .id) → any (openIn (afterOpen t q) (q .id)) (lowestFree t) ≡ false
 fresh-first t q o =
     none-all (openIn (afterOpen t q) (q .id)) (lowestFree t)
-    (λ j l.
-    after-row (λ r. opensAs (q .id) r ≡ false) t (lowestFree t) (freshRow q) j
-    (λ e. absurd (below j l e))
-    (none-at (openIn t (q .id)) rows j (o .absent) (omega (arith, o .room))))
+    (λ r l.
+    after-row (λ row. opensAs (q .id) row ≡ false) t (lowestFree t) (freshRow q) r
+    (λ e. absurd (below r l e))
+    (none-at (openIn t (q .id)) rows r (o .absent) (omega (arith, o .room))))
   where
-    below : (j : ℕ) → j < lowestFree t → j ≡ lowestFree t → ⊥
-    below j l e = omega arith
+    below : (r : ℕ) → r < lowestFree t → r ≡ lowestFree t → ⊥
+    below r l e = omega arith
 
 fresh-found : (t : Table) (q : Request) → length (t .rows) ≡ rows → Opens t (q .id) →
     find (afterOpen t q) (q .id) ≡ lowestFree t
@@ -376,27 +376,27 @@ not-both : (a b : Bool) (m n id : ℕ) → (a && eqb m id) ≡ true → (a && b 
 not-both true b m n id p q = rw (eqb-sym n id, ← eqb-true m id p) q
 not-both false b m n id p q = absurd (true≢false (sym p))
 
-pub only-there : (t : Table) (id : ℕ) → Closes t id → (j : ℕ) → j < rows → (j ≡ find t id → ⊥) → openIn t id j ≡ false
-only-there t id c j l other =
-    not-both (not (isClosed (rowAt t (find t id) .kind))) (not (isClosed (rowAt t j .kind))) (rowAt t (find t id) .id) (rowAt t j .id) id
-    (least-passes (openIn t id) rows (c .there)) (rows-apart t (c .whole) (find t id) j (c .there) l other)
+pub only-there : (t : Table) (id : ℕ) → Closes t id → (r : ℕ) → r < rows → (r ≡ find t id → ⊥) → openIn t id r ≡ false
+only-there t id c r l other =
+    not-both (not (isClosed (rowAt t (find t id) .kind))) (not (isClosed (rowAt t r .kind))) (rowAt t (find t id) .id) (rowAt t r .id) id
+    (least-passes (openIn t id) rows (c .there)) (rows-apart t (c .whole) (find t id) r (c .there) l other)
 
 closed-absent : (t : Table) (id : ℕ) → Closes t id → any (openIn (afterClose t id) id) rows ≡ false
 closed-absent t id c =
     none-all (openIn (afterClose t id) id) rows
-    (λ j l.
+    (λ r l.
     ⊎-elim
-    (λ (h : eqb j (find t id) ≡ true).
-    rw (eqb-true j (find t id) h) (set-there (λ r. opensAs id r ≡ false) (t .rows) (find t id) closedRow _ refl refl))
-    (λ (h : eqb j (find t id) ≡ false).
-    after-row (λ r. opensAs id r ≡ false) t (find t id) closedRow j (λ e. refl) (only-there t id c j l (eqb-false j (find t id) h)))
-    (true-or-false (eqb j (find t id))))
+    (λ (h : eqb r (find t id) ≡ true).
+    rw (eqb-true r (find t id) h) (set-there (λ row. opensAs id row ≡ false) (t .rows) (find t id) closedRow _ refl refl))
+    (λ (h : eqb r (find t id) ≡ false).
+    after-row (λ row. opensAs id row ≡ false) t (find t id) closedRow r (λ e. refl) (only-there t id c r l (eqb-false r (find t id) h)))
+    (true-or-false (eqb r (find t id))))
 
 closed-room : (t : Table) (id : ℕ) → Closes t id → lowestFree (afterClose t id) < rows
 closed-room t id c =
     least-below (freeIn (afterClose t id)) rows
     (any-at (freeIn (afterClose t id)) rows (find t id)
-    (set-there (λ r. isClosed (r .kind) ≡ true) (t .rows) (find t id) closedRow _ refl refl) (c .there))
+    (set-there (λ row. isClosed (row .kind) ≡ true) (t .rows) (find t id) closedRow _ refl refl) (c .there))
 
 closed-opens : (t : Table) (id : ℕ) → Closes t id → Opens (afterClose t id) id
 closed-opens t id c =
@@ -500,6 +500,6 @@ row-whole row sound k m =
     flow-whole (isClosed (row .kind)) (isDmpt (kindIn (row .kind))) k (flowAt row k)
     (none-at (flowBrokenIn row) flows k (row-flows row sound) m)
 
-pub flows-whole : (t : Table) → broken t ≡ false → (i k : ℕ) → i < rows → k < flows →
-    FlowWhole (isClosed (rowAt t i .kind)) (isDmpt (kindIn (rowAt t i .kind))) k (flowAt (rowAt t i) k)
-flows-whole t whole i k l m = row-whole (rowAt t i) (rows-sound t whole i l) k m
+pub flows-whole : (t : Table) → broken t ≡ false → (r k : ℕ) → r < rows → k < flows →
+    FlowWhole (isClosed (rowAt t r .kind)) (isDmpt (kindIn (rowAt t r .kind))) k (flowAt (rowAt t r) k)
+flows-whole t whole r k l m = row-whole (rowAt t r) (rows-sound t whole r l) k m

@@ -43,9 +43,9 @@ rowBroken row = kindBroken row || idBroken row || any (flowBrokenIn row) flows
 abbrev pub sameOpen : Row → Row → Bool
 sameOpen a b = not (isClosed (a .kind)) && not (isClosed (b .kind)) && eqb (a .id) (b .id)
 
--- the open ID of row i stands in an earlier row too
+-- the open ID of row r stands in an earlier row too
 abbrev pub openTwice : Table → ℕ → Bool
-openTwice t i = any (λ j. sameOpen (rowAt t i) (rowAt t j)) i
+openTwice t r = any (λ r′. sameOpen (rowAt t r) (rowAt t r′)) r
 
 unfoldable pub broken : Table → Bool
-broken t = any (λ i. rowBroken (rowAt t i) || openTwice t i) rows
+broken t = any (λ r. rowBroken (rowAt t r) || openTwice t r) rows

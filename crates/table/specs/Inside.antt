@@ -24,9 +24,9 @@ anyUnfit first others most row =
     flowUnfit first most (flowAt row 0) || flowUnfit others most (flowAt row 1)
     || flowUnfit others most (flowAt row 2) || flowUnfit others most (flowAt row 3)
 
--- the IDs of all rows; whether the ID of row i is not 0 and stands in row j too
+-- the IDs of all rows; whether the ID of row r is not 0 and stands in row r′ too
 abbrev pub idsOf : Table → List ℕ
 idsOf t = rowAt t 0 .id ∷ rowAt t 1 .id ∷ rowAt t 2 .id ∷ rowAt t 3 .id ∷ rowAt t 4 .id ∷ rowAt t 5 .id ∷ []
 
 abbrev pub idTwice : List ℕ → ℕ → ℕ → Bool
-idTwice ids i j = eqb (getD ids j 0) (getD ids i 0) && notZero (getD ids i 0)
+idTwice ids r r′ = eqb (getD ids r′ 0) (getD ids r 0) && notZero (getD ids r 0)

@@ -44,13 +44,13 @@ abbrev pub isDmpt : Kind → Bool
 isDmpt kind.Psp = false
 isDmpt kind.Dmpt = true
 
--- Row i of a table, flow k of a row. Past the end of a list stands a closed row, or a fresh flow. No rule is decided by it: where a
+-- Row r of a table, flow k of a row. Past the end of a list stands a closed row, or a fresh flow. No rule is decided by it: where a
 -- session has no row, or a packet names a flow that no row has, an earlier rule has refused.
 abbrev pub noRow : Row
 noRow = record { id = 0; kind = closedKind; flows = [] }
 
 abbrev pub rowAt : Table → ℕ → Row
-rowAt t i = getD (t .rows) i noRow
+rowAt t r = getD (t .rows) r noRow
 
 abbrev pub flowAt : Row → ℕ → Flow
 flowAt row k = getD (row .flows) k fresh
@@ -60,7 +60,7 @@ abbrev pub termsOf : Row → Terms
 termsOf row = record { kind = kindIn (row .kind); longest = longest }
 
 abbrev pub termsAt : Table → ℕ → Terms
-termsAt t i = termsOf (rowAt t i)
+termsAt t r = termsOf (rowAt t r)
 
 -- the closed row is all zero, and the empty table is six of them
 abbrev pub closedRow : Row
@@ -72,16 +72,16 @@ empty = record { rows = replicate rows closedRow }
 abbrev pub PermitsEmpty : Table → Type 0
 PermitsEmpty answer = answer ≡ empty
 
--- whether the session is open in row i; the row where it is open, and the lowest free row: 6 where there is none. (A kind above 2 counts as
+-- whether the session is open in row r; the row where it is open, and the lowest free row: 6 where there is none. (A kind above 2 counts as
 -- open here; 13 comes first.)
 abbrev pub openIn : Table → ℕ → ℕ → Bool
-openIn t id i = not (isClosed (rowAt t i .kind)) && eqb (rowAt t i .id) id
+openIn t id r = not (isClosed (rowAt t r .kind)) && eqb (rowAt t r .id) id
 
 abbrev pub find : Table → ℕ → ℕ
 find t id = least (openIn t id) rows
 
 abbrev pub freeIn : Table → ℕ → Bool
-freeIn t i = isClosed (rowAt t i .kind)
+freeIn t r = isClosed (rowAt t r .kind)
 
 abbrev pub lowestFree : Table → ℕ
 lowestFree t = least (freeIn t) rows
@@ -92,10 +92,10 @@ heldIn row = sumTo (λ k. flowAt row k .held) flows
 
 -- the table with one row, or one flow of a row, replaced and all else as it was
 abbrev pub withRow : Table → ℕ → Row → Table
-withRow t i row = record { rows = set (t .rows) i row }
+withRow t r row = record { rows = set (t .rows) r row }
 
 abbrev pub rowWith : Row → ℕ → Flow → Row
 rowWith row k f = record { id = row .id; kind = row .kind; flows = set (row .flows) k f }
 
 abbrev pub withFlow : Table → ℕ → ℕ → Flow → Table
-withFlow t i k f = withRow t i (rowWith (rowAt t i) k f)
+withFlow t r k f = withRow t r (rowWith (rowAt t r) k f)

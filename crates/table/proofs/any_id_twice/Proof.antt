@@ -10,7 +10,7 @@ use Rattle.table.proofs.any_id_twice.Statement.{statement}
 use Rattle.table.proofs.any_id_twice.Tie as tie
 
 abbrev Inv-loop : tie.InvT-loop
-Inv-loop ids i₀ i = Sought (λ i. any (idTwice ids i) i) rows i
+Inv-loop ids i₀ i = Sought (λ r. any (idTwice ids r) r) rows i
 
 abbrev μ-loop : tie.MeasureT-loop
 μ-loop ids i₀ i = rows - i
@@ -25,7 +25,7 @@ returns : tie.Need-returns Inv-loop μ-loop
 returns c =
     let inside = c .before .before in
     let ids = inside .before .before .args .ids in
-    sym (any-at (λ i. any (idTwice ids i) i) _ _ (sym (c .before .id-before .ensures) ∙ c .if1 .taken) (inside .loop-test .taken))
+    sym (any-at (λ r. any (idTwice ids r) r) _ _ (sym (c .before .id-before .ensures) ∙ c .if1 .taken) (inside .loop-test .taken))
 
 add-i : tie.Need-add-i Inv-loop μ-loop
 add-i c = search needs

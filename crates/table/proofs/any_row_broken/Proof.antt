@@ -9,7 +9,7 @@ use Rattle.table.proofs.any_row_broken.Statement.{statement}
 use Rattle.table.proofs.any_row_broken.Tie as tie
 
 abbrev Inv-loop : tie.InvT-loop
-Inv-loop table i₀ i = Sought (λ i. rowBroken (rowAt table i)) rows i
+Inv-loop table i₀ i = Sought (λ r. rowBroken (rowAt table r)) rows i
 
 abbrev μ-loop : tie.MeasureT-loop
 μ-loop table i₀ i = rows - i
@@ -30,7 +30,7 @@ returns : tie.Need-returns Inv-loop μ-loop
 returns c =
     let inside = c .before .before .before in
     let row = rowAt (inside .before .before .args .t1) in
-    sym (any-at (λ i. rowBroken (row i)) _ _ (sym (c .before .row-broken .ensures) ∙ c .if1 .taken) (inside .loop-test .taken))
+    sym (any-at (λ r. rowBroken (row r)) _ _ (sym (c .before .row-broken .ensures) ∙ c .if1 .taken) (inside .loop-test .taken))
 
 add-i : tie.Need-add-i Inv-loop μ-loop
 add-i c = search needs

@@ -20,8 +20,8 @@ abbrev start : tie.In-loop Inv-loop μ-loop → tie.Start Inv-loop μ-loop
 start c = c .before .before
 
 -- of the row that the loop has come to, the ID tells
-asked : (c : tie.In-loop Inv-loop μ-loop) → let table = start c .args .t1 in let id = start c .args .id in let i = c .before .loop .i in
-    openIn table id i ≡ eqb (rowAt table i .id) id
+asked : (c : tie.In-loop Inv-loop μ-loop) → let table = start c .args .t1 in let id = start c .args .id in let r = c .before .loop .i in
+    openIn table id r ≡ eqb (rowAt table r .id) id
 asked c =
     found-by-id (start c .args .t1) (start c .args .id) (c .before .loop .i) (start c .pre .0) (start c .pre .1) (c .loop-test .taken)
 

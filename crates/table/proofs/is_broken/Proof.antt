@@ -26,7 +26,7 @@ returns-2 : tie.Need-returns-2
 returns-2 c =
     let sound = c .before .before in
     c .any-id-twice .ensures
-    ∙ ap (λ (ids : List ℕ). any (λ i. any (idTwice ids i) i) rows) (c .before .ids-of .ensures)
+    ∙ ap (λ (ids : List ℕ). any (λ r. any (idTwice ids r) r) rows) (c .before .ids-of .ensures)
     ∙ sym (ids-break (sound .before .before .args .table) (sym (sound .before .any-row-broken .ensures) ∙ sound .if1 .left))
 
 pub is-broken-spec : {M : Type 1} → statement M
