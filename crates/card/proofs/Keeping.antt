@@ -34,73 +34,73 @@ use Rattle.card.proofs.Accepted.{Accepted, accepted, flow-there, receiv
 use Rattle.card.proofs.Limits.{accepted-bounded}
 
 module _ (t : Table) (p : Packet) (s : Slices) (a : Accepted t p s) where
-  abbrev row : ℕ
-  row = rowOf t p
+  abbrev r : ℕ
+  r = rowOf t p
 
   abbrev after : List ℕ
   after = sub p
 
   abbrev flow : Flow
-  flow = flowOf t row after
+  flow = flowOf t r after
 
   -- the row where a session is found is open
-  row-open : isClosed (rowAt t row .kind) ≡ false
+  row-open : isClosed (rowAt t r .kind) ≡ false
   row-open =
-      not-true (isClosed (rowAt t row .kind))
-      (and-left (not (isClosed (rowAt t row .kind))) (eqb (rowAt t row .id) (sessionId p))
+      not-true (isClosed (rowAt t r .kind))
+      (and-left (not (isClosed (rowAt t r .kind))) (eqb (rowAt t r .id) (sessionId p))
       (least-passes (openIn t (sessionId p)) rows (a .found)))
 
   -- a D-MPT packet: flow 0, and nothing is held before or after
-  dmpt-flow : isDmpt (termsAt t row .kind) ≡ true → flowTo t row after ≡ 0
-  dmpt-flow d = dmpt-passed after (sym (refusals-dmpt (termsAt t row) after d) ∙ a .passed) .only-flow
+  dmpt-flow : isDmpt (termsAt t r .kind) ≡ true → flowTo t r after ≡ 0
+  dmpt-flow d = dmpt-passed after (sym (refusals-dmpt (termsAt t r) after d) ∙ a .passed) .only-flow
 
-  dmpt-after : isDmpt (termsAt t row .kind) ≡ true → heardBy t row after s .fate .held ≡ []
+  dmpt-after : isDmpt (termsAt t r .kind) ≡ true → heardBy t r after s .fate .held ≡ []
   unfolding hear
-  dmpt-after d = rw d (dmpt-holds-none (heldBy t row after s) (mpegs after))
+  dmpt-after d = rw d (dmpt-holds-none (heldBy t r after s) (mpegs after))
 
   -- with S clear nothing is held afterwards, whatever the kind, and the record is else as it was
-  clear-after : sSet after ≡ false → heardBy t row after s .fate .held ≡ []
+  clear-after : sSet after ≡ false → heardBy t r after s .fate .held ≡ []
   unfolding hear
   clear-after c =
       ⊎-elim
-      (λ (d : isDmpt (termsAt t row .kind) ≡ true). dmpt-after d)
-      (λ (d : isDmpt (termsAt t row .kind) ≡ false).
+      (λ (d : isDmpt (termsAt t r .kind) ≡ true). dmpt-after d)
+      (λ (d : isDmpt (termsAt t r .kind) ≡ false).
       rw (d, c)
-      (unnumbered-holds-none (termsAt t row .longest) (heldBy t row after s) (segments (widthIn (termsAt t row .kind)) after)))
-      (true-or-false (isDmpt (termsAt t row .kind)))
+      (unnumbered-holds-none (termsAt t r .longest) (heldBy t r after s) (segments (widthIn (termsAt t r .kind)) after)))
+      (true-or-false (isDmpt (termsAt t r .kind)))
 
-  clear-record : sSet after ≡ false → recordAfter (heardBy t row after s) ≡ emptied flow
+  clear-record : sSet after ≡ false → recordAfter (heardBy t r after s) ≡ emptied flow
   unfolding hear
   clear-record c =
-      let none : length (heardBy t row after s .fate .held) ≡ 0 = ap (λ (l : List ℕ). length l) (clear-after c) in
+      let none : length (heardBy t r after s .fate .held) ≡ 0 = ap (λ (l : List ℕ). length l) (clear-after c) in
       rw (none, c) refl
 
   -- so of D-MPT nothing of the table changes
-  same-flow : isDmpt (termsAt t row .kind) ≡ true → emptied flow ≡ flow
+  same-flow : isDmpt (termsAt t r .kind) ≡ true → emptied flow ≡ flow
   same-flow d =
       ap (λ (n : ℕ). record { heard = flow .heard; expected = flow .expected; held = n })
-      (sym (dmpt-bare t row (flowTo t row after) (a .whole) (a .found) (flow-there t p s a) d))
+      (sym (dmpt-bare t r (flowTo t r after) (a .whole) (a .found) (flow-there t p s a) d))
 
-  same-table : recordAfter (heardBy t row after s) ≡ flow → withFlow t row (flowTo t row after) (recordAfter (heardBy t row after s)) ≡ t
+  same-table : recordAfter (heardBy t r after s) ≡ flow → withFlow t r (flowTo t r after) (recordAfter (heardBy t r after s)) ≡ t
   same-table e =
-      rw (e, set-getD (rowAt t row .flows) (flowTo t row after))
-      (ap (λ (l : List Row). record { rows = l }) (set-getD (t .rows) row noRow))
+      rw (e, set-getD (rowAt t r .flows) (flowTo t r after))
+      (ap (λ (l : List Row). record { rows = l }) (set-getD (t .rows) r noRow))
 
   -- a number that was accepted was heard
-  set-heard : sSet after ≡ true → recordAfter (heardBy t row after s) .heard ≡ heardMark
+  set-heard : sSet after ≡ true → recordAfter (heardBy t r after s) .heard ≡ heardMark
   unfolding hear
   set-heard set =
       let in-time : judge flow (number after) .late ≡ false = rw set at (a .in-time) in
       rw set (ap (λ (j : Judged). j .flow .heard) (judge-sound flow (number after) .accepts in-time))
 
-  pub step-keeps : broken (withFlow t row (flowTo t row after) (recordAfter (heardBy t row after s))) ≡ false
+  pub step-keeps : broken (withFlow t r (flowTo t r after) (recordAfter (heardBy t r after s))) ≡ false
   step-keeps =
       ⊎-elim
       (λ (set : sSet after ≡ true).
-      accepted-keeps t row (flowTo t row after) (recordAfter (heardBy t row after s)) (a .whole) (a .found) row-open
+      accepted-keeps t r (flowTo t r after) (recordAfter (heardBy t r after s)) (a .whole) (a .found) row-open
       (set-heard set) (accepted-bounded t p s a .held-few) (λ d. (dmpt-flow d, ap (λ (l : List ℕ). length l) (dmpt-after d))))
       (λ (clear : sSet after ≡ false).
-      rw (clear-record clear) (emptied-flow-keeps t row (flowTo t row after) (a .whole) (a .found) (flow-there t p s a)))
+      rw (clear-record clear) (emptied-flow-keeps t r (flowTo t r after) (a .whole) (a .found) (flow-there t p s a)))
       (true-or-false (sSet after))
 
 -- No data call breaks a table.

@@ -111,30 +111,30 @@ fate-bounded terms gap held sub z few small bare short =
 
 -- An accepted call: its flow's bytes and the packet's.
 module _ (t : Table) (p : Packet) (s : Slices) (a : call.Accepted t p s) where
-  abbrev row : ℕ
-  row = rowOf t p
+  abbrev r : ℕ
+  r = rowOf t p
 
   abbrev after : List ℕ
   after = sub p
 
-  pub held-length : length (heldBy t row after s) ≡ flowOf t row after .held
+  pub held-length : length (heldBy t r after s) ≡ flowOf t r after .held
   held-length =
       let k = call.flow-there t p s a in
-      let roomy = place-roomy s row (flowTo t row after) (a .large) (a .found) k in
-      length-part (s .holding) (placeOf row (flowTo t row after)) (flowOf t row after .held)
-      (omega (arith, roomy .place-inside, held-fits t row (flowTo t row after) (a .whole) (a .found) k))
+      let roomy = place-roomy s r (flowTo t r after) (a .large) (a .found) k in
+      length-part (s .holding) (placeOf r (flowTo t r after)) (flowOf t r after .held)
+      (omega (arith, roomy .place-inside, held-fits t r (flowTo t r after) (a .whole) (a .found) k))
 
-  pub held-none : isDmpt (termsAt t row .kind) ≡ true → heldBy t row after s ≡ []
+  pub held-none : isDmpt (termsAt t r .kind) ≡ true → heldBy t r after s ≡ []
   held-none d =
-      ap (part (s .holding) (placeOf row (flowTo t row after))) (dmpt-bare t row (flowTo t row after) (a .whole) (a .found) (call.flow-there t p s a) d)
-      ∙ part-none (s .holding) (placeOf row (flowTo t row after))
+      ap (part (s .holding) (placeOf r (flowTo t r after))) (dmpt-bare t r (flowTo t r after) (a .whole) (a .found) (call.flow-there t p s a) d)
+      ∙ part-none (s .holding) (placeOf r (flowTo t r after))
 
-  pub accepted-bounded : Bounded (termsAt t row .longest) (flowOf t row after .held + bodyBytes (termsAt t row .kind) after) (heardBy t row after s .fate)
+  pub accepted-bounded : Bounded (termsAt t r .longest) (flowOf t r after .held + bodyBytes (termsAt t r .kind) after) (heardBy t r after s .fate)
   unfolding hear
   accepted-bounded =
       let k = call.flow-there t p s a in
-      let few = held-fits t row (flowTo t row after) (a .whole) (a .found) k in
-      let b = fate-bounded (termsAt t row) (judgedOf (flowOf t row after) after .gap) (heldBy t row after s) after (a .passed)
+      let few = held-fits t r (flowTo t r after) (a .whole) (a .found) k in
+      let b = fate-bounded (termsAt t r) (judgedOf (flowOf t r after) after .gap) (heldBy t r after s) after (a .passed)
       (omega (arith, held-length, few)) (omega arith) held-none (call.sub-short t p s a) in
       record { all = omega (arith, b .all, held-length); bytes-few = omega (arith, b .bytes-few, held-length); frames-few = b .frames-few; held-few = b .held-few }
 

@@ -60,19 +60,19 @@ module _ (t : Table) (p : Packet) (small : Bool) where
           let stops = first-stopped (beforeSession p) unopened (λ z. some (judged ∙ z)) in
           not-found early found (simp (large, whole) (judged ∙ sym stops)) some e
 
-      module _ (passed : early ≡ 0) (id row : ℕ) (session : id ≡ sessionId p) (sought : row ≡ find t id) where
-        row-is : row ≡ rowOf t p
+      module _ (passed : early ≡ 0) (id r : ℕ) (session : id ≡ sessionId p) (sought : r ≡ find t id) where
+        row-is : r ≡ rowOf t p
         row-is = sought ∙ ap (find t) session
 
         by-session : first (seekRefusals t p small) ≡ first unopened
         by-session = simp (large, whole) (first-passed (beforeSession p) unopened refl (sym judged ∙ passed))
 
-        pub seek-closed : (found : Found) → rows ≤ row → found ≡ notFound 5 → Seeks t p small found
+        pub seek-closed : (found : Found) → rows ≤ r → found ≡ notFound 5 → Seeks t p small found
         seek-closed found none e =
             let shut = le-ltb (rowOf t p) rows (omega (arith, row-is)) in
             not-found 5 found (rw by-session (simp shut)) (λ z. omega arith) e
 
-        pub seek-there : row < rows → Seeks t p small (record { code = 0; row = row })
+        pub seek-there : r < rows → Seeks t p small (record { code = 0; row = r })
         seek-there there =
             let live = lt-ltb (rowOf t p) rows (omega (arith, row-is)) in
             record { its-number = sym (by-session ∙ simp live); its-row = λ z. row-is; in-table = there }

@@ -28,7 +28,7 @@ use Rattle.card.proofs.Limits.{accepted-bounded}
 -- six rows of four flows, as the code's tables are by their type
 pub record Shaped (t : Table) : Type 0 where
   pub six : length (t .rows) ≡ rows
-  pub four : (i : ℕ) → i < rows → length (rowAt t i .flows) ≡ flows
+  pub four : (r : ℕ) → r < rows → length (rowAt t r .flows) ≡ flows
 
 -- the frames that the caller finds
 abbrev pub framesIn : Outcome → List (List ℕ)
@@ -52,13 +52,13 @@ pub record StepOf (r k : ℕ) (h : Heard) (t : Table) (s : Slices) (o : Outcome)
   pub its-session : (rowAt (o .answer .table) r .id ≡ rowAt t r .id) × (rowAt (o .answer .table) r .kind ≡ rowAt t r .kind)
       × (termsAt (o .answer .table) r ≡ termsAt t r)
   pub other-flows : (j : ℕ) → (j ≡ k → ⊥) → flowAt (rowAt (o .answer .table) r) j ≡ flowAt (rowAt t r) j
-  pub other-rows : (i : ℕ) → (i ≡ r → ⊥) → rowAt (o .answer .table) i ≡ rowAt t i
+  pub other-rows : (r′ : ℕ) → (r′ ≡ r → ⊥) → rowAt (o .answer .table) r′ ≡ rowAt t r′
   pub same-shape : Shaped (o .answer .table)
   -- the holding slice
   pub its-place : part (o .slices .holding) (placeOf r k) (length (h .fate .held)) ≡ h .fate .held
   pub other-bytes : (i : ℕ) → (i < placeOf r k) ⊎ (placeOf r k + length (h .fate .held) ≤ i) → byteAt (o .slices .holding) i ≡ byteAt (s .holding) i
-  pub other-places : (i j n : ℕ) → i < rows → j < flows → (i ≡ r → j ≡ k → ⊥) → n ≤ longest →
-      part (o .slices .holding) (placeOf i j) n ≡ part (s .holding) (placeOf i j) n
+  pub other-places : (r′ j n : ℕ) → r′ < rows → j < flows → (r′ ≡ r → j ≡ k → ⊥) → n ≤ longest →
+      part (o .slices .holding) (placeOf r′ j) n ≡ part (s .holding) (placeOf r′ j) n
   -- what comes out
   pub frames-found : framesIn o ≡ h .fate .delivered
   pub output-behind : (i : ℕ) → length (joined (h .fate .delivered)) ≤ i → byteAt (o .slices .output) i ≡ byteAt (s .output) i
@@ -80,8 +80,8 @@ module _ (r k : ℕ) (h : Heard) (t : Table) (s : Slices) (shaped : Shaped t) (t
   done = carriedOut r k h t s
 
   -- the number of a place tells its row and its flow
-  numbers-apart : (i j : ℕ) → j < flows → (i ≡ r → j ≡ k → ⊥) → flows * i + j ≡ flows * r + k → ⊥
-  numbers-apart i j o other e = other (omega arith) (omega arith)
+  numbers-apart : (r′ j : ℕ) → j < flows → (r′ ≡ r → j ≡ k → ⊥) → flows * r′ + j ≡ flows * r + k → ⊥
+  numbers-apart r′ j o other e = other (omega arith) (omega arith)
 
   place-room : placeOf r k + length (h .fate .held) ≤ length (s .holding)
   place-room = omega (arith, large .holding-enough)
@@ -97,14 +97,14 @@ module _ (r k : ℕ) (h : Heard) (t : Table) (s : Slices) (shaped : Shaped t) (t
   shape-kept =
       record {
         six = length-set (t .rows) r _ ∙ shaped .six;
-        four = λ i l. four-at i l (true-or-false (eqb i r));
+        four = λ r′ l. four-at r′ l (true-or-false (eqb r′ r));
       }
     where
-      four-at : (i : ℕ) → i < rows → (eqb i r ≡ true) ⊎ (eqb i r ≡ false) → length (rowAt (done .answer .table) i .flows) ≡ flows
-      four-at i l (inl e) =
-          rw (eqb-true i r e, getD-set-same (t .rows) r (rowWith (rowAt t r) k (recordAfter h)) noRow (omega (arith, shaped .six)))
+      four-at : (r′ : ℕ) → r′ < rows → (eqb r′ r ≡ true) ⊎ (eqb r′ r ≡ false) → length (rowAt (done .answer .table) r′ .flows) ≡ flows
+      four-at r′ l (inl e) =
+          rw (eqb-true r′ r e, getD-set-same (t .rows) r (rowWith (rowAt t r) k (recordAfter h)) noRow (omega (arith, shaped .six)))
           (length-set (rowAt t r .flows) k (recordAfter h) ∙ shaped .four r there)
-      four-at i l (inr e) = rw (getD-set-other (t .rows) r i _ noRow (eqb-false i r e)) (shaped .four i l)
+      four-at r′ l (inr e) = rw (getD-set-other (t .rows) r r′ _ noRow (eqb-false r′ r e)) (shaped .four r′ l)
 
   row-there : rowAt (done .answer .table) r ≡ rowWith (rowAt t r) k (recordAfter h)
   unfolding carriedOut
@@ -131,13 +131,13 @@ module _ (r k : ℕ) (h : Heard) (t : Table) (s : Slices) (shaped : Shaped t) (t
         its-record = rw row-there (getD-set-same (rowAt t r .flows) k (recordAfter h) _ (omega (arith, shaped .four r there)));
         its-session = rw row-there (refl, refl, refl);
         other-flows = λ j other. rw row-there (getD-set-other (rowAt t r .flows) k j (recordAfter h) _ other);
-        other-rows = λ i other. getD-set-other (t .rows) r i _ _ other;
+        other-rows = λ r′ other. getD-set-other (t .rows) r r′ _ _ other;
         same-shape = shape-kept;
         its-place = part-put (s .holding) (placeOf r k) (h .fate .held) place-room;
         other-bytes = λ i apart. byte-put (s .holding) (placeOf r k) (h .fate .held) i place-room apart;
-        other-places = λ i j m l o other size.
-            part-put-apart (s .holding) (placeOf r k) (h .fate .held) (placeOf i j) m place-room (omega (arith, large .holding-enough))
-            (places-apart (flows * i + j) (flows * r + k) m (length (h .fate .held)) (numbers-apart i j o other) size few);
+        other-places = λ r′ j m l o other size.
+            part-put-apart (s .holding) (placeOf r k) (h .fate .held) (placeOf r′ j) m place-room (omega (arith, large .holding-enough))
+            (places-apart (flows * r′ + j) (flows * r + k) m (length (h .fate .held)) (numbers-apart r′ j o other) size few);
         frames-found = found;
         output-behind = λ i behind. byte-put (s .output) 0 (joined (h .fate .delivered)) i output-room (inr (omega arith));
         lengths-behind = λ i behind. byte-put (s .lengths) 0 (lengthsOf (h .fate .delivered)) i lengths-room (inr (omega (arith, n)));

@@ -21,15 +21,15 @@ use Rattle.promises.proofs.Holdings.{inPlaces, places-keep, inTable, mi
 use Rattle.promises.proofs.OneCall.{droppedIn, call-balances}
 
 module _ (m : List ℕ → ℕ) (is : Measure m) where
-  row-measured : (c : Card) (i : ℕ) → m (bytesOfRow c i) ≡ keptInRow (inPlaces m) c i
-  row-measured c i = measure-up-to m is (λ k. part (c .holding) (placeOf i k) (flowAt (rowAt (c .table) i) k .held)) flows
+  row-measured : (c : Card) (r : ℕ) → m (bytesOfRow c r) ≡ keptInRow (inPlaces m) c r
+  row-measured c r = measure-up-to m is (λ k. part (c .holding) (placeOf r k) (flowAt (rowAt (c .table) r) k .held)) flows
 
   held-measured : (c : Card) → m (bytesHeld c) ≡ keptInAll (inPlaces m) c
-  held-measured c = measure-up-to m is (bytesOfRow c) rows ∙ sum-agree (λ i. m (bytesOfRow c i)) (keptInRow (inPlaces m) c) rows (λ i l. row-measured c i)
+  held-measured c = measure-up-to m is (bytesOfRow c) rows ∙ sum-agree (λ r. m (bytesOfRow c r)) (keptInRow (inPlaces m) c) rows (λ r l. row-measured c r)
 
-  dropped-by : (accepts : Bool) (c : Card) (i : ℕ) → m (cond accepts (bytesOfRow c i) []) ≡ cond accepts (keptInRow (inPlaces m) c i) 0
-  dropped-by true c i = row-measured c i
-  dropped-by false c i = is .none
+  dropped-by : (accepts : Bool) (c : Card) (r : ℕ) → m (cond accepts (bytesOfRow c r) []) ≡ cond accepts (keptInRow (inPlaces m) c r) 0
+  dropped-by true c r = row-measured c r
+  dropped-by false c r = is .none
 
   pub dropped-measured : (c : Card) (x : Call) → m (droppedBy c x) ≡ droppedIn m (inPlaces m) c x
   dropped-measured c (opens q) = is .none
@@ -71,17 +71,17 @@ none-missing c [] good none = none
 none-missing c (x ∷ more) good none =
     none-missing (after c x) more (good-after c x good) (omega (arith, call-balances missing-keeps c good x, none))
 
-there-and-missing : (c : Card) (i : ℕ) → keptInRow (inPlaces length) c i + keptInRow missing c i ≡ keptInRow inTable c i
-there-and-missing c i =
-    sum-both (keptAt (inPlaces length) c i) (keptAt missing c i) (keptAt inTable c i) flows
-    (λ k o. omega (arith, part-short (c .holding) (placeOf i k) (flowAt (rowAt (c .table) i) k .held)))
+there-and-missing : (c : Card) (r : ℕ) → keptInRow (inPlaces length) c r + keptInRow missing c r ≡ keptInRow inTable c r
+there-and-missing c r =
+    sum-both (keptAt (inPlaces length) c r) (keptAt missing c r) (keptAt inTable c r) flows
+    (λ k o. omega (arith, part-short (c .holding) (placeOf r k) (flowAt (rowAt (c .table) r) k .held)))
 
 pub none-missing-at : (holding : List ℕ) (calls : List Call) → keptInAll missing (afterAll (emptyCard holding) calls) ≡ 0
 none-missing-at holding calls = none-missing (emptyCard holding) calls (good-empty holding) (empty-keeps missing-keeps holding)
 
 -- so each row's places have what the table says
-pub row-holds : (c : Card) (i : ℕ) → i < rows → keptInAll missing c ≡ 0 → keptInRow (inPlaces length) c i ≡ keptInRow inTable c i
-row-holds c i l none = omega (arith, there-and-missing c i, sum-within (keptInRow missing c) i rows l)
+pub row-holds : (c : Card) (r : ℕ) → r < rows → keptInAll missing c ≡ 0 → keptInRow (inPlaces length) c r ≡ keptInRow inTable c r
+row-holds c r l none = omega (arith, there-and-missing c r, sum-within (keptInRow missing c) r rows l)
 
 pub places-hold : (holding : List ℕ) (calls : List Call) →
     length (bytesHeld (afterAll (emptyCard holding) calls)) ≡ heldInAll ((afterAll (emptyCard holding) calls) .table)
@@ -90,6 +90,6 @@ places-hold holding calls =
     omega (
       arith,
       held-measured length by-length c,
-      sum-both (keptInRow (inPlaces length) c) (keptInRow missing c) (keptInRow inTable c) rows (λ i l. there-and-missing c i),
+      sum-both (keptInRow (inPlaces length) c) (keptInRow missing c) (keptInRow inTable c) rows (λ r l. there-and-missing c r),
       none-missing-at holding calls,
     )

@@ -33,19 +33,19 @@ pub record Good (c : Card) : Type 0 where
   pub whole : broken (c .table) ≡ false
 
 -- a row of four flows put into a table of six rows
-row-shaped : (t : Table) (i : ℕ) (row : Row) → Shaped t → length (row .flows) ≡ flows → Shaped (withRow t i row)
-row-shaped t i row s four =
+row-shaped : (t : Table) (r : ℕ) (row : Row) → Shaped t → length (row .flows) ≡ flows → Shaped (withRow t r row)
+row-shaped t r row s four =
     record {
-      six = length-set (t .rows) i row ∙ s .six;
-      four = λ j l. at j l (true-or-false (eqb j i));
+      six = length-set (t .rows) r row ∙ s .six;
+      four = λ r′ l. at r′ l (true-or-false (eqb r′ r));
     }
   where
-    at : (j : ℕ) → j < rows → (eqb j i ≡ true) ⊎ (eqb j i ≡ false) → length (rowAt (withRow t i row) j .flows) ≡ flows
-    at j l (inl e) =
-        let here = eqb-true j i e in
-        let there : i < length (t .rows) = omega (arith, s .six) in
-        rw (here, getD-set-same (t .rows) i row noRow there) four
-    at j l (inr e) = rw (getD-set-other (t .rows) i j row noRow (eqb-false j i e)) (s .four j l)
+    at : (r′ : ℕ) → r′ < rows → (eqb r′ r ≡ true) ⊎ (eqb r′ r ≡ false) → length (rowAt (withRow t r row) r′ .flows) ≡ flows
+    at r′ l (inl e) =
+        let here = eqb-true r′ r e in
+        let there : r < length (t .rows) = omega (arith, s .six) in
+        rw (here, getD-set-same (t .rows) r row noRow there) four
+    at r′ l (inr e) = rw (getD-set-other (t .rows) r r′ row noRow (eqb-false r′ r e)) (s .four r′ l)
 
 -- The table, call by call.
 opened-shaped : (c : ℕ) (t : Table) (q : Request) → Shaped t → Shaped (openedBy c t q .table)
@@ -71,7 +71,7 @@ module _ (t : Table) (packet : Packet) (s : Slices) (shaped : Shaped t) where
 pub good-empty : (holding : List ℕ) → Good (emptyCard holding)
 good-empty holding =
     record {
-      shaped = record { six = refl; four = λ i l. ap (λ (row : Row). length (row .flows)) (getD-replicate rows i closedRow noRow l) };
+      shaped = record { six = refl; four = λ r l. ap (λ (row : Row). length (row .flows)) (getD-replicate rows r closedRow noRow l) };
       whole = empty-unbroken;
     }
 

@@ -69,23 +69,23 @@ missing-keeps =
 module _ (kept : List ℕ → ℕ → Flow → ℕ) where
   -- a flow, a row, all rows
   abbrev pub keptAt : Card → ℕ → ℕ → ℕ
-  keptAt c i k = kept (c .holding) (placeOf i k) (flowAt (rowAt (c .table) i) k)
+  keptAt c r k = kept (c .holding) (placeOf r k) (flowAt (rowAt (c .table) r) k)
 
   abbrev pub keptInRow : Card → ℕ → ℕ
-  keptInRow c i = sumTo (keptAt c i) flows
+  keptInRow c r = sumTo (keptAt c r) flows
 
   abbrev pub keptInAll : Card → ℕ
   keptInAll c = sumTo (keptInRow c) rows
 
   -- one flow of one row replaced: all that was kept, but for that flow
   pub flow-replaced : (c new : Card) (r k : ℕ) → r < rows → k < flows →
-      ((i j : ℕ) → i < rows → j < flows → (i ≡ r → j ≡ k → ⊥) → keptAt new i j ≡ keptAt c i j) →
+      ((r′ j : ℕ) → r′ < rows → j < flows → (r′ ≡ r → j ≡ k → ⊥) → keptAt new r′ j ≡ keptAt c r′ j) →
       keptInAll new + keptAt c r k ≡ keptInAll c + keptAt new r k
   flow-replaced c new r k there inside others =
       omega (
         arith,
         sum-but-one (keptInRow c) (keptInRow new) r rows there
-            (λ i l other. sum-agree (keptAt new i) (keptAt c i) flows (λ j o. others i j l o (λ e d. other e))),
+            (λ r′ l other. sum-agree (keptAt new r′) (keptAt c r′) flows (λ j o. others r′ j l o (λ e d. other e))),
         sum-but-one (keptAt c r) (keptAt new r) k flows inside (λ j o other. others r j there o (λ e d. other d)),
       )
 
@@ -98,8 +98,8 @@ pub fresh-bare : Bare closedRow
 fresh-bare k l = ap (λ (f : Flow). f .held) (getD-replicate flows k fresh fresh l)
 
 module _ {m : List ℕ → ℕ} {kept : List ℕ → ℕ → Flow → ℕ} (w : Keeps m kept) where
-  pub bare-row : (c : Card) (i : ℕ) → Bare (rowAt (c .table) i) → keptInRow kept c i ≡ 0
-  bare-row c i bare = sum-zero (keptAt kept c i) flows (λ k l. w .nothing (c .holding) (placeOf i k) (flowAt (rowAt (c .table) i) k) (bare k l))
+  pub bare-row : (c : Card) (r : ℕ) → Bare (rowAt (c .table) r) → keptInRow kept c r ≡ 0
+  bare-row c r bare = sum-zero (keptAt kept c r) flows (λ k l. w .nothing (c .holding) (placeOf r k) (flowAt (rowAt (c .table) r) k) (bare k l))
 
   -- a row replaced by one that holds nothing: all that was kept, but for that row
   pub row-replaced : (c : Card) (r : ℕ) (row : Row) → Shaped (c .table) → r < rows → Bare row →
@@ -112,14 +112,14 @@ module _ {m : List ℕ → ℕ} {kept : List ℕ → ℕ → Flow → ℕ} (w : 
         arith,
         none,
         sum-but-one (keptInRow kept c) (keptInRow kept new) r rows there
-            (λ i l other.
-            ap (λ (x : Row). sumTo (λ k. kept (c .holding) (placeOf i k) (flowAt x k)) flows) (getD-set-other (c .table .rows) r i row noRow other)),
+            (λ r′ l other.
+            ap (λ (x : Row). sumTo (λ k. kept (c .holding) (placeOf r′ k) (flowAt x k)) flows) (getD-set-other (c .table .rows) r r′ row noRow other)),
       )
 
 -- an empty table keeps nothing
 pub empty-keeps : {m : List ℕ → ℕ} {kept : List ℕ → ℕ → Flow → ℕ} → Keeps m kept → (holding : List ℕ) → keptInAll kept (emptyCard holding) ≡ 0
 empty-keeps {m} {kept} w holding =
     sum-zero (keptInRow kept (emptyCard holding)) rows
-    (λ i l.
-    bare-row w (emptyCard holding) i
-    (rw (getD-replicate rows i closedRow noRow l) fresh-bare))
+    (λ r l.
+    bare-row w (emptyCard holding) r
+    (rw (getD-replicate rows r closedRow noRow l) fresh-bare))

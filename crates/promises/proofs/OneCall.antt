@@ -82,14 +82,14 @@ module _ {m : List ℕ → ℕ} {kept : List ℕ → ℕ → Flow → ℕ} (w : 
     abbrev outcome : Outcome
     outcome = handed c a
 
-    abbrev row : ℕ
-    row = rowOf (c .table) packet
+    abbrev r : ℕ
+    r = rowOf (c .table) packet
 
     abbrev body : List ℕ
-    body = packetBody (termsAt (c .table) row .kind) (sub packet)
+    body = packetBody (termsAt (c .table) r .kind) (sub packet)
 
     abbrev fate : Fate
-    fate = heardBy (c .table) row (sub packet) (lentWith c a) .fate
+    fate = heardBy (c .table) r (sub packet) (lentWith c a) .fate
 
     hands-by : (n : ℕ) → outcome .answer .code ≡ n → Balances m kept c (hands a)
     unfolding answer after refused

@@ -45,57 +45,57 @@ module _ {m : List ℕ → ℕ} {kept : List ℕ → ℕ → Flow → ℕ} (w : 
   abbrev behind : List ℕ
   behind = sub packet
 
-  abbrev row : ℕ
-  row = rowOf (c .table) packet
+  abbrev r : ℕ
+  r = rowOf (c .table) packet
 
   abbrev flow : ℕ
-  flow = flowTo (c .table) row behind
+  flow = flowTo (c .table) r behind
 
   abbrev held : List ℕ
-  held = heldBy (c .table) row behind slices
+  held = heldBy (c .table) r behind slices
 
   abbrev heard : Heard
-  heard = heardBy (c .table) row behind slices
+  heard = heardBy (c .table) r behind slices
 
   module _ (z : outcome .answer .code ≡ 0) where
     passed : Accepted (c .table) packet slices
     passed = accepted (c .table) packet slices z
 
-    step : StepOf row flow heard (c .table) slices outcome
+    step : StepOf r flow heard (c .table) slices outcome
     step = one-flow-step (c .table) packet slices (good .shaped) z
 
     inside : flow < flows
     inside = flow-there (c .table) packet slices passed
 
     -- every other flow keeps what it kept
-    record-stays : (i j : ℕ) → (i ≡ row → j ≡ flow → ⊥) → (eqb i row ≡ true) ⊎ (eqb i row ≡ false) →
-        flowAt (rowAt (outcome .answer .table) i) j ≡ flowAt (rowAt (c .table) i) j
-    record-stays i j other (inl e) = let here = eqb-true i row e in rw here (step .other-flows j (other here))
-    record-stays i j other (inr e) = ap (λ (r : Row). flowAt r j) (step .other-rows i (eqb-false i row e))
+    record-stays : (r′ j : ℕ) → (r′ ≡ r → j ≡ flow → ⊥) → (eqb r′ r ≡ true) ⊎ (eqb r′ r ≡ false) →
+        flowAt (rowAt (outcome .answer .table) r′) j ≡ flowAt (rowAt (c .table) r′) j
+    record-stays r′ j other (inl e) = let here = eqb-true r′ r e in rw here (step .other-flows j (other here))
+    record-stays r′ j other (inr e) = ap (λ (row : Row). flowAt row j) (step .other-rows r′ (eqb-false r′ r e))
 
-    others-stay : (i j : ℕ) → i < rows → j < flows → (i ≡ row → j ≡ flow → ⊥) → keptAt kept afterwards i j ≡ keptAt kept c i j
-    others-stay i j l o other =
-        let f = flowAt (rowAt (c .table) i) j in
-        ap (kept (outcome .slices .holding) (placeOf i j)) (record-stays i j other (true-or-false (eqb i row)))
-        ∙ w .untouched (c .holding) (outcome .slices .holding) (placeOf i j) f
-        (step .other-places i j (f .held) l o other (flows-whole (c .table) (good .whole) i j l o .fits))
+    others-stay : (r′ j : ℕ) → r′ < rows → j < flows → (r′ ≡ r → j ≡ flow → ⊥) → keptAt kept afterwards r′ j ≡ keptAt kept c r′ j
+    others-stay r′ j l o other =
+        let f = flowAt (rowAt (c .table) r′) j in
+        ap (kept (outcome .slices .holding) (placeOf r′ j)) (record-stays r′ j other (true-or-false (eqb r′ r)))
+        ∙ w .untouched (c .holding) (outcome .slices .holding) (placeOf r′ j) f
+        (step .other-places r′ j (f .held) l o other (flows-whole (c .table) (good .whole) r′ j l o .fits))
 
     -- what its own flow keeps, before and afterwards
-    kept-before : keptAt kept c row flow ≡ m held
+    kept-before : keptAt kept c r flow ≡ m held
     kept-before =
-        w .inside (c .holding) (placeOf row flow) (flowOf (c .table) row behind)
+        w .inside (c .holding) (placeOf r flow) (flowOf (c .table) r behind)
         (omega (
           arith,
           large-enough slices (passed .large) .holding-enough,
           passed .found,
           inside,
-          flows-whole (c .table) (good .whole) row flow (passed .found) inside .fits,
+          flows-whole (c .table) (good .whole) r flow (passed .found) inside .fits,
         ))
 
-    kept-now : keptAt kept afterwards row flow ≡ m (heard .fate .held)
+    kept-now : keptAt kept afterwards r flow ≡ m (heard .fate .held)
     kept-now =
-        ap (kept (outcome .slices .holding) (placeOf row flow)) (step .its-record)
-        ∙ w .inside (outcome .slices .holding) (placeOf row flow) (recordAfter heard)
+        ap (kept (outcome .slices .holding) (placeOf r flow)) (step .its-record)
+        ∙ w .inside (outcome .slices .holding) (placeOf r flow) (recordAfter heard)
         (omega (
           arith,
           large-enough slices (passed .large) .holding-enough,
@@ -106,17 +106,17 @@ module _ {m : List ℕ → ℕ} {kept : List ℕ → ℕ → Flow → ℕ} (w : 
         ))
         ∙ ap m (step .its-place)
 
-    told : tells m (heard .fate) ≡ m held + m (packetBody (termsAt (c .table) row .kind) behind)
+    told : tells m (heard .fate) ≡ m held + m (packetBody (termsAt (c .table) r .kind) behind)
     told =
-        heard-tells m (w .measure) (termsAt (c .table) row) (flowOf (c .table) row behind) held behind
+        heard-tells m (w .measure) (termsAt (c .table) r) (flowOf (c .table) r behind) held behind
 
-    pub packet-balances : m (packetBody (termsAt (c .table) row .kind) behind) + keptInAll kept c
+    pub packet-balances : m (packetBody (termsAt (c .table) r .kind) behind) + keptInAll kept c
         ≡ m (joined (framesIn outcome)) + m (heard .fate .dropped) + keptInAll kept afterwards
     packet-balances =
         omega (
           arith,
           ap (λ (l : List (List ℕ)). m (joined l)) (step .frames-found),
-          flow-replaced kept c afterwards row flow (passed .found) inside others-stay,
+          flow-replaced kept c afterwards r flow (passed .found) inside others-stay,
           kept-before,
           kept-now,
           told,

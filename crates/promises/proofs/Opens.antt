@@ -19,10 +19,10 @@ use Rattle.table.specs.Calls.{isOpen, openRefusals, opened}
 use Rattle.table.proofs.Keeping.{rows-apart, opened-code}
 use Rattle.promises.proofs.Distinct.{has, Distinct, same-length}
 
--- the IDs of the open rows below row n, the last one first
+-- the IDs of the open rows below row r, the last one first
 abbrev pub openIds : Table → ℕ → List ℕ
 openIds t zero = []
-openIds t (suc n) = cond (freeIn t n) (openIds t n) (rowAt t n .id ∷ openIds t n)
+openIds t (suc r) = cond (freeIn t r) (openIds t r) (rowAt t r .id ∷ openIds t r)
 
 -- An ID is among them exactly where it is open in one of these rows.
 ids-more : (free : Bool) (id i : ℕ) (ids : List ℕ) (before : Bool) → has i ids ≡ before →
@@ -30,10 +30,10 @@ ids-more : (free : Bool) (id i : ℕ) (ids : List ℕ) (before : Bool) → has i
 ids-more true id i ids before e = e ∙ sym (or-false before)
 ids-more false id i ids before e = ap (λ (b : Bool). eqb id i || b) e ∙ or-comm (eqb id i) before
 
-has-open : (t : Table) (i n : ℕ) → has i (openIds t n) ≡ any (openIn t i) n
+has-open : (t : Table) (i r : ℕ) → has i (openIds t r) ≡ any (openIn t i) r
 unfolding any
 has-open t i zero = refl
-has-open t i (suc n) = ids-more (freeIn t n) (rowAt t n .id) i (openIds t n) (any (openIn t i) n) (has-open t i n)
+has-open t i (suc r) = ids-more (freeIn t r) (rowAt t r .id) i (openIds t r) (any (openIn t i) r) (has-open t i r)
 
 pub open-has : (t : Table) (i : ℕ) → isOpen t i ≡ has i (openIds t rows)
 open-has t i = least-found (openIn t i) rows ∙ sym (has-open t i rows)
@@ -44,40 +44,40 @@ not-twice true b e live h = refl
 not-twice false true e live h = absurd (true≢false live)
 not-twice false false e live h = h
 
-new-id : (t : Table) → broken t ≡ false → (n : ℕ) → n < rows → freeIn t n ≡ false → has (rowAt t n .id) (openIds t n) ≡ false
-new-id t whole n l live =
-    has-open t (rowAt t n .id) n
-    ∙ none-all (openIn t (rowAt t n .id)) n
-    (λ j m.
-    not-twice (isClosed (rowAt t j .kind)) (isClosed (rowAt t n .kind)) (eqb (rowAt t j .id) (rowAt t n .id)) live
-    (rows-apart t whole j n (omega arith) l (λ e. omega arith)))
+new-id : (t : Table) → broken t ≡ false → (r : ℕ) → r < rows → freeIn t r ≡ false → has (rowAt t r .id) (openIds t r) ≡ false
+new-id t whole r l live =
+    has-open t (rowAt t r .id) r
+    ∙ none-all (openIn t (rowAt t r .id)) r
+    (λ r′ m.
+    not-twice (isClosed (rowAt t r′ .kind)) (isClosed (rowAt t r .kind)) (eqb (rowAt t r′ .id) (rowAt t r .id)) live
+    (rows-apart t whole r′ r (omega arith) l (λ e. omega arith)))
 
-ids-distinct : (t : Table) → broken t ≡ false → (n : ℕ) → n ≤ rows → Distinct (openIds t n)
+ids-distinct : (t : Table) → broken t ≡ false → (r : ℕ) → r ≤ rows → Distinct (openIds t r)
 ids-distinct t whole zero l = tt
-ids-distinct t whole (suc n) l = pick (freeIn t n) refl (ids-distinct t whole n (omega arith))
+ids-distinct t whole (suc r) l = pick (freeIn t r) refl (ids-distinct t whole r (omega arith))
   where
-    pick : (free : Bool) → freeIn t n ≡ free → Distinct (openIds t n) → Distinct (cond free (openIds t n) (rowAt t n .id ∷ openIds t n))
+    pick : (free : Bool) → freeIn t r ≡ free → Distinct (openIds t r) → Distinct (cond free (openIds t r) (rowAt t r .id ∷ openIds t r))
     pick true e below = below
-    pick false e below = (new-id t whole n (omega arith) e, below)
+    pick false e below = (new-id t whole r (omega arith) e, below)
 
 -- There is a free row exactly where they are fewer than the rows.
-ids-few : (t : Table) (n : ℕ) → length (openIds t n) ≤ n
+ids-few : (t : Table) (r : ℕ) → length (openIds t r) ≤ r
 ids-few t zero = omega arith
-ids-few t (suc n) = pick (freeIn t n) (ids-few t n)
+ids-few t (suc r) = pick (freeIn t r) (ids-few t r)
   where
-    pick : (free : Bool) → length (openIds t n) ≤ n → length (cond free (openIds t n) (rowAt t n .id ∷ openIds t n)) ≤ suc n
+    pick : (free : Bool) → length (openIds t r) ≤ r → length (cond free (openIds t r) (rowAt t r .id ∷ openIds t r)) ≤ suc r
     pick true few = omega arith
     pick false few = omega arith
 
-free-count : (t : Table) (n : ℕ) → any (freeIn t) n ≡ ltb (length (openIds t n)) n
+free-count : (t : Table) (r : ℕ) → any (freeIn t) r ≡ ltb (length (openIds t r)) r
 unfolding any
 free-count t zero = refl
-free-count t (suc n) = pick (freeIn t n) (free-count t n)
+free-count t (suc r) = pick (freeIn t r) (free-count t r)
   where
-    pick : (free : Bool) → any (freeIn t) n ≡ ltb (length (openIds t n)) n →
-        (any (freeIn t) n || free) ≡ ltb (length (cond free (openIds t n) (rowAt t n .id ∷ openIds t n))) (suc n)
-    pick true below = or-true (any (freeIn t) n) ∙ sym (lt-ltb (length (openIds t n)) (suc n) (omega (arith, ids-few t n)))
-    pick false below = or-false (any (freeIn t) n) ∙ below ∙ sym (leb·suc-suc (suc (length (openIds t n))) n)
+    pick : (free : Bool) → any (freeIn t) r ≡ ltb (length (openIds t r)) r →
+        (any (freeIn t) r || free) ≡ ltb (length (cond free (openIds t r) (rowAt t r .id ∷ openIds t r))) (suc r)
+    pick true below = or-true (any (freeIn t) r) ∙ sym (lt-ltb (length (openIds t r)) (suc r) (omega (arith, ids-few t r)))
+    pick false below = or-false (any (freeIn t) r) ∙ below ∙ sym (leb·suc-suc (suc (length (openIds t r))) r)
 
 full-count : (t : Table) → leb rows (lowestFree t) ≡ not (ltb (length (openIds t rows)) rows)
 full-count t = least-missed (freeIn t) rows ∙ ap not (free-count t rows)

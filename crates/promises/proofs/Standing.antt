@@ -36,7 +36,7 @@ pub record Stands (c : Card) (session flow : ℕ) (terms : Terms) (f : Flow) (he
 
 -- It stands as before where its session is found as before, and its row, record and bytes are as before.
 pub stands-by : (c d : Card) (session flow : ℕ) (terms : Terms) (f : Flow) (held : List ℕ) → Stands c session flow terms f held →
-    ((i : ℕ) → i < rows → openIn (d .table) session i ≡ openIn (c .table) session i) →
+    ((r : ℕ) → r < rows → openIn (d .table) session r ≡ openIn (c .table) session r) →
     (let r = find (c .table) session in
     (termsAt (d .table) r ≡ termsAt (c .table) r)
     × (flowAt (rowAt (d .table) r) flow ≡ flowAt (rowAt (c .table) r) flow)
@@ -61,29 +61,29 @@ found-id t session l =
     (and-right (not (isClosed (rowAt t (find t session) .kind))) (eqb (rowAt t (find t session) .id) session) (found-open t session l))
 
 -- a row replaced, seen from another
-other-row : (t : Table) (i : ℕ) (row : Row) (j : ℕ) → (j ≡ i → ⊥) → rowAt (withRow t i row) j ≡ rowAt t j
-other-row t i row j other = getD-set-other (t .rows) i j row noRow other
+other-row : (t : Table) (r : ℕ) (row : Row) (r′ : ℕ) → (r′ ≡ r → ⊥) → rowAt (withRow t r row) r′ ≡ rowAt t r′
+other-row t r row r′ other = getD-set-other (t .rows) r r′ row noRow other
 
 -- A row replaced in which the session was not open and is not open now.
-module _ (t : Table) (session i : ℕ) (row : Row) (six : length (t .rows) ≡ rows) (inside : i < rows)
-    (was-not : openIn t session i ≡ false) (is-not : (not (isClosed (row .kind)) && eqb (row .id) session) ≡ false) where
-  same-open : (j : ℕ) → j < rows → openIn (withRow t i row) session j ≡ openIn t session j
-  same-open j l = by (true-or-false (eqb j i))
+module _ (t : Table) (session r : ℕ) (row : Row) (six : length (t .rows) ≡ rows) (inside : r < rows)
+    (was-not : openIn t session r ≡ false) (is-not : (not (isClosed (row .kind)) && eqb (row .id) session) ≡ false) where
+  same-open : (r′ : ℕ) → r′ < rows → openIn (withRow t r row) session r′ ≡ openIn t session r′
+  same-open r′ l = by (true-or-false (eqb r′ r))
     where
-      by : (eqb j i ≡ true) ⊎ (eqb j i ≡ false) → openIn (withRow t i row) session j ≡ openIn t session j
+      by : (eqb r′ r ≡ true) ⊎ (eqb r′ r ≡ false) → openIn (withRow t r row) session r′ ≡ openIn t session r′
       by (inl e) =
-          rw (eqb-true j i e, getD-set-same (t .rows) i row noRow (omega (arith, six)), was-not) is-not
-      by (inr e) = rw (other-row t i row j (eqb-false j i e)) refl
+          rw (eqb-true r′ r e, getD-set-same (t .rows) r row noRow (omega (arith, six)), was-not) is-not
+      by (inr e) = rw (other-row t r row r′ (eqb-false r′ r e)) refl
 
-  not-its-row : find t session < rows → find t session ≡ i → ⊥
+  not-its-row : find t session < rows → find t session ≡ r → ⊥
   not-its-row l e = true≢false (sym (found-open t session l) ∙ ap (openIn t session) e ∙ was-not)
 
   -- so every flow of the session stands as it stood
   row-elsewhere : (holding : List ℕ) (flow : ℕ) (terms : Terms) (f : Flow) (held : List ℕ) →
-      Stands (record { table = t; holding = holding }) session flow terms f held → Stands (record { table = withRow t i row; holding = holding }) session flow terms f held
+      Stands (record { table = t; holding = holding }) session flow terms f held → Stands (record { table = withRow t r row; holding = holding }) session flow terms f held
   row-elsewhere holding flow terms f held s =
-      let there = other-row t i row (find t session) (not-its-row (s .is-there)) in
-      stands-by (record { table = t; holding = holding }) (record { table = withRow t i row; holding = holding }) session flow terms f held s same-open
+      let there = other-row t r row (find t session) (not-its-row (s .is-there)) in
+      stands-by (record { table = t; holding = holding }) (record { table = withRow t r row; holding = holding }) session flow terms f held s same-open
       (ap termsOf there, ap (λ (x : Row). flowAt x flow) there, refl)
 
 none-right : (a b : Bool) → b ≡ false → (a && b) ≡ false
@@ -94,8 +94,8 @@ none-right false b e = refl
 fresh-not : (q : Request) (session : ℕ) → (q .id ≡ session → ⊥) → (not (isClosed (freshRow q .kind)) && eqb (freshRow q .id) session) ≡ false
 fresh-not q session other = none-right (not (isClosed (freshRow q .kind))) (eqb (q .id) session) (ne-eqb (q .id) session other)
 
-free-not : (t : Table) (session i : ℕ) → freeIn t i ≡ true → openIn t session i ≡ false
-free-not t session i free = rw free refl
+free-not : (t : Table) (session r : ℕ) → freeIn t r ≡ true → openIn t session r ≡ false
+free-not t session r free = rw free refl
 
 pub open-stays : (c : Card) (q : Request) (session flow : ℕ) (terms : Terms) (f : Flow) (held : List ℕ) → Good c → Stands c session flow terms f held →
     opened (c .table) q .code ≡ 0 → Stands (after c (opensCall q)) session flow terms f held

@@ -54,7 +54,7 @@ is-of kind session flow p read id k =
 -- two sessions that are open in one row are one
 one-row : (t : Table) (a b : ℕ) → find t a < rows → find t b < rows → find t a ≡ find t b → a ≡ b
 one-row t a b l m e =
-    sym (found-id t a l) ∙ ap (λ (i : ℕ). rowAt t i .id) e ∙ found-id t b m
+    sym (found-id t a l) ∙ ap (λ (r : ℕ). rowAt t r .id) e ∙ found-id t b m
 
 -- an accepted packet of another flow
 module _ (c : Card) (a : Arrival) (g : Good c) (z : answer c (hands a) .code ≡ 0) where
@@ -77,18 +77,18 @@ module _ (c : Card) (a : Arrival) (g : Good c) (z : answer c (hands a) .code ≡
   abbrev d : Card
   d = after c (hands a)
 
-  same-id : (i : ℕ) → (rowAt (d .table) i .id ≡ rowAt (c .table) i .id) × (rowAt (d .table) i .kind ≡ rowAt (c .table) i .kind)
-      × (termsAt (d .table) i ≡ termsAt (c .table) i)
+  same-id : (r : ℕ) → (rowAt (d .table) r .id ≡ rowAt (c .table) r .id) × (rowAt (d .table) r .kind ≡ rowAt (c .table) r .kind)
+      × (termsAt (d .table) r ≡ termsAt (c .table) r)
   unfolding after
-  same-id i =
+  same-id r =
       ⊎-elim
-      (λ (e : eqb i its-row ≡ true). rw (eqb-true i its-row e) (step .its-session))
-      (λ (e : eqb i its-row ≡ false).
-      let there = step .other-rows i (eqb-false i its-row e) in (ap (λ (x : Row). x .id) there, ap (λ (x : Row). x .kind) there, ap termsOf there))
-      (true-or-false (eqb i its-row))
+      (λ (e : eqb r its-row ≡ true). rw (eqb-true r its-row e) (step .its-session))
+      (λ (e : eqb r its-row ≡ false).
+      let there = step .other-rows r (eqb-false r its-row e) in (ap (λ (x : Row). x .id) there, ap (λ (x : Row). x .kind) there, ap termsOf there))
+      (true-or-false (eqb r its-row))
 
-  same-sessions : (session i : ℕ) → openIn (d .table) session i ≡ openIn (c .table) session i
-  same-sessions session i = rw (same-id i .0, same-id i .1) refl
+  same-sessions : (session r : ℕ) → openIn (d .table) session r ≡ openIn (c .table) session r
+  same-sessions session r = rw (same-id r .0, same-id r .1) refl
 
   module _ (session flow : ℕ) (terms : Terms) (f : Flow) (held : List ℕ) (inside : flow < flows) (s : Stands c session flow terms f held) where
     abbrev r : ℕ
@@ -196,15 +196,15 @@ hands-code c a session flow terms f held g s of-it large early passed =
     let late = (judgedOf f behind) .late in
     let last : first (packetRefusals terms behind ++ (12 when late ∷ [])) ≡ cond late 12 0 =
     first-passed (packetRefusals terms behind) (12 when late ∷ []) (numbered-packet terms behind) passed in
-    let row = rowOf t (a .packet) in
-    let on : List Refusal = 5 when not (isOpen t (sessionId (a .packet))) ∷ flowRefusals t row behind in
+    let r = rowOf t (a .packet) in
+    let on : List Refusal = 5 when not (isOpen t (sessionId (a .packet))) ∷ flowRefusals t r behind in
     let none : first (earlyRefusals t (a .packet)) ≡ 0 = rw (g .whole) early in
     let order : first (dataRefusals t (a .packet) (lentWith c a)) ≡ first on =
     rw large (first-passed (earlyRefusals t (a .packet)) on refl none) in
     let live : isOpen t (sessionId (a .packet)) ≡ true = rw (id .0) there in
-    let on-terms : termsAt t row ≡ terms = rw (id .0) (s .of-terms) in
-    let its : flowOf t row behind ≡ f = rw (id .0, ap (λ (x : Terms). flowIn (x .kind) behind) (s .of-terms) ∙ id .1) (s .its-record) in
-    let passes : first (flowRefusals t row behind) ≡ cond late 12 0 =
-    ap (λ (x : Terms). first (packetRefusals x behind ++ (12 when (judgedOf (flowOf t row behind) behind) .late ∷ []))) on-terms ∙ rw its last in
+    let on-terms : termsAt t r ≡ terms = rw (id .0) (s .of-terms) in
+    let its : flowOf t r behind ≡ f = rw (id .0, ap (λ (x : Terms). flowIn (x .kind) behind) (s .of-terms) ∙ id .1) (s .its-record) in
+    let passes : first (flowRefusals t r behind) ≡ cond late 12 0 =
+    ap (λ (x : Terms). first (packetRefusals x behind ++ (12 when (judgedOf (flowOf t r behind) behind) .late ∷ []))) on-terms ∙ rw its last in
     let by-flow : first on ≡ cond late 12 0 = rw live passes in
     received-code t (a .packet) (lentWith c a) ∙ order ∙ by-flow

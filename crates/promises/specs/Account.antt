@@ -63,11 +63,11 @@ bytesDropped c x = (answer c x) .dropped
 
 -- what all rows together hold, as the table says
 abbrev pub heldInAll : Table → ℕ
-heldInAll t = sumTo (λ i. heldIn (rowAt t i)) rows
+heldInAll t = sumTo (λ r. heldIn (rowAt t r)) rows
 
 -- the bytes in the places of a row, and in those of all rows, as many of each as the table says
 abbrev pub bytesOfRow : Card → ℕ → List ℕ
-bytesOfRow c i = joined (upTo (λ k. part (c .holding) (placeOf i k) (flowAt (rowAt (c .table) i) k .held)) flows)
+bytesOfRow c r = joined (upTo (λ k. part (c .holding) (placeOf r k) (flowAt (rowAt (c .table) r) k .held)) flows)
 
 abbrev pub bytesHeld : Card → List ℕ
 bytesHeld c = joined (upTo (bytesOfRow c) rows)

@@ -28,4 +28,4 @@ WithinLimits = (c : Card) (x : Call) → InLimits c x
 pub record NeverBroken : Type 0 where
   pub unbroken : (calls : List Lent) → broken (tableAfterAll empty calls) ≡ false
   pub six-rows : (calls : List Lent) → length ((tableAfterAll empty calls) .rows) ≡ rows
-  pub four-flows : (calls : List Lent) (i : ℕ) → i < rows → length (rowAt (tableAfterAll empty calls) i .flows) ≡ flows
+  pub four-flows : (calls : List Lent) (r : ℕ) → r < rows → length (rowAt (tableAfterAll empty calls) r .flows) ≡ flows
