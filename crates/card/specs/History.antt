@@ -73,12 +73,12 @@ takesIn c a = eqb ((handed c a) .answer .code) 0
 
 -- one call: its answer, and the card afterwards
 unfoldable pub answer : Card → Call → Answer
-answer c (opens r) = plainAnswer ((opened (c .table) r) .code) 0
+answer c (opens q) = plainAnswer ((opened (c .table) q) .code) 0
 answer c (closes id) = plainAnswer ((closed (c .table) id) .code) ((closed (c .table) id) .dropped)
 answer c (hands a) = dataAnswer (handed c a)
 
 unfoldable pub after : Card → Call → Card
-after c (opens r) = record { table = (opened (c .table) r) .table; holding = c .holding }
+after c (opens q) = record { table = (opened (c .table) q) .table; holding = c .holding }
 after c (closes id) = record { table = (closed (c .table) id) .table; holding = c .holding }
 after c (hands a) = record { table = (handed c a) .answer .table; holding = (handed c a) .slices .holding }
 

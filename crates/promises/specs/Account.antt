@@ -26,7 +26,7 @@ packetBody kind sub = cond (isDmpt kind) (joined (mpegs sub)) (joined (map (λ (
 
 -- the body bytes that a call brings in: those of a packet that is accepted
 abbrev pub takenBy : Card → Call → List ℕ
-takenBy c (opens r) = []
+takenBy c (opens q) = []
 takenBy c (closes id) = []
 takenBy c (hands a) =
     cond (takesIn c a)
@@ -79,7 +79,7 @@ deliveredBy c x = joined (framesOf (answer c x))
 -- The bytes that a call drops. No slice shows them, so they are told by the rules: of an accepted packet by what its flow makes of it; a close drops what
 -- its row holds; an open, or a call that is refused, drops none.
 abbrev pub droppedBy : Card → Call → List ℕ
-droppedBy c (opens r) = []
+droppedBy c (opens q) = []
 droppedBy c (closes id) = cond (eqb ((answer c (closes id)) .code) 0) (bytesOfRow c (find (c .table) id)) []
 droppedBy c (hands a) =
     cond (takesIn c a)

@@ -22,7 +22,7 @@ pub data Own : Type 0 where
 -- those of a session, up to its close
 unfoldable pub own : ℕ → List Call → List Own
 own session [] = []
-own session (opens r ∷ more) = own session more
+own session (opens q ∷ more) = own session more
 own session (closes id ∷ more) = cond (eqb id session) (ends ∷ []) (own session more)
 own session (hands a ∷ more) =
     cond (ofSession session (a .packet)) (gets (a .packet) (length (a .output)) (length (a .lengths)) ∷ own session more) (own session more)
@@ -46,7 +46,7 @@ toldBy a =
 -- what it is told in answer to its own calls, up to its close
 unfoldable pub told : ℕ → Card → List Call → List Told
 told session c [] = []
-told session c (opens r ∷ more) = told session (after c (opens r)) more
+told session c (opens q ∷ more) = told session (after c (opens q)) more
 told session c (closes id ∷ more) =
     cond (eqb id session) (toldBy (answer c (closes id)) ∷ []) (told session (after c (closes id)) more)
 told session c (hands a ∷ more) =
@@ -61,17 +61,17 @@ cardAfter holding calls = afterAll (emptyCard holding) calls
 -- `isolation`
 abbrev pub Isolation : Type 0
 Isolation =
-    (r : Request) (holding holding′ : List ℕ) (before before′ calls calls′ : List Call) →
+    (q : Request) (holding holding′ : List ℕ) (before before′ calls calls′ : List Call) →
     length holding ≡ length holding′ →
-    (answer (cardAfter holding before) (opens r)) .code ≡ 0 →
-    (answer (cardAfter holding′ before′) (opens r)) .code ≡ 0 →
-    own (r .id) calls ≡ own (r .id) calls′ →
-    told (r .id) (after (cardAfter holding before) (opens r)) calls
-    ≡ told (r .id) (after (cardAfter holding′ before′) (opens r)) calls′
+    (answer (cardAfter holding before) (opens q)) .code ≡ 0 →
+    (answer (cardAfter holding′ before′) (opens q)) .code ≡ 0 →
+    own (q .id) calls ≡ own (q .id) calls′ →
+    told (q .id) (after (cardAfter holding before) (opens q)) calls
+    ≡ told (q .id) (after (cardAfter holding′ before′) (opens q)) calls′
 
 -- `open-by-ids`
 abbrev pub OpenByIds : Type 0
 OpenByIds =
-    (r : Request) (holding holding′ : List ℕ) (before before′ : List Call) →
+    (q : Request) (holding holding′ : List ℕ) (before before′ : List Call) →
     ((id : ℕ) → isOpen ((cardAfter holding before) .table) id ≡ isOpen ((cardAfter holding′ before′) .table) id) →
-    (answer (cardAfter holding before) (opens r)) .code ≡ (answer (cardAfter holding′ before′) (opens r)) .code
+    (answer (cardAfter holding before) (opens q)) .code ≡ (answer (cardAfter holding′ before′) (opens q)) .code

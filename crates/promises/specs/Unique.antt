@@ -34,7 +34,7 @@ SameSlice a b = (a .ptr .0 ≡ b .ptr .0) × (a .ptr .1 ≡ b .ptr .1) × (a .no
 
 -- `unique-open`, `unique-close`, `unique-receive`, `unique-send`
 abbrev pub UniqueOpen : Type 0
-UniqueOpen = ((t : Table) (r : Request) → One (PermitsOpen t r)) × ((t : Table) (id kind : ℕ) → One (PermitsOpenByNumber t id kind))
+UniqueOpen = ((t : Table) (q : Request) → One (PermitsOpen t q)) × ((t : Table) (id kind : ℕ) → One (PermitsOpenByNumber t id kind))
 
 abbrev pub UniqueClose : Type 0
 UniqueClose = (t : Table) (id : ℕ) → One (PermitsClose t id)

@@ -28,19 +28,19 @@ ofFlow kind session flow p = ofSession session p && eqb (flowIn kind (sub p)) fl
 
 -- the call hands in a packet of this flow; it closes this session
 abbrev pub handsTo : Kind → ℕ → ℕ → Call → Bool
-handsTo kind session flow (opens r) = false
+handsTo kind session flow (opens q) = false
 handsTo kind session flow (closes id) = false
 handsTo kind session flow (hands a) = ofFlow kind session flow (a .packet)
 
 abbrev pub closesIt : ℕ → Call → Bool
-closesIt session (opens r) = false
+closesIt session (opens q) = false
 closesIt session (closes id) = eqb id session
 closesIt session (hands a) = false
 
 -- the packets that a flow gets, in order
 unfoldable pub packetsTo : Kind → ℕ → ℕ → List Call → List Packet
 packetsTo kind session flow [] = []
-packetsTo kind session flow (opens r ∷ more) = packetsTo kind session flow more
+packetsTo kind session flow (opens q ∷ more) = packetsTo kind session flow more
 packetsTo kind session flow (closes id ∷ more) = packetsTo kind session flow more
 packetsTo kind session flow (hands a ∷ more) =
     cond (ofFlow kind session flow (a .packet)) (a .packet ∷ packetsTo kind session flow more) (packetsTo kind session flow more)
@@ -54,7 +54,7 @@ framesOut kind session flow c (x ∷ more) =
 -- The slices are long enough for this flow: the holding slice, and the two that each of its packets is handed in with. (What others lend
 -- is their own affair: a call of theirs with less is refused by 1.)
 abbrev pub Room : Call → Type 0
-Room (opens r) = Unit {0}
+Room (opens q) = Unit {0}
 Room (closes id) = Unit {0}
 Room (hands a) = (mostBytes ≤ length (a .output)) × (mostFrames ≤ length (a .lengths))
 

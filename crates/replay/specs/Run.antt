@@ -42,12 +42,12 @@ callOf r e =
 
 -- the slices after a call: a data call leaves them as its answer has them, and the other calls are not lent any
 abbrev pub outputAfter : Call → List ℕ → Answer → List ℕ
-outputAfter (opens r) output a = output
+outputAfter (opens q) output a = output
 outputAfter (closes id) output a = output
 outputAfter (hands x) output a = a .output
 
 abbrev pub lengthsAfter : Call → List ℕ → Answer → List ℕ
-lengthsAfter (opens r) lengths a = lengths
+lengthsAfter (opens q) lengths a = lengths
 lengthsAfter (closes id) lengths a = lengths
 lengthsAfter (hands x) lengths a = a .lengths
 

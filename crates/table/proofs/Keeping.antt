@@ -85,7 +85,7 @@ rows-apart t whole r r′ l m other =
 -- no session has ID 0
 pub zero-unopened : (t : Table) → broken t ≡ false → isOpen t 0 ≡ false
 zero-unopened t whole =
-    let none = least-none (openIn t 0) rows (none-all (openIn t 0) rows (λ i l. closed-zero (rowAt t i) (rows-sound t whole i l))) in
+    let none = least-none (openIn t 0) rows (none-all (openIn t 0) rows (λ r l. closed-zero (rowAt t r) (rows-sound t whole r l))) in
     le-ltb (find t 0) rows (omega (arith, none))
   where
     closed-zero : (row : Row) → rowBroken row ≡ false → (not (isClosed (row .kind)) && eqb (row .id) 0) ≡ false

@@ -27,23 +27,23 @@ abbrev pub asking : Kind → ℕ → Request
 asking kind id = record { id = id; kind = kind }
 
 abbrev pub openRefusals : Table → Request → List Refusal
-openRefusals t r =
+openRefusals t q =
     13 when broken t
-    ∷ 21 when eqb (r .id) 0
-    ∷ 22 when isOpen t (r .id)
+    ∷ 21 when eqb (q .id) 0
+    ∷ 22 when isOpen t (q .id)
     ∷ 23 when leb rows (lowestFree t)
     ∷ []
 
 abbrev pub freshRow : Request → Row
-freshRow r = record { id = r .id; kind = numberOf (r .kind); flows = replicate flows fresh }
+freshRow q = record { id = q .id; kind = numberOf (q .kind); flows = replicate flows fresh }
 
 -- by the number of the first refusal that applies
 abbrev pub openedBy : ℕ → Table → Request → Opening
-openedBy zero t r = record { code = 0; table = withRow t (lowestFree t) (freshRow r) }
-openedBy (suc c) t r = record { code = suc c; table = t }
+openedBy zero t q = record { code = 0; table = withRow t (lowestFree t) (freshRow q) }
+openedBy (suc c) t q = record { code = suc c; table = t }
 
 unfoldable pub opened : Table → Request → Opening
-opened t r = openedBy (first (openRefusals t r)) t r
+opened t q = openedBy (first (openRefusals t q)) t q
 
 -- An open by a kind's number, as C asks for it: 24 where there is no such kind, before all else (ours: docs/DECISIONS.md, 74).
 unfoldable pub openedByNumber : Table → ℕ → ℕ → Opening
@@ -65,7 +65,7 @@ closed t id = closedBy (first (closeRefusals t id)) t id
 
 -- What the calls permit, whole: the answer, and in it the table.
 abbrev pub PermitsOpen : Table → Request → Opening → Type 0
-PermitsOpen t r answer = answer ≡ opened t r
+PermitsOpen t q answer = answer ≡ opened t q
 
 abbrev pub PermitsOpenByNumber : Table → ℕ → ℕ → Opening → Type 0
 PermitsOpenByNumber t id number answer = answer ≡ openedByNumber t id number
