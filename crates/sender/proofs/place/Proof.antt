@@ -10,6 +10,19 @@ use borrow.Author.Needs.{needs}
 use Rattle.sender.proofs.place.Statement.{statement}
 use Rattle.sender.proofs.place.Tie as tie
 
+-- from the end of the call back to the entry's number, from there to the segment's length, to the frame's, and to the start
+abbrev start : tie.After-wide → tie.Start
+start long = long .before .before .before .before .before
+
+abbrev long : tie.After-least → tie.After-wide
+long sized = sized .before .before .before
+
+abbrev sized : tie.After-entry-number → tie.After-least
+sized numbered = numbered .before .before .before .before
+
+abbrev numbered : tie.After-struct-known7 → tie.After-entry-number
+numbered c = c .before .before .before .before .before .before .before
+
 mul-wide : tie.Need-mul-wide
 mul-wide c = search needs
 
@@ -53,21 +66,28 @@ add-count : tie.Need-add-count
 add-count c = search needs
 
 add-bytes : tie.Need-add-bytes
-add-bytes c = let s = c .before .before .before .before .before .before .before .before .before .before .before .before .before .before .before .before .before .before .before in omega (arith, c .before .before .before .before .before .before .before .before .before .before .before .least .ensures, s .pre .few-bytes)
+add-bytes c =
+    let size = sized (numbered c) in
+    omega (arith, size .least .ensures, start (long size) .pre .few-bytes)
 
 same-length : tie.Need-same-length
 same-length c = search needs
 
 returns : tie.Need-returns
 returns c =
-    let s = c .before .before .before .before .before .before .before .before .before .before .before .before .before .before .before .before .before .before .before in
-    let a = s .args in
-    let long = c .before .before .before .before .before .before .before .before .before .before .before .before .before .before .wide in
-    let size = c .before .before .before .before .before .before .before .before .before .before .before .least in
+    let n = numbered c in
+    let l = long (sized n) in
+    let a = start l .args in
+    let whole = l .wide in
+    let size = sized n .least in
+    let moved = c .before .before .position-after in
     let at = entriesAt + entryWidth * a .progress .count in (
-      placed-next (a .lengths .now) (a .progress) (long .result) (size .result) (c .before .before .position-after .result) (long .ensures .0) (size .ensures) (c .before .before .position-after .ensures),
+      placed-next (a .lengths .now) (a .progress) (whole .result) (size .result) (moved .result) (whole .ensures .0) (size .ensures)
+          (moved .ensures),
       c .before .before .before .before .before .before .write-u16 .ensures
-          ∙ ap (put (a .output .now) at) (placed-entry (a .lengths .now) (a .progress) (long .result) (size .result) (c .before .before .before .before .before .before .before .entry-number .result) (long .ensures .0) (size .ensures) (c .before .before .before .before .before .before .before .entry-number .ensures)),
+          ∙ ap (put (a .output .now) at)
+          (placed-entry (a .lengths .now) (a .progress) (whole .result) (size .result) (n .entry-number .result) (whole .ensures .0)
+          (size .ensures) (n .entry-number .ensures)),
     )
 
 pub place-spec : {M : Type 1} → statement M

@@ -24,28 +24,45 @@ asked s =
       output = s .args .output .now;
     }
 
+-- from the end of the call back to the header, from there to the segments, to where nothing was refused, and to the start
+abbrev start : tie.Else1 → tie.Start
+start passing = passing .before .before .before .before .before
+
+abbrev passing : tie.After-write-segments → tie.Else1
+passing wrote = wrote .before .before
+
+abbrev wrote : tie.After-write-header → tie.After-write-segments
+wrote headed = headed .before .before .before .before
+
+abbrev headed : tie.After-number-after → tie.After-write-header
+headed c = c .before .before .before .before .before .before
+
 -- refuse returned 0
-passed : (c : tie.Else1) → first (sendRefusals (asked (c .before .before .before .before .before))) ≡ 0
+passed : (c : tie.Else1) → first (sendRefusals (asked (start c))) ≡ 0
 passed c = sym (c .before .refuse .ensures) ∙ c .if1 .left
 
 refuse-requires : tie.Need-refuse-requires
 refuse-requires c κs = search needs
 
 returns : tie.Need-returns
-returns c = permits (send-refused (asked (c .before .before .before .before .before)) (c .before .refuse .result) (c .before .refuse .ensures) (c .if1 .taken))
+returns c =
+    permits (send-refused (asked (c .before .before .before .before .before)) (c .before .refuse .result) (c .before .refuse .ensures) (c .if1 .taken))
 
 sub-room : tie.Need-sub-room
-sub-room c = omega (arith, room-there (asked (c .before .before .before .before .before)) (passed c))
+sub-room c = omega (arith, room-there (asked (start c)) (passed c))
 
 write-segments-requires : tie.Need-write-segments-requires
-write-segments-requires c κs = ready (asked (c .before .before .before .before .before .before)) (passed (c .before))
+write-segments-requires c κs = ready (asked (start (c .before))) (passed (c .before))
 
 write-header-requires : tie.Need-write-header-requires
 write-header-requires c κs =
-    let a = asked (c .before .before .before .before .before .before .before .before .before .before) in
-    let z = passed (c .before .before .before .before .before) in
-    let w = c .before .before .before .write-segments in
-    (rw (w .kept .0) (header-there a z), has-flow (a .session) (a .flow) (a .limit) (length (a .bytes)) (a .lengths) (job a z), w .ensures .few)
+    let w = c .before .before .before in
+    let a = asked (start (passing w)) in
+    let z = passed (passing w) in (
+      rw (w .write-segments .kept .0) (header-there a z),
+      has-flow (a .session) (a .flow) (a .limit) (length (a .bytes)) (a .lengths) (job a z),
+      w .write-segments .ensures .few,
+    )
 
 mul-length : tie.Need-mul-length
 mul-length c = search needs
@@ -55,10 +72,12 @@ add-length c = search needs
 
 add-length-2 : tie.Need-add-length-2
 add-length-2 c =
-    let a = asked (c .before .before .before .before .before .before .before .before .before .before .before .before .before .before .before .before) in
-    let z = passed (c .before .before .before .before .before .before .before .before .before .before .before) in
-    let w = c .before .before .before .before .before .before .before .before .before .write-segments in
-    omega (arith, packet-small a z (w .result .count) (w .result .bytes) (w .ensures .in-room))
+    let w = wrote (c .before .before .before .before .before) in
+    let did = w .write-segments in
+    omega (
+      arith,
+      packet-small (asked (start (passing w))) (passed (passing w)) (did .result .count) (did .result .bytes) (did .ensures .in-room),
+    )
 
 number-after-requires : tie.Need-number-after-requires
 number-after-requires c κs = search needs
@@ -68,10 +87,11 @@ same-length c = search needs
 
 returns-2 : tie.Need-returns-2
 returns-2 c =
-    let a = asked (c .before .before .before .before .before .before .before .before .before .before .before .before .before .before .before .before .before) in
-    let z = passed (c .before .before .before .before .before .before .before .before .before .before .before .before) in
-    let w = c .before .before .before .before .before .before .before .before .before .before .write-segments in
-    permits (rw (c .number-after .ensures) (send-done a z (w .result) _ _ (w .ensures) (c .before .before .before .before .before .before .write-header .ensures)))
+    let w = wrote (headed c) in
+    let did = w .write-segments in
+    permits
+    (rw (c .number-after .ensures)
+    (send-done (asked (start (passing w))) (passed (passing w)) (did .result) _ _ (did .ensures) (headed c .write-header .ensures)))
 
 pub send-spec : {M : Type 1} → statement M
 send-spec =

@@ -4,6 +4,13 @@ use borrow.Author.Needs.{needs}
 use Rattle.sender.proofs.write_header.Statement.{statement}
 use Rattle.sender.proofs.write_header.Tie as tie
 
+-- from the end of the call back to where the session ID was written, and from there to the start
+abbrev start : tie.After-write-u32 → tie.Start
+start named = named .before .before .before
+
+abbrev named : tie.After-slice-known3 → tie.After-write-u32
+named c = c .before .before .before .before .before .before
+
 write-u32-requires : tie.Need-write-u32-requires
 write-u32-requires c κs = search needs
 
@@ -23,19 +30,35 @@ add-output-2 : tie.Need-add-output-2
 add-output-2 c = search needs
 
 slice-write-output-2 : tie.Need-slice-write-output-2
-slice-write-output-2 c = let s = c .before .before .before .before .before in let a = s .args in mark-inside (a .output .now) (a .session) (a .flow) (a .count) (a .number) (s .pre .0) _ (c .before .before .write-u32 .ensures)
+slice-write-output-2 c =
+    let n = c .before .before in
+    let s = start n in
+    let a = s .args in
+    mark-inside (a .output .now) (a .session) (a .flow) (a .count) (a .number) (s .pre .0) _ (n .write-u32 .ensures)
 
 add-write-u16 : tie.Need-add-write-u16
 add-write-u16 c = search needs
 
 write-u16-requires : tie.Need-write-u16-requires
-write-u16-requires c κs = let s = c .before .before .before .before .before .before in let a = s .args in number-inside (a .output .now) (a .session) (a .flow) (a .count) (a .number) (s .pre .0) _ (c .before .before .before .write-u32 .ensures)
+write-u16-requires c κs =
+    let n = c .before .before .before in
+    let s = start n in
+    let a = s .args in
+    number-inside (a .output .now) (a .session) (a .flow) (a .count) (a .number) (s .pre .0) _ (n .write-u32 .ensures)
 
 same-length : tie.Need-same-length
-same-length c = let s = c .before .before .before .before .before .before .before .before .before in let a = s .args in header-long (a .output .now) (a .session) (a .flow) (a .count) (a .number) (s .pre .0) _ (c .before .before .before .before .before .before .write-u32 .ensures) _ (c .before .before .write-u16 .ensures)
+same-length c =
+    let s = start (named c) in
+    let a = s .args in
+    header-long (a .output .now) (a .session) (a .flow) (a .count) (a .number) (s .pre .0) _ (named c .write-u32 .ensures) _
+    (c .before .before .write-u16 .ensures)
 
 returns : tie.Need-returns
-returns c = let s = c .before .before .before .before .before .before .before .before .before in let a = s .args in header-written (a .output .now) (a .session) (a .flow) (a .count) (a .number) (s .pre .0) _ (c .before .before .before .before .before .before .write-u32 .ensures) _ (c .before .before .write-u16 .ensures)
+returns c =
+    let s = start (named c) in
+    let a = s .args in
+    header-written (a .output .now) (a .session) (a .flow) (a .count) (a .number) (s .pre .0) _ (named c .write-u32 .ensures) _
+    (c .before .before .write-u16 .ensures)
 
 pub write-header-spec : {M : Type 1} → statement M
 write-header-spec =
