@@ -5,6 +5,16 @@ use borrow.Author.Needs.{needs}
 use Rattle.capture.proofs.add.Statement.{statement}
 use Rattle.capture.proofs.add.Tie as tie
 
+-- from the end of the call back to where the entry was stored, from there to the question whether there is room, and to the start
+abbrev start : tie.Then1 → tie.Start
+start fits = fits .before .before .before .before .before .before .before
+
+abbrev fits : tie.After-store → tie.Then1
+fits put = put .before .before .before
+
+abbrev put : tie.After-slice-known4 → tie.After-store
+put c = c .before .before .before .before
+
 add-entries : tie.Need-add-entries
 add-entries c = search needs
 
@@ -15,7 +25,12 @@ is-within-requires : tie.Need-is-within-requires
 is-within-requires c κs = search needs
 
 store-requires : tie.Need-store-requires
-store-requires c κs = let s = c .before .before .before .before .before .before .before .before .before in let a = s .args in within-fits (a .contents .now) (a .bodies .now) (a .writer) (a .body .now) (s .pre .0) (s .pre .1) (sym (c .before .before .before .is-within .ensures) ∙ c .before .before .if1 .taken)
+store-requires c κs =
+    let f = c .before .before in
+    let s = start f in
+    let a = s .args in
+    within-fits (a .contents .now) (a .bodies .now) (a .writer) (a .body .now) (s .pre .0) (s .pre .1)
+    (sym (f .before .is-within .ensures) ∙ f .if1 .taken)
 
 same-length : tie.Need-same-length
 same-length c = search needs
@@ -25,8 +40,9 @@ same-length-2 c = search needs
 
 returns : tie.Need-returns
 returns c =
-    let is = sym (c .before .before .before .before .before .before .before .before .is-within .ensures) ∙ c .before .before .before .before .before .before .before .if1 .taken in
-    (refl, (stored _ _ _ _ is (c .before .before .before .before .store .ensures .0), stored _ _ _ _ is (c .before .before .before .before .store .ensures .1)))
+    let p = put c in
+    let is = sym (fits p .before .is-within .ensures) ∙ fits p .if1 .taken in
+    (refl, (stored _ _ _ _ is (p .store .ensures .0), stored _ _ _ _ is (p .store .ensures .1)))
 
 returns-2 : tie.Need-returns-2
 returns-2 c =

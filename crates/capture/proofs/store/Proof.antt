@@ -11,6 +11,13 @@ use Rattle.capture.proofs.store.Tie as tie
 abbrev entryAt : tie.Start → ℕ
 entryAt s = headLength + entryLength * s .args .writer .entries
 
+-- from the end of the call back to where the entry's length was written, and from there to the start
+abbrev start : tie.After-write-u16 → tie.Start
+start sized = sized .before .before .before .before .before .before
+
+abbrev sized : tie.After-slice-known4 → tie.After-write-u16
+sized c = c .before .before .before .before .before .before
+
 mul-at : tie.Need-mul-at
 mul-at c = search needs
 
@@ -24,7 +31,10 @@ add-contents : tie.Need-add-contents
 add-contents c = search needs
 
 slice-write-contents-2 : tie.Need-slice-write-contents-2
-slice-write-contents-2 c = let s = c .before .before .before .before in let a = s .args in second-inside (a .contents .now) (entryAt s) (a .kind) (length (a .body .now)) (s .pre .entry-inside)
+slice-write-contents-2 c =
+    let s = c .before .before .before .before in
+    let a = s .args in
+    second-inside (a .contents .now) (entryAt s) (a .kind) (length (a .body .now)) (s .pre .entry-inside)
 
 add-write-u16 : tie.Need-add-write-u16
 add-write-u16 c = search needs
@@ -33,22 +43,30 @@ cast-write-u16 : tie.Need-cast-write-u16
 cast-write-u16 c = search needs
 
 write-u16-requires : tie.Need-write-u16-requires
-write-u16-requires c κs = let s = c .before .before .before .before .before in let a = s .args in length-inside (a .contents .now) (entryAt s) (a .kind) (length (a .body .now)) (s .pre .entry-inside)
+write-u16-requires c κs =
+    let s = c .before .before .before .before .before in
+    let a = s .args in
+    length-inside (a .contents .now) (entryAt s) (a .kind) (length (a .body .now)) (s .pre .entry-inside)
 
 copy-requires : tie.Need-copy-requires
 copy-requires c κs = search needs
 
 same-length : tie.Need-same-length
-same-length c = let s = c .before .before .before .before .before .before .before .before .before .before .before .before in let a = s .args in entry-long (a .contents .now) (entryAt s) (a .kind) (length (a .body .now)) (s .pre .entry-inside) _ (c .before .before .before .before .before .before .write-u16 .ensures)
+same-length c =
+    let s = start (sized c) in
+    let a = s .args in
+    entry-long (a .contents .now) (entryAt s) (a .kind) (length (a .body .now)) (s .pre .entry-inside) _ (sized c .write-u16 .ensures)
 
 same-length-2 : tie.Need-same-length-2
 same-length-2 c = search needs
 
 returns : tie.Need-returns
 returns c =
-    let s = c .before .before .before .before .before .before .before .before .before .before .before .before in
-    let a = s .args in
-    (entry-put (a .contents .now) (entryAt s) (a .kind) (length (a .body .now)) (s .pre .entry-inside) _ (c .before .before .before .before .before .before .write-u16 .ensures), body-put (a .bodies .now) (a .writer .bytes) (a .body .now) _ (c .before .before .copy .ensures))
+    let s = start (sized c) in
+    let a = s .args in (
+      entry-put (a .contents .now) (entryAt s) (a .kind) (length (a .body .now)) (s .pre .entry-inside) _ (sized c .write-u16 .ensures),
+      body-put (a .bodies .now) (a .writer .bytes) (a .body .now) _ (c .before .before .copy .ensures),
+    )
 
 pub store-spec : {M : Type 1} → statement M
 store-spec =

@@ -5,6 +5,13 @@ use borrow.Author.Needs.{needs}
 use Rattle.text.proofs.write_column.Statement.{statement}
 use Rattle.text.proofs.write_column.Tie as tie
 
+-- from the end of the call back to where the space was written, and from there to the start
+abbrev start : tie.After-write-byte → tie.Start
+start spaced = spaced .before .before .before
+
+abbrev spaced : tie.After-slice-known3 → tie.After-write-byte
+spaced c = c .before .before .before .before .before .before
+
 write-byte-requires : tie.Need-write-byte-requires
 write-byte-requires c κs = search needs
 
@@ -16,7 +23,11 @@ same-length c = search needs
 
 returns : tie.Need-returns
 returns c =
-    (wrote-column (c .before .before .before .before .before .before .before .before .before .args .number) (c .before .before .before .before .before .before .write-byte .ensures) (c .before .before .write-decimal .ensures .0), omega (arith, c .before .before .write-decimal .ensures .1, c .before .before .before .before .before .before .write-byte .ensures .next-place))
+    let s = spaced c in
+    let number = c .before .before .write-decimal .ensures in (
+      wrote-column (start s .args .number) (s .write-byte .ensures) (number .0),
+      omega (arith, number .1, s .write-byte .ensures .next-place),
+    )
 
 pub write-column-spec : {M : Type 1} → statement M
 write-column-spec =

@@ -4,6 +4,16 @@ use borrow.Author.Needs.{needs}
 use Rattle.capture.proofs.reader.check.Statement.{statement}
 use Rattle.capture.proofs.reader.check.Tie as tie
 
+-- from the survey back to where there were not too many entries, from there to their count, and to where there was room for it
+abbrev headed : tie.After-entry-count → tie.Else2
+headed counted = counted .before
+
+abbrev few : tie.After-survey → tie.Else3
+few surveyed = surveyed .before .before
+
+abbrev counted : tie.After-survey → tie.After-entry-count
+counted surveyed = few surveyed .before
+
 returns : tie.Need-returns
 returns c = too-long _ (c .if1 .taken)
 
@@ -15,7 +25,8 @@ entry-count-requires c κs = search needs
 
 returns-3 : tie.Need-returns-3
 returns-3 c =
-    too-many-entries _ (c .before .before .before .if1 .left) (c .before .before .if2 .left) _ (c .before .entry-count .ensures) (c .if3 .taken)
+    let n = c .before in
+    too-many-entries _ (headed n .before .if1 .left) (headed n .if2 .left) _ (n .entry-count .ensures) (c .if3 .taken)
 
 mul-if4 : tie.Need-mul-if4
 mul-if4 c = search needs
@@ -25,22 +36,32 @@ add-if4 c = search needs
 
 returns-4 : tie.Need-returns-4
 returns-4 c =
-    contents-cut _ (c .before .before .before .before .if1 .left) (c .before .before .before .if2 .left) _ (c .before .before .entry-count .ensures) (c .before .if3 .left) (c .if4 .taken)
+    let n = c .before .before in
+    contents-cut _ (headed n .before .if1 .left) (headed n .if2 .left) _ (n .entry-count .ensures) (c .before .if3 .left) (c .if4 .taken)
 
 survey-requires : tie.Need-survey-requires
 survey-requires c κs = search needs
 
 returns-5 : tie.Need-returns-5
 returns-5 c =
-    entry-wrong _ (c .before .before .before .before .before .before .if1 .left) (c .before .before .before .before .before .if2 .left) _ (c .before .before .before .before .entry-count .ensures) (c .before .before .before .if3 .left) (c .before .before .if4 .left) _ (c .before .survey .ensures) (c .if5 .taken)
+    let s = c .before in
+    let n = counted s in
+    entry-wrong _ (headed n .before .if1 .left) (headed n .if2 .left) _ (n .entry-count .ensures) (few s .if3 .left) (s .before .if4 .left) _
+    (s .survey .ensures) (c .if5 .taken)
 
 returns-6 : tie.Need-returns-6
 returns-6 c =
-    not-filled _ (c .before .before .before .before .before .before .before .before .if1 .left) (c .before .before .before .before .before .before .before .if2 .left) _ (c .before .before .before .before .before .before .entry-count .ensures) (c .before .before .before .before .before .if3 .left) (c .before .before .before .before .if4 .left) _ (c .before .before .before .survey .ensures) (c .before .before .if5 .left) (c .if6 .taken)
+    let s = c .before .before .before in
+    let n = counted s in
+    not-filled _ (headed n .before .if1 .left) (headed n .if2 .left) _ (n .entry-count .ensures) (few s .if3 .left) (s .before .if4 .left) _
+    (s .survey .ensures) (c .before .before .if5 .left) (c .if6 .taken)
 
 returns-7 : tie.Need-returns-7
 returns-7 c =
-    sound-file _ (c .before .before .before .before .before .before .before .before .if1 .left) (c .before .before .before .before .before .before .before .if2 .left) _ (c .before .before .before .before .before .before .entry-count .ensures) (c .before .before .before .before .before .if3 .left) (c .before .before .before .before .if4 .left) _ (c .before .before .before .survey .ensures) (c .before .before .if5 .left) (c .if6 .left)
+    let s = c .before .before .before in
+    let n = counted s in
+    sound-file _ (headed n .before .if1 .left) (headed n .if2 .left) _ (n .entry-count .ensures) (few s .if3 .left) (s .before .if4 .left) _
+    (s .survey .ensures) (c .before .before .if5 .left) (c .if6 .left)
 
 pub check-spec : {M : Type 1} → statement M
 check-spec =
