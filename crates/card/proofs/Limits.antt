@@ -15,10 +15,11 @@ use Rattle.octets.proofs.Stretches.{length-part, part-none, length-put, part-pu
 use Rattle.flow.specs.declared.Flow.{Flow}
 use Rattle.flow.specs.Flow.{longest, half, accepted}
 use Rattle.flow.proofs.Judging.{judge-sound}
+use Rattle.ts.specs.Packet.{mpegLength}
 use Rattle.packet.specs.Header.{Packet, idLength, sSet, number, segmentCount, longestPacket, sub}
 use Rattle.packet.specs.Segments.{lengthAt, segments}
 use Rattle.packet.specs.Psp.{pspRefusals}
-use Rattle.packet.specs.Dmpt.{mpegLength, carried, mpegCount, mpegs, dmptRefusals}
+use Rattle.packet.specs.Dmpt.{carried, mpegCount, mpegs, dmptRefusals}
 use Rattle.packet.proofs.Passing.{SegmentsPassed, psp-passed, dmpt-passed, mpegs-fill}
 use Rattle.table.specs.declared.Kind.{Kind}
 use Rattle.table.specs.declared.Table.{Table}

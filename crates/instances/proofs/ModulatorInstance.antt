@@ -11,7 +11,9 @@ use Rattle.octets.specs.Bytes.{AllBytes}
 use Rattle.octets.specs.Stretch.{part, rest, put, joined, lengthsOf, cutBy}
 use Rattle.octets.specs.Each.{Each}
 use Rattle.octets.specs.Count.{any, least, sumTo, upTo}
+use Rattle.octets.specs.Tests.{none, same}
 use Rattle.flow.specs.Numbers.{ahead, next, numberAt}
+use Rattle.ts.specs.Packet.{allFill, nullPacket}
 use Rattle.packet.specs.Segments.{bodyAt, segmentAt, segments}
 use Rattle.packet.specs.Psp.{wanted}
 use Rattle.packet.specs.Check.{checkRefusals, check}
@@ -23,7 +25,6 @@ use Rattle.card.specs.Hear.{hear}
 use Rattle.card.specs.Receive.{carriedOut, refused, receivedBy, received}
 use Rattle.card.specs.History.{Call, opens, hands, answer, after, afterAll, emptyCard}
 use Rattle.sender.specs.Rules.{Pieces, packetAt, wholeFrame, begunFrame, inTurn, allSegments, KeepsRules}
-use Rattle.mpeg.specs.Packet.{nullPacket, same, allFill, none}
 use Rattle.mpeg.specs.Frame.{good, mayBegin, Good}
 use Rattle.mpeg.specs.Write.{leftAt, packetOf, carried, countAfter}
 use Rattle.mpeg.specs.Read.{found, withoutFlag, withFlag, readPacket, readFrom, packetsIn, reading}

@@ -12,7 +12,8 @@ use borrow.Author.Tests.{le-leb, lt-leb, ne-eqb}
 use Rattle.octets.specs.Each.{Each}
 use Rattle.octets.specs.Stretch.{part, rest, joined, lengthsOf}
 use Rattle.octets.proofs.Stretches.{joined-append}
-use Rattle.mpeg.specs.Packet.{header, framesPid, payloadLength, pointedLength, filledTo, fillByte, nextCount}
+use Rattle.ts.specs.Packet.{payloadLength, nextCount, header, fillByte}
+use Rattle.mpeg.specs.Packet.{framesPid, pointedLength, filledTo}
 use Rattle.mpeg.specs.Write.{leftAt, packetOf, carried, countAfter, dataPacket, carries}
 use Rattle.mpeg.specs.Run.{Backlog, Burst, added, waitingIn, leftIn, packetNext, afterNext, sentWhole}
 

@@ -13,7 +13,8 @@ use Rattle.octets.specs.Each.{Each}
 use Rattle.octets.specs.Stretch.{part, rest, joined}
 use Rattle.octets.proofs.Stretches.{joined-append, part-all}
 use Rattle.octets.proofs.Elements.{each-both}
-use Rattle.mpeg.specs.Packet.{payloadLength, pointedLength, framesPid, nextCount, header, fillByte, filledTo, nullPacket}
+use Rattle.ts.specs.Packet.{payloadLength, nextCount, header, fillByte, nullPacket}
+use Rattle.mpeg.specs.Packet.{pointedLength, framesPid, filledTo}
 use Rattle.mpeg.specs.Frame.{saidLength, mayBegin, Good}
 use Rattle.mpeg.specs.Write.{packetOf, countAfter}
 use Rattle.mpeg.specs.Read.{anyCount}

@@ -7,7 +7,8 @@ use mathlib.Core.List.{List, [], _∷_, _++_}
 use denote.Ref.{RefT}
 use lib.ListN.{take, set, replicate}
 use Rattle.octets.specs.Stretch.{part, rest, put}
-use Rattle.mpeg.specs.Packet.{nullPacket, none}
+use Rattle.octets.specs.Tests.{none}
+use Rattle.ts.specs.Packet.{nullPacket}
 use Rattle.mpeg.specs.Frame.{good}
 use Rattle.mpeg.specs.Write.{Asked, WriteOutcome, badFrames, leftAt, packetOf, carried, countAfter, wrote, refused, writtenBy, written}
 use Rattle.mpeg.specs.HandOut.{source, handedLength, PermitsHandOut}

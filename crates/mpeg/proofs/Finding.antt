@@ -14,17 +14,19 @@ use lib.Seq.{drop-at, take-take}
 use borrow.Author.Tests.{eq-eqb, ne-eqb, lt-ltb, le-ltb, le-leb, lt-leb, eqb-true, leb-true, leb-false, eqb-false}
 use Rattle.octets.specs.Bytes.{byteAt}
 use Rattle.octets.specs.Stretch.{part, rest, joined}
+use Rattle.octets.specs.Tests.{none}
 use Rattle.octets.proofs.Counts.{true-or-false}
-use Rattle.octets.proofs.Stretches.{length-part, length-rest, byte-part, part-none, part-part}
+use Rattle.octets.proofs.Stretches.{length-part, length-rest, byte-part, part-none, part-part, part-to-cons}
 use Rattle.flow.specs.Flow.{longest}
+use Rattle.ts.specs.Packet.{fillByte, allFill}
 use Rattle.mpeg.specs.declared.reader.Front.{Front}
 use Rattle.mpeg.specs.declared.reader.Standing.{Standing}
-use Rattle.mpeg.specs.Packet.{pointedLength, fillByte, none, allFill}
+use Rattle.mpeg.specs.Packet.{pointedLength}
 use Rattle.mpeg.specs.Frame.{besideField, saidLength, startsWell, good, mayBegin}
 use Rattle.mpeg.specs.Read.{Found, found, withFrame}
 use Rattle.mpeg.specs.Inside.Standing.{frontOf}
 use Rattle.mpeg.specs.Inside.Fronts.{spoilt, standingWith, foundBetween, Starts}
-use Rattle.mpeg.proofs.Fronts.{part-to, says-of}
+use Rattle.mpeg.proofs.Fronts.{says-of}
 
 -- A frame that may be written, and bytes that may begin one: what makes each true, and each false.
 pub starts-well : (f : List ℕ) → (byteAt f 0 ≡ fillByte → ⊥) → startsWell f ≡ true
@@ -224,7 +226,7 @@ module _ {packets : List ℕ} {start end : ℕ} {standing : Standing} (s : Start
 
   not-filled : (byteAt packets from ≡ fillByte → ⊥) → allFill (part packets from (end - from)) ≡ false
   unfolding allFill
-  not-filled e = rw (part-to packets from end going (s .in-packets), ne-eqb _ _ e) refl
+  not-filled e = rw (part-to-cons packets from end going (s .in-packets), ne-eqb _ _ e) refl
 
   -- 0xFF to the end
   pub finding-filled : {front : Front} (filled : Bool) → filled ≡ allFill (part packets from (end - from)) → filled ≡ true → front ≡ frontOf [] →

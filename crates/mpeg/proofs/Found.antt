@@ -14,9 +14,11 @@ use borrow.Author.Tests.{le-leb, lt-leb, leb-true, leb-false, lt-ltb, ltb-true, 
 use Rattle.octets.specs.Bytes.{byteAt}
 use Rattle.octets.specs.Each.{Each}
 use Rattle.octets.specs.Stretch.{part, rest, joined}
+use Rattle.octets.specs.Tests.{none}
 use Rattle.octets.proofs.Counts.{true-or-false}
 use Rattle.flow.specs.Flow.{longest}
-use Rattle.mpeg.specs.Packet.{fillByte, filledTo, allFill, none}
+use Rattle.ts.specs.Packet.{fillByte, allFill}
+use Rattle.mpeg.specs.Packet.{filledTo}
 use Rattle.mpeg.specs.Frame.{saidLength, startsWell, good, mayBegin, Good}
 use Rattle.mpeg.specs.Read.{Found, found}
 use Rattle.mpeg.proofs.Backlogs.{Mid, between, mid-some, one, one-some, NotEmpty}

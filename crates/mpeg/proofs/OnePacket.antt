@@ -12,15 +12,16 @@ use borrow.Author.Tests.{eqb-true, eqb-false, ltb-true, ltb-false, le-leb, lt-le
 use Rattle.refusal.proofs.Laws.{and-right}
 use Rattle.octets.specs.Bytes.{byteAt}
 use Rattle.octets.specs.Stretch.{part, rest, joined}
+use Rattle.octets.specs.Tests.{none, same}
 use Rattle.octets.proofs.Counts.{true-or-false, or-false-left, or-false-right}
 use Rattle.octets.proofs.Stretches.{byte-part, joined-append, joined-one-more}
 use Rattle.flow.specs.Flow.{longest}
-use Rattle.packet.specs.Dmpt.{mpegLength, syncByte}
+use Rattle.ts.specs.Packet.{mpegLength, headLength, payloadLength, syncByte, payloadOnly, countOf, nextCount, header, allFill, nullPacket}
 use Rattle.mpeg.specs.declared.reader.Front.{Front}
 use Rattle.mpeg.specs.declared.reader.Standing.{Standing}
-use Rattle.mpeg.specs.Packet.{headLength, pointedLength, payloadLength, payloadOnly, framesPid, nextCount, header, nullPacket, none, same, allFill}
+use Rattle.mpeg.specs.Packet.{pointedLength, framesPid}
 use Rattle.mpeg.specs.Frame.{besideField, saidLength, startsWell, good, mayBegin}
-use Rattle.mpeg.specs.Read.{Reading, Found, found, unsound, countOf, countFits, hasHeader, wentOn, withoutFlag}
+use Rattle.mpeg.specs.Read.{Reading, Found, found, unsound, countFits, hasHeader, wentOn, withoutFlag}
 use Rattle.mpeg.specs.Read.{pointer, pointed, ended, foundIn, endsWell, endedFrames, withFlag, readPacket}
 use Rattle.mpeg.specs.Inside.Standing.{frontOf, standingOf}
 use Rattle.mpeg.specs.Inside.Fronts.{headed, spoilt, standingWith, foundBetween}

@@ -1,8 +1,8 @@
 -- A packet as it comes about in the output: the header, the pointer, the bytes that wait and what the packet is filled up with, put one behind the
 -- other. `Filling` is the invariant of the loop that fills up, with a begin, a turn and an end. And which slice the hand-out takes from.
-use Prim.Native.Nat.{ℕ, _+_, _-_, _/_, _%_, _≤_, _<_, min}
+use Prim.Native.Nat.{ℕ, _+_, _-_, _≤_, _<_, min}
 use mathlib.Core.Path.{_≡_, refl, sym, ap, _∙_}
-use mathlib.Core.Bool.{Bool, true, false}
+use mathlib.Core.Bool.{true, false}
 use mathlib.Core.Logic.{⊎-elim}
 use mathlib.Core.List.{List, [], _∷_, _++_, append-nil}
 use native.Mathlib.Omega.{arith}
@@ -13,9 +13,9 @@ use lib.Seq.{take-all}
 use borrow.Author.Tests.{le-leb, lt-leb, leb-true, leb-false}
 use Rattle.octets.specs.Stretch.{part, rest, put}
 use Rattle.octets.proofs.Counts.{true-or-false}
-use Rattle.octets.proofs.Stretches.{length-part, length-rest, length-put, part-rest, put-nil, put-put, put-put-front, put-on, set-put, set-set-put}
-use Rattle.packet.specs.Dmpt.{mpegLength, syncByte}
-use Rattle.mpeg.specs.Packet.{headLength, payloadLength, pointedLength, framesPid, payloadOnly, counts, fillByte, flagged, header}
+use Rattle.octets.proofs.Stretches.{length-part, length-rest, length-put, part-rest, put-nil, put-put, put-put-front, put-on, set-put}
+use Rattle.ts.specs.Packet.{mpegLength, headLength, payloadLength, header, fillByte}
+use Rattle.mpeg.specs.Packet.{pointedLength, framesPid}
 use Rattle.mpeg.specs.HandOut.{source, handedLength, PermitsHandOut}
 use Rattle.mpeg.specs.Write.{dataPacket, carries}
 use Rattle.mpeg.specs.Inside.Writing.{behindPointer, Waiting}
@@ -43,20 +43,6 @@ pub handed : (queue null from answer : RefT (List ℕ)) (n : ℕ) → source que
 unfolding part
 handed queue null from answer n s l block place bytes =
     record { in-its-source = rw s block; at-its-front = rw s place; its-bytes = rw (s, l) bytes }
-
--- The header: four bytes stored one behind the other.
-pub four-stored : (d : List ℕ) (a b c e : ℕ) → headLength ≤ length d →
-    set (set (set (set d 0 a) 1 b) 2 c) 3 e ≡ put d 0 (a ∷ b ∷ c ∷ e ∷ [])
-four-stored d a b c e h =
-    let two = put d 0 (a ∷ b ∷ []) in
-    let long : length two ≡ length d = length-put d 0 (a ∷ b ∷ []) (omega arith) in
-    ap (λ (l : List ℕ). set (set l 2 c) 3 e) (set-set-put d 0 a b (omega arith))
-    ∙ set-set-put two 2 c e (omega arith)
-    ∙ put-put d 0 (a ∷ b ∷ []) (c ∷ e ∷ []) (omega arith)
-
-pub header-stored : (d : List ℕ) (starts : Bool) (count flag : ℕ) → headLength ≤ length d → flag ≡ flagged starts (framesPid / 256) →
-    set (set (set (set d 0 syncByte) 1 flag) 2 (framesPid % 256)) 3 (payloadOnly + count % counts) ≡ put d 0 (header starts framesPid count)
-header-stored d starts count flag h e = rw e (four-stored d syncByte (flagged starts (framesPid / 256)) (framesPid % 256) (payloadOnly + count % counts) h)
 
 -- The loop that fills up, from `at` on.
 pub record Filling (d : List ℕ) (at : ℕ) (output : List ℕ) (i : ℕ) : Type 0 where

@@ -10,9 +10,11 @@ use lib.ListN.{length}
 use lib.Seq.{take-append-seam, drop-append-seam}
 use borrow.Author.Tests.{le-leb, eq-eqb}
 use Rattle.octets.specs.Stretch.{part, rest}
-use Rattle.mpeg.specs.Packet.{pointedLength, payloadOnly, framesPid, counts, nextCount, header, nullPacket, same, allFill, none}
+use Rattle.octets.specs.Tests.{none, same}
+use Rattle.ts.specs.Packet.{payloadOnly, counts, countOf, nextCount, header, allFill, nullPacket}
+use Rattle.mpeg.specs.Packet.{pointedLength, framesPid}
 use Rattle.mpeg.specs.Frame.{good, mayBegin}
-use Rattle.mpeg.specs.Read.{Reading, anyCount, found, countOf, hasHeader, countFits, pointer, pointed, withoutFlag, withFlag, readPacket}
+use Rattle.mpeg.specs.Read.{Reading, anyCount, found, hasHeader, countFits, pointer, pointed, withoutFlag, withFlag, readPacket}
 use Rattle.mpeg.proofs.Backlogs.{Mid, between, within, one}
 use Rattle.mpeg.proofs.Found.{foundWell}
 

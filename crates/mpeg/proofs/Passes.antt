@@ -18,10 +18,10 @@ use Rattle.octets.specs.Count.{upTo}
 use Rattle.octets.specs.Stretch.{part, put, joined}
 use Rattle.octets.proofs.Counts.{true-or-false}
 use Rattle.octets.proofs.Stretches.{length-part, byte-part, part-none, part-part-front, put-nil, put-put-front, length-put, part-short}
-use Rattle.packet.specs.Dmpt.{mpegLength}
 use Rattle.flow.specs.Flow.{longest}
+use Rattle.ts.specs.Packet.{mpegLength, headLength}
 use Rattle.mpeg.specs.declared.reader.Standing.{Standing}
-use Rattle.mpeg.specs.Packet.{headLength, framesPid}
+use Rattle.mpeg.specs.Packet.{framesPid}
 use Rattle.mpeg.specs.Frame.{saidLength, startsWell, good}
 use Rattle.mpeg.specs.Read.{Reading, atStart, unsound, readPacket, readFrom, packetsIn, reading}
 use Rattle.mpeg.specs.Inside.Standing.{standingOf, Within, Follows}

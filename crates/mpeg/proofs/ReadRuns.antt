@@ -15,13 +15,14 @@ use Rattle.octets.specs.Bytes.{AllBytes}
 use Rattle.octets.specs.Each.{Each}
 use Rattle.octets.specs.Stretch.{part, rest, joined}
 use Rattle.octets.specs.Count.{upTo}
+use Rattle.octets.specs.Tests.{none, same}
 use Rattle.octets.proofs.Stretches.{length-part, length-rest, part-part-front, part-all, part-none, joined-one-more}
 use Rattle.octets.proofs.Elements.{each-up-to}
 use Rattle.octets.proofs.Counts.{true-or-false}
-use Rattle.packet.specs.Dmpt.{mpegLength}
-use Rattle.mpeg.specs.Packet.{headLength, payloadLength, pointedLength, framesPid, nextCount, header, fillByte, nullPacket, same, allFill, none}
+use Rattle.ts.specs.Packet.{mpegLength, headLength, payloadLength, countOf, nextCount, header, fillByte, allFill, nullPacket}
+use Rattle.mpeg.specs.Packet.{pointedLength, framesPid}
 use Rattle.mpeg.specs.Frame.{good, mayBegin, Good}
-use Rattle.mpeg.specs.Read.{Reading, anyCount, atStart, unsound, countOf, hasHeader, countFits, withoutFlag, pointer, pointed, ended, foundIn, endsWell, endedFrames, withFlag, readPacket, readFrom, packetsIn, reading}
+use Rattle.mpeg.specs.Read.{Reading, anyCount, atStart, unsound, hasHeader, countFits, withoutFlag, pointer, pointed, ended, foundIn, endsWell, endedFrames, withFlag, readPacket, readFrom, packetsIn, reading}
 use Rattle.mpeg.specs.Run.{noBacklog, IsRun, ReadIsRun}
 use Rattle.mpeg.proofs.Backlogs.{Mid, between, within, At}
 use Rattle.mpeg.proofs.Taken.{no-bytes, no-frame, bytes-both, bytes-rest, bytes-part, front-and-rest, same-equal, none-empty, fill-all, good-not-begun, Apart, found-apart}

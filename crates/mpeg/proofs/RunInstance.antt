@@ -8,7 +8,8 @@ use mathlib.Core.List.{List, [], _∷_, _++_}
 use lib.ListN.{replicate}
 use Rattle.octets.specs.Stretch.{part, rest, joined, lengthsOf}
 use Rattle.octets.specs.Count.{upTo}
-use Rattle.mpeg.specs.Packet.{nullPacket, same, allFill, none}
+use Rattle.octets.specs.Tests.{none, same}
+use Rattle.ts.specs.Packet.{allFill, nullPacket}
 use Rattle.mpeg.specs.Frame.{good, mayBegin}
 use Rattle.mpeg.specs.Write.{leftAt, packetOf, carried, countAfter}
 use Rattle.mpeg.specs.Read.{found, withoutFlag, withFlag, readPacket, readFrom, packetsIn, reading}

@@ -15,11 +15,12 @@ use Rattle.octets.specs.Bytes.{byteAt}
 use Rattle.octets.specs.Each.{Each}
 use Rattle.octets.specs.Count.{upTo}
 use Rattle.octets.specs.Stretch.{part, rest, joined}
+use Rattle.octets.specs.Tests.{none}
 use Rattle.octets.proofs.Counts.{true-or-false}
 use Rattle.octets.proofs.Elements.{each-both, each-front, each-back}
 use Rattle.octets.proofs.Stretches.{length-rest}
-use Rattle.packet.specs.Dmpt.{mpegLength}
-use Rattle.mpeg.specs.Packet.{payloadLength, pointedLength, framesPid, counts, nextCount, header, fillByte, nullPacket, allFill, none}
+use Rattle.ts.specs.Packet.{mpegLength, payloadLength, counts, nextCount, header, fillByte, allFill, nullPacket}
+use Rattle.mpeg.specs.Packet.{pointedLength, framesPid}
 use Rattle.mpeg.specs.Frame.{Good}
 use Rattle.mpeg.specs.Write.{packetOf, carried, countAfter}
 use Rattle.mpeg.specs.Read.{Reading, atStart, anyCount, readPacket, readFrom, packetsIn, reading}

@@ -16,8 +16,7 @@ use Rattle.octets.specs.Each.{Each}
 use Rattle.octets.proofs.Counts.{or-false-left, or-false-right}
 use Rattle.octets.proofs.Elements.{each-too}
 use Rattle.octets.proofs.Stretches.{length-part}
-use Rattle.packet.specs.Dmpt.{mpegLength}
-use Rattle.mpeg.specs.Packet.{nullPacket}
+use Rattle.ts.specs.Packet.{mpegLength, nullPacket}
 use Rattle.mpeg.specs.Frame.{good, Good}
 use Rattle.mpeg.specs.Write.{badFrames, writeRefusals, carried, WriteOutcome, wrote, writtenBy, written}
 use Rattle.mpeg.specs.HandOut.{source, handedLength, HandsOutPackets}

@@ -13,13 +13,14 @@ use Rattle.refusal.proofs.Laws.{and-left, and-right}
 use Rattle.octets.specs.Bytes.{byteAt}
 use Rattle.octets.specs.Each.{Each}
 use Rattle.octets.specs.Stretch.{part, rest, joined}
+use Rattle.octets.specs.Tests.{none, same}
 use Rattle.octets.proofs.Counts.{true-or-false}
 use Rattle.octets.proofs.Elements.{each-both}
 use Rattle.octets.proofs.Stretches.{length-part, length-rest, byte-part, part-none, part-all, part-rest, part-part-front, joined-append, joined-one-more}
-use Rattle.packet.specs.Dmpt.{mpegLength}
-use Rattle.mpeg.specs.Packet.{headLength, payloadLength, pointedLength, framesPid, startFlag, counts, nextCount, header, nullPacket, none, same, allFill}
+use Rattle.ts.specs.Packet.{mpegLength, headLength, payloadLength, startFlag, counts, countOf, nextCount, header, allFill, nullPacket}
+use Rattle.mpeg.specs.Packet.{pointedLength, framesPid}
 use Rattle.mpeg.specs.Frame.{saidLength, good, mayBegin}
-use Rattle.mpeg.specs.Read.{Reading, unsound, Found, withFrame, found, countOf, hasHeader, countFits, withoutFlag, pointer, pointed, ended, foundIn, endsWell, endedFrames, withFlag, readPacket}
+use Rattle.mpeg.specs.Read.{Reading, unsound, Found, withFrame, found, hasHeader, countFits, withoutFlag, pointer, pointed, ended, foundIn, endsWell, endedFrames, withFlag, readPacket}
 use Rattle.mpeg.specs.Inside.Stream.{stream, bytesAt}
 use Rattle.mpeg.proofs.Taken.{same-equal}
 

@@ -17,7 +17,7 @@ use Rattle.octets.specs.Stretch.{part, rest}
 use Rattle.octets.proofs.Counts.{true-or-false, or-false-left, or-false-right}
 use Rattle.octets.proofs.Stretches.{length-part, length-rest, byte-part, byte-rest}
 use Rattle.flow.specs.Flow.{longest}
-use Rattle.mpeg.specs.Packet.{fillByte}
+use Rattle.ts.specs.Packet.{fillByte}
 use Rattle.mpeg.specs.Frame.{fieldAt, besideField, saidLength, good}
 use Rattle.mpeg.specs.Write.{badFrames, leftAt}
 use Rattle.mpeg.specs.Inside.Writing.{badFirst, notAll}

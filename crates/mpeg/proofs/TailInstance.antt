@@ -7,8 +7,9 @@ use mathlib.Core.List.{List, [], _∷_, _++_}
 use lib.ListN.{replicate}
 use Rattle.octets.specs.Stretch.{part, rest}
 use Rattle.octets.specs.Count.{upTo}
-use Rattle.packet.specs.Dmpt.{nullPid}
-use Rattle.mpeg.specs.Packet.{framesPid, fillByte, header, nullPacket, same, allFill, none}
+use Rattle.octets.specs.Tests.{none, same}
+use Rattle.ts.specs.Packet.{nullPid, header, fillByte, allFill, nullPacket}
+use Rattle.mpeg.specs.Packet.{framesPid}
 use Rattle.mpeg.specs.Frame.{good, mayBegin}
 use Rattle.mpeg.specs.Read.{found, withoutFlag, withFlag, readPacket, readFrom, packetsIn, reading}
 

@@ -13,10 +13,11 @@ use Rattle.refusal.proofs.Laws.{and-left, and-right}
 use Rattle.octets.specs.Bytes.{byteAt, AllBytes}
 use Rattle.octets.specs.Each.{Each}
 use Rattle.octets.specs.Stretch.{part, rest, joined}
+use Rattle.octets.specs.Tests.{none, same}
 use Rattle.octets.proofs.Stretches.{byte-rest}
 use Rattle.octets.proofs.Counts.{true-or-false}
 use Rattle.flow.specs.Flow.{longest}
-use Rattle.mpeg.specs.Packet.{fillByte, same, allFill, none}
+use Rattle.ts.specs.Packet.{fillByte, allFill}
 use Rattle.mpeg.specs.Frame.{saidLength, startsWell, good, mayBegin, Good}
 use Rattle.mpeg.specs.Read.{Found, withFrame, found}
 

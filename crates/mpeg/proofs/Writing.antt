@@ -9,10 +9,10 @@ use lib.Dec.{leb}
 use lib.ListN.{length}
 use borrow.Author.Tests.{lt-ltb, le-ltb, leb-true}
 use Rattle.octets.specs.Stretch.{part, put}
+use Rattle.octets.specs.Tests.{none}
 use Rattle.octets.proofs.Counts.{true-or-false}
 use Rattle.octets.proofs.Stretches.{length-rest, part-all}
-use Rattle.packet.specs.Dmpt.{mpegLength}
-use Rattle.mpeg.specs.Packet.{payloadLength, nextCount, nullPacket, none}
+use Rattle.ts.specs.Packet.{mpegLength, payloadLength, nextCount, nullPacket}
 use Rattle.mpeg.specs.Write.{Asked, WriteOutcome, badFrames, dataPacket, carries, packetOf, carried, countAfter}
 use Rattle.mpeg.specs.Write.{waitingFor, leftFor, wrote, refused, writtenBy, written}
 use Rattle.mpeg.specs.Inside.Writing.{Waiting}

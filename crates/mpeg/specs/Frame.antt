@@ -8,7 +8,7 @@ use lib.Dec.{eqb, ltb, leb}
 use lib.ListN.{length}
 use Rattle.octets.specs.Bytes.{byteAt, be16At, AllBytes}
 use Rattle.flow.specs.Flow.{longest}
-use Rattle.mpeg.specs.Packet.{fillByte}
+use Rattle.ts.specs.Packet.{fillByte}
 
 -- where a frame says its length, and how much longer it is than it says there: by its header
 abbrev pub fieldAt : ℕ

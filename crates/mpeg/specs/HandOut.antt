@@ -8,8 +8,7 @@ use denote.Ref.{RefT}
 use lib.Dec.{leb}
 use lib.ListN.{length}
 use Rattle.octets.specs.Stretch.{part}
-use Rattle.packet.specs.Dmpt.{mpegLength}
-use Rattle.mpeg.specs.Packet.{nullPacket}
+use Rattle.ts.specs.Packet.{mpegLength, nullPacket}
 
 -- the slice that is handed from: the queue where it has a whole packet, else that of the null packet
 unfoldable pub source : RefT (List ℕ) → RefT (List ℕ) → RefT (List ℕ)

@@ -13,9 +13,10 @@ use Rattle.refusal.specs.Refusal.{Refusal, _when_, first}
 use Rattle.octets.specs.Bytes.{byteAt}
 use Rattle.octets.specs.Stretch.{part, rest, put, joined, lengthsOf}
 use Rattle.octets.specs.Count.{upTo}
-use Rattle.packet.specs.Dmpt.{mpegLength}
+use Rattle.octets.specs.Tests.{none, same}
+use Rattle.ts.specs.Packet.{mpegLength, headLength, counts, countOf, nextCount, header, allFill, nullPacket}
 use Rattle.mpeg.specs.declared.reader.ReadBack.{ReadBack}
-use Rattle.mpeg.specs.Packet.{headLength, pointedLength, framesPid, counts, nextCount, header, nullPacket, none, same, allFill}
+use Rattle.mpeg.specs.Packet.{pointedLength, framesPid}
 use Rattle.mpeg.specs.Frame.{saidLength, good, mayBegin}
 
 -- Between two packets: `expected` is the count that the next packet with frames has, or `anyCount` before the first of them; `begun` is what has come
@@ -53,10 +54,7 @@ found (suc n) bytes =
     (withFrame (part bytes 0 (saidLength bytes)) (found n (rest bytes (saidLength bytes))))
     (record { well = mayBegin bytes; whole = []; open-end = bytes }))
 
--- the count in a packet; whether its header is that of one with frames, with the flag or without, and its count the expected one
-abbrev pub countOf : List ℕ → ℕ
-countOf packet = byteAt packet 3 % counts
-
+-- whether a packet's header is that of one with frames, with the flag or without, and its count the expected one
 abbrev pub hasHeader : Bool → List ℕ → Bool
 hasHeader points packet = same (part packet 0 headLength) (header points framesPid (countOf packet))
 

@@ -9,8 +9,7 @@ use lib.ListN.{length, replicate}
 use Rattle.octets.specs.Bytes.{AllBytes}
 use Rattle.octets.specs.Each.{Each}
 use Rattle.octets.specs.Stretch.{rest, put, joined, lengthsOf, cutBy}
-use Rattle.packet.specs.Dmpt.{mpegLength}
-use Rattle.mpeg.specs.Packet.{nullPacket}
+use Rattle.ts.specs.Packet.{mpegLength, nullPacket}
 use Rattle.mpeg.specs.Frame.{good, Good}
 use Rattle.mpeg.specs.Write.{Asked, badFrames, leftAt, packetOf, carried, countAfter, written}
 use Rattle.mpeg.specs.Read.{Reading, readFrom, reading}

@@ -9,9 +9,10 @@ use lib.Dec.{eqb, ltb, leb}
 use lib.ListN.{length}
 use Rattle.refusal.specs.Refusal.{Refusal, _when_, first}
 use Rattle.octets.specs.Stretch.{part, rest, put}
-use Rattle.packet.specs.Dmpt.{mpegLength}
+use Rattle.octets.specs.Tests.{none}
+use Rattle.ts.specs.Packet.{mpegLength, payloadLength, nextCount, header, nullPacket}
 use Rattle.mpeg.specs.declared.writer.Written.{Written}
-use Rattle.mpeg.specs.Packet.{payloadLength, pointedLength, framesPid, nextCount, header, filledTo, nullPacket, none}
+use Rattle.mpeg.specs.Packet.{pointedLength, framesPid, filledTo}
 use Rattle.mpeg.specs.Frame.{good}
 
 -- what a call is given

@@ -5,27 +5,19 @@ ghost use Prim.Native.Nat.{_+_, _-_, _*_, _<_, _≤_, min};
 ghost use mathlib.Core.List.{[]};
 ghost use lib.ListN.{length};
 ghost use Rattle.octets.specs.Stretch.{part, put, joined};
-ghost use Rattle.packet.specs.Dmpt.{mpegLength};
-ghost use Rattle.mpeg.specs.Packet.{nextCount, nullPacket, same, allFill};
+ghost use Rattle.octets.specs.Tests.{same};
+ghost use Rattle.ts.specs.Packet.{mpegLength, countOf, nextCount, allFill, nullPacket};
 ghost use Rattle.mpeg.specs.Frame.{besideField};
 ghost use Rattle.mpeg.specs.Inside.Standing.{frontOf, standingOf, Within, Follows};
 ghost use Rattle.mpeg.specs.Inside.Fronts.{ByteOf, FrontWith, headed, spoilt, standingWith, foundBetween, Starts};
-ghost use Rattle.mpeg.specs.Read.{atStart, countOf, withoutFlag, withFlag, readPacket, reading, PermitsRead};
+ghost use Rattle.mpeg.specs.Read.{atStart, withoutFlag, withFlag, readPacket, reading, PermitsRead};
 ghost use Rattle.mpeg.specs.Inside.Stream.{bytesAt, saidLengths, Laid, Surveyed, Writable};
 use crate::BESIDE_FIELD;
-use crate::COUNTS;
 use crate::FIELD_AT;
-use crate::FILL;
 use crate::FRAMES_PID_HIGH;
 use crate::FRAMES_PID_LOW;
-use crate::HEAD_LENGTH;
 use crate::LONGEST;
-use crate::NULL_PID_HIGH;
-use crate::NULL_PID_LOW;
-use crate::PAYLOAD_ONLY;
 use crate::POINTED_LENGTH;
-use crate::START_FLAG;
-use packet::dmpt;
 
 // What a call answers: 0 or the refusal's number, how many frames came back, and how many bytes they have together. Refused: no frame and no byte.
 #[repr(C)] // it crosses to the host program as it is
@@ -102,7 +94,7 @@ fn unsound() -> Standing
 {
     Standing {
         sound: false,
-        expected: COUNTS,
+        expected: ts::COUNTS,
         begun: front_of_none(),
         frames: 0,
         bytes: 0,
@@ -135,42 +127,11 @@ fn with_bytes(packets: &[u8], from: usize, n: usize, front: Front) -> Front
     Front { size, high, low }
 }
 
-fn wide(byte: u8) -> usize
-    ensures { λ r. ⌜ (r ≡ byte) × (r < 256) ⌝ }
-{
-    byte as usize
-}
-
 // The least length that a frame with this front can have; that which it says, where its field has come.
 fn said_length(front: Front) -> usize
     ensures { λ r. ⌜ r ≡ front .high * 256 + front .low + besideField ⌝ }
 {
-    wide(front.high) * 256 + wide(front.low) + BESIDE_FIELD
-}
-
-fn all_fill(packets: &[u8], from: usize, to: usize) -> bool
-    requires { ⌜ (from ≤ to) × (to ≤ length (now packets)) ⌝ }
-    ensures { λ r. ⌜ r ≡ allFill (part (now (packets .entry)) from (to - from)) ⌝ }
-{
-    let mut i = from;
-    while i < to {
-        if packets[i] != FILL {
-            return false;
-        }
-        i += 1;
-    }
-    true
-}
-
-fn is_null(packets: &[u8], at: usize) -> bool
-    requires { ⌜ at + mpegLength ≤ length (now packets) ⌝ }
-    ensures { λ r. ⌜ r ≡ same (part (now (packets .entry)) at mpegLength) nullPacket ⌝ }
-{
-    (packets[at] == dmpt::SYNC)
-        & (packets[at + 1] == NULL_PID_HIGH)
-        & (packets[at + 2] == NULL_PID_LOW)
-        & (packets[at + 3] == PAYLOAD_ONLY)
-        & all_fill(packets, at + HEAD_LENGTH, at + dmpt::MPEG_LENGTH)
+    octets::wide_u8(front.high) * 256 + octets::wide_u8(front.low) + BESIDE_FIELD
 }
 
 // Whether the packet has the header of one with frames, its second byte being with the flag or without, and the count that is expected.
@@ -178,19 +139,20 @@ fn has_header(packets: &[u8], at: usize, second: u8, expected: u8) -> bool
     requires { ⌜ at + mpegLength ≤ length (now packets) ⌝ }
     ensures { λ r. ⌜ r ≡ headed second expected (part (now (packets .entry)) at mpegLength) ⌝ }
 {
-    let count = packets[at + 3] % COUNTS;
-    (packets[at] == dmpt::SYNC)
+    let count = ts::count_at(packets, at);
+    (packets[at] == ts::SYNC_BYTE)
         & (packets[at + 1] == second)
         & (packets[at + 2] == FRAMES_PID_LOW)
-        & (packets[at + 3] == PAYLOAD_ONLY + count)
-        & ((expected == COUNTS) | (expected == count))
+        & (packets[at + 3] == ts::PAYLOAD_ONLY + count)
+        & ((expected == ts::COUNTS) | (expected == count))
 }
 
+// The count that comes behind that of the packet at this place.
 fn next_count(packets: &[u8], at: usize) -> u8
     requires { ⌜ at + mpegLength ≤ length (now packets) ⌝ }
     ensures { λ r. ⌜ r ≡ nextCount (countOf (part (now (packets .entry)) at mpegLength)) ⌝ }
 {
-    (packets[at + 3] % COUNTS + 1) % COUNTS
+    ts::next_count(ts::count_at(packets, at))
 }
 
 // Without the flag: the whole payload is of the frame that has begun.
@@ -204,8 +166,8 @@ fn without_flag(packets: &[u8], at: usize, standing: Standing) -> Standing
     }
     let front = with_bytes(
         packets,
-        at + HEAD_LENGTH,
-        dmpt::MPEG_LENGTH - HEAD_LENGTH,
+        at + ts::HEAD_LENGTH,
+        ts::MPEG_LENGTH - ts::HEAD_LENGTH,
         begun,
     );
     let said = said_length(front);
@@ -240,8 +202,8 @@ fn frames_from(packets: &[u8], start: usize, end: usize, standing: Standing) -> 
     let mut bytes = standing.bytes;
     let mut from = start;
     while from < end {
-        if packets[from] == FILL {
-            if !all_fill(packets, from, end) {
+        if packets[from] == ts::FILL_BYTE {
+            if !ts::all_fill(packets, from, end) {
                 return unsound();
             }
             return Standing {
@@ -284,16 +246,16 @@ fn with_flag(packets: &[u8], at: usize, standing: Standing) -> Standing
     requires { ⌜ (at + mpegLength ≤ length (now packets)) × Within at standing ⌝ }
     ensures { λ r. ⌜ Follows (λ s. withFlag s (part (now (packets .entry)) at mpegLength)) standing r ⌝ }
 {
-    let pointer = wide(packets[at + HEAD_LENGTH]);
-    let from = at + HEAD_LENGTH + 1;
-    let end = at + dmpt::MPEG_LENGTH;
+    let pointer = octets::wide_u8(packets[at + ts::HEAD_LENGTH]);
+    let from = at + ts::HEAD_LENGTH + 1;
+    let end = at + ts::MPEG_LENGTH;
     if POINTED_LENGTH < pointer {
         return unsound();
     }
     let expected = next_count(packets, at);
     let begun = standing.begun;
     if begun.size == 0 {
-        if (pointer != 0) | all_fill(packets, from, end) {
+        if (pointer != 0) | ts::all_fill(packets, from, end) {
             return unsound();
         }
         let ready = Standing {
@@ -325,7 +287,7 @@ fn read_packet(packets: &[u8], at: usize, standing: Standing) -> Standing
     requires { ⌜ (at + mpegLength ≤ length (now packets)) × Within at standing ⌝ }
     ensures { λ r. ⌜ Follows (λ s. readPacket s (part (now (packets .entry)) at mpegLength)) standing r ⌝ }
 {
-    if is_null(packets, at) {
+    if ts::is_null(packets, at) {
         if standing.begun.size != 0 {
             return unsound();
         }
@@ -334,7 +296,12 @@ fn read_packet(packets: &[u8], at: usize, standing: Standing) -> Standing
     if has_header(packets, at, FRAMES_PID_HIGH, standing.expected) {
         return without_flag(packets, at, standing);
     }
-    if has_header(packets, at, START_FLAG + FRAMES_PID_HIGH, standing.expected) {
+    if has_header(
+        packets,
+        at,
+        ts::START_FLAG + FRAMES_PID_HIGH,
+        standing.expected,
+    ) {
         return with_flag(packets, at, standing);
     }
     unsound()
@@ -345,7 +312,7 @@ fn at_start() -> Standing
 {
     Standing {
         sound: true,
-        expected: COUNTS,
+        expected: ts::COUNTS,
         begun: front_of_none(),
         frames: 0,
         bytes: 0,
@@ -356,14 +323,14 @@ fn at_start() -> Standing
 fn survey(packets: &[u8]) -> Standing
     ensures { λ r. ⌜ r ≡ standingOf (reading (now (packets .entry))) ⌝ }
 {
-    if packets.len() % dmpt::MPEG_LENGTH != 0 {
+    if packets.len() % ts::MPEG_LENGTH != 0 {
         return unsound();
     }
     let mut standing = at_start();
     let mut at: usize = 0;
     while standing.sound & (at < packets.len()) {
         standing = read_packet(packets, at, standing);
-        at += dmpt::MPEG_LENGTH;
+        at += ts::MPEG_LENGTH;
     }
     standing
 }
@@ -374,9 +341,9 @@ fn bytes_at(packets: &[u8], at: usize) -> usize
     ensures { λ r. ⌜ r ≡ bytesAt (part (now (packets .entry)) at mpegLength) ⌝ }
 {
     if packets[at + 1] == FRAMES_PID_HIGH {
-        HEAD_LENGTH
+        ts::HEAD_LENGTH
     } else {
-        HEAD_LENGTH + 1
+        ts::HEAD_LENGTH + 1
     }
 }
 
@@ -413,7 +380,7 @@ fn write_frames(packets: &[u8], output: &mut [u8], total: usize)
         let behind = next.bytes + next.begun.size;
         write_bytes(packets, at, output, before, behind, total);
         standing = next;
-        at += dmpt::MPEG_LENGTH;
+        at += ts::MPEG_LENGTH;
     }
 }
 

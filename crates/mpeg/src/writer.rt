@@ -5,23 +5,15 @@ ghost use Prim.Native.Nat.{_+_, _-_, _/_, _<_, _≤_, min};
 ghost use mathlib.Core.Bool.{false};
 ghost use lib.ListN.{length, replicate};
 ghost use Rattle.octets.specs.Stretch.{part, rest, put};
-ghost use Rattle.packet.specs.Dmpt.{mpegLength};
-ghost use Rattle.mpeg.specs.Packet.{headLength, pointedLength, framesPid, fillByte, nextCount, header, flagged};
+ghost use Rattle.ts.specs.Packet.{mpegLength, headLength, flagged, nextCount, header, fillByte};
+ghost use Rattle.mpeg.specs.Packet.{pointedLength, framesPid};
 ghost use Rattle.mpeg.specs.Write.{badFrames, leftAt, dataPacket, carries, PermitsWrite};
 ghost use Rattle.mpeg.specs.Inside.Writing.{badFirst, notAll, behindPointer, Waiting};
 use crate::BESIDE_FIELD;
-use crate::COUNTS;
 use crate::FIELD_AT;
-use crate::FILL;
-use crate::FRAMES_PID_HIGH;
-use crate::FRAMES_PID_LOW;
-use crate::HEAD_LENGTH;
+use crate::FRAMES_PID;
 use crate::LONGEST;
-use crate::PAYLOAD_LENGTH;
-use crate::PAYLOAD_ONLY;
 use crate::POINTED_LENGTH;
-use crate::START_FLAG;
-use packet::dmpt;
 
 // What a call answers: 0 or the refusal's number, how many bytes have been sent now, the next count, and whether the packet is a null packet.
 // Refused: the place and the count that were given.
@@ -47,13 +39,6 @@ struct Passed {
     begun: usize,
 }
 
-// A frame's length as a number to count with.
-fn wide(length: u16) -> usize
-    ensures { λ r. ⌜ (r ≡ length) × (r < 65536) ⌝ }
-{
-    length as usize
-}
-
 // Whether the `size` bytes from place `start` on are no frame that may be written, or are not there.
 fn bad_frame(frames: &[u8], start: usize, size: usize) -> bool
     requires { ⌜ (start ≤ length (now frames)) × (size < 65536) ⌝ }
@@ -62,8 +47,8 @@ fn bad_frame(frames: &[u8], start: usize, size: usize) -> bool
     if (size < BESIDE_FIELD) | (LONGEST < size) | (frames.len() < start + size) {
         return true;
     }
-    let said = wide(octets::read_u16(frames, start + FIELD_AT)) + BESIDE_FIELD;
-    (said != size) | (frames[start] == FILL)
+    let said = octets::wide_u16(octets::read_u16(frames, start + FIELD_AT)) + BESIDE_FIELD;
+    (said != size) | (frames[start] == ts::FILL_BYTE)
 }
 
 // Goes through the frames up to one that may not be written. It says how far it came, and not whether that is the end: so nothing is at hand in the loop
@@ -76,7 +61,7 @@ fn pass(frames: &[u8], lengths: &[u16], place: usize) -> Passed
     let mut start: usize = 0;
     let mut k: usize = 0;
     while k < lengths.len() {
-        let size = wide(lengths[k]);
+        let size = octets::wide_u16(lengths[k]);
         if bad_frame(frames, start, size) {
             return Passed {
                 frames: k,
@@ -113,41 +98,14 @@ fn survey(frames: &[u8], lengths: &[u16], place: usize) -> Surveyed
     }
 }
 
-fn next_count(count: u8) -> u8
-    ensures { λ r. ⌜ r ≡ nextCount count ⌝ }
-{
-    (count % COUNTS + 1) % COUNTS
-}
-
-// The byte with the flag, set or not, and the upper bits of the PID.
-fn flag_byte(starts: bool) -> u8
-    ensures { λ r. ⌜ r ≡ flagged starts (framesPid / 256) ⌝ }
-{
-    if starts {
-        return START_FLAG + FRAMES_PID_HIGH;
-    }
-    FRAMES_PID_HIGH
-}
-
-// Writes the header of a packet with frames.
-fn write_header(output: &mut [u8], starts: bool, count: u8)
-    requires { ⌜ headLength ≤ length (now output) ⌝ }
-    ensures { λ _. ⌜ now (output .exit) ≡ put (now (output .entry)) 0 (header starts framesPid count) ⌝ }
-{
-    output[0] = dmpt::SYNC;
-    output[1] = flag_byte(starts);
-    output[2] = FRAMES_PID_LOW;
-    output[3] = PAYLOAD_ONLY + count % COUNTS;
-}
-
 // Fills up with 0xFF, from place `at` to the packet's end.
 fn fill(output: &mut [u8], at: usize)
     requires { ⌜ (at ≤ mpegLength) × (mpegLength ≤ length (now output)) ⌝ }
     ensures { λ _. ⌜ now (output .exit) ≡ put (now (output .entry)) at (replicate (mpegLength - at) fillByte) ⌝ }
 {
     let mut i = at;
-    while i < dmpt::MPEG_LENGTH {
-        output[i] = FILL;
+    while i < ts::MPEG_LENGTH {
+        output[i] = ts::FILL_BYTE;
         i += 1;
     }
 }
@@ -179,11 +137,11 @@ fn write_pointed(output: &mut [u8], frames: &[u8], place: usize) -> usize
 {
     let waiting = frames.len() - place;
     if POINTED_LENGTH <= waiting {
-        copy_long(output, HEAD_LENGTH + 1, frames, place, POINTED_LENGTH);
+        copy_long(output, ts::HEAD_LENGTH + 1, frames, place, POINTED_LENGTH);
         return POINTED_LENGTH;
     }
-    octets::copy(output, HEAD_LENGTH + 1, frames, place, waiting);
-    fill(output, HEAD_LENGTH + 1 + waiting);
+    octets::copy(output, ts::HEAD_LENGTH + 1, frames, place, waiting);
+    fill(output, ts::HEAD_LENGTH + 1 + waiting);
     waiting
 }
 
@@ -193,13 +151,13 @@ fn write_data(output: &mut [u8], frames: &[u8], place: usize, left: usize, count
     ensures { λ r. ⌜ r ≡ carries left (rest (now (frames .entry)) place) ⌝ }
     ensures { λ _. ⌜ now (output .exit) ≡ put (now (output .entry)) 0 (dataPacket count left (rest (now (frames .entry)) place)) ⌝ }
 {
-    if PAYLOAD_LENGTH <= left {
-        write_header(output, false, count);
-        copy_long(output, HEAD_LENGTH, frames, place, PAYLOAD_LENGTH);
-        return PAYLOAD_LENGTH;
+    if ts::PAYLOAD_LENGTH <= left {
+        ts::write_header(output, false, FRAMES_PID, count);
+        copy_long(output, ts::HEAD_LENGTH, frames, place, ts::PAYLOAD_LENGTH);
+        return ts::PAYLOAD_LENGTH;
     }
-    write_header(output, true, count);
-    output[HEAD_LENGTH] = left as u8;
+    ts::write_header(output, true, FRAMES_PID, count);
+    output[ts::HEAD_LENGTH] = left as u8;
     write_pointed(output, frames, place)
 }
 
@@ -224,7 +182,7 @@ pub fn write(frames: &[u8], lengths: &[u16], place: usize, count: u8, output: &m
             null: false,
         };
     }
-    if output.len() < dmpt::MPEG_LENGTH {
+    if output.len() < ts::MPEG_LENGTH {
         return Written {
             code: refusal::MPEG_OUTPUT_TOO_SMALL,
             place,
@@ -233,8 +191,8 @@ pub fn write(frames: &[u8], lengths: &[u16], place: usize, count: u8, output: &m
         };
     }
     if frames.len() <= place {
-        let null = crate::null_packet();
-        octets::copy(output, 0, &null, 0, dmpt::MPEG_LENGTH);
+        let null = ts::null_packet();
+        octets::copy(output, 0, &null, 0, ts::MPEG_LENGTH);
         return Written {
             code: refusal::NONE,
             place,
@@ -246,7 +204,7 @@ pub fn write(frames: &[u8], lengths: &[u16], place: usize, count: u8, output: &m
     Written {
         code: refusal::NONE,
         place: place + carried,
-        count: next_count(count),
+        count: ts::next_count(count),
         null: false,
     }
 }

@@ -347,3 +347,31 @@ pub total-lengthsOf : (a : List (List ℕ)) → total (lengthsOf a) ≡ length (
 unfolding lengthsOf joined
 total-lengthsOf [] = refl
 total-lengthsOf (s ∷ a) = omega (arith, total-lengthsOf a, length-append s (joined a))
+
+-- four elements stored one behind the other at the front are a put
+pub set-four-put : (d : List ℕ) (a b c e : ℕ) → 4 ≤ length d → set (set (set (set d 0 a) 1 b) 2 c) 3 e ≡ put d 0 (a ∷ b ∷ c ∷ e ∷ [])
+set-four-put d a b c e h =
+    let two = put d 0 (a ∷ b ∷ []) in
+    let long : length two ≡ length d = length-put d 0 (a ∷ b ∷ []) (omega arith) in
+    ap (λ (l : List ℕ). set (set l 2 c) 3 e) (set-set-put d 0 a b (omega arith))
+    ∙ set-set-put two 2 c e (omega arith)
+    ∙ put-put d 0 (a ∷ b ∷ []) (c ∷ e ∷ []) (omega arith)
+
+-- a stretch from its first element on
+pub part-cons : (l : List ℕ) (i j n m : ℕ) → j ≡ i + 1 → n ≡ 1 + m → i < length l → part l i n ≡ byteAt l i ∷ part l j m
+part-cons l i j n m e d h = rw (e, d) (sym (part-part l i 1 m) ∙ ap (λ (one : List ℕ). one ++ part l (i + 1) m) (part-one l i h))
+
+-- .. up to a place
+pub part-to-cons : (l : List ℕ) (i to : ℕ) → i < to → to ≤ length l → part l i (to - i) ≡ byteAt l i ∷ part l (i + 1) (to - (i + 1))
+part-to-cons l i to h k = part-cons l i (i + 1) (to - i) (to - (i + 1)) refl (omega arith) (omega arith)
+
+-- .. and from its first four on
+pub part-four : (l : List ℕ) (at m : ℕ) → at + 4 ≤ length l →
+    part l at (4 + m) ≡ byteAt l at ∷ byteAt l (at + 1) ∷ byteAt l (at + 2) ∷ byteAt l (at + 3) ∷ part l (at + 4) m
+part-four l at m h =
+    part-cons l at (at + 1) (4 + m) (3 + m) refl (omega arith) (omega arith)
+    ∙ ap (λ (s : List ℕ). byteAt l at ∷ s)
+    (part-cons l (at + 1) (at + 2) (3 + m) (2 + m) (omega arith) (omega arith) (omega arith)
+    ∙ ap (λ (s : List ℕ). byteAt l (at + 1) ∷ s)
+    (part-cons l (at + 2) (at + 3) (2 + m) (1 + m) (omega arith) (omega arith) (omega arith)
+    ∙ ap (λ (s : List ℕ). byteAt l (at + 2) ∷ s) (part-cons l (at + 3) (at + 4) (1 + m) m (omega arith) refl (omega arith))))

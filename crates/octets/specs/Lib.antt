@@ -2,3 +2,4 @@ pub mod Bytes
 pub mod Stretch
 pub mod Count
 pub mod Each
+pub mod Tests

@@ -8,13 +8,14 @@ use lib.ListN.{length, take, set, replicate}
 use Rattle.octets.specs.Stretch.{part, rest}
 use Rattle.octets.specs.Count.{any, sumTo, upTo}
 use Rattle.flow.specs.Flow.{topFlow, flows}
+use Rattle.ts.specs.Packet.{pid, nullPid}
 use Rattle.packet.specs.declared.Extent.{Extent}
 use Rattle.packet.specs.Header.{Packet, packetBy, overIp, overUdp, udpLead, longestPacket, ip, udp, udpFront, inUdp, sub, sessionId}
 use Rattle.packet.specs.Header.{sSet, flowId, segmentCount, number}
 use Rattle.packet.specs.Header.{idLength, headerLength, shortestPacket}
 use Rattle.packet.specs.Segments.{entryWidth, lengthIn, segments, segmentAt, bodyAt}
 use Rattle.packet.specs.Psp.{wanted}
-use Rattle.packet.specs.Dmpt.{mpegAt, mpegs, pid, nullPid}
+use Rattle.packet.specs.Dmpt.{mpegAt, mpegs}
 use Rattle.packet.specs.Check.{checkRefusals, check, causeRefusals, segmentCause, segmentExtent, segmentGiven}
 
 abbrev pub A : List ℕ

@@ -16,12 +16,13 @@ use Rattle.octets.specs.Count.{any}
 use Rattle.octets.proofs.Counts.{none-at, or-false-left, or-false-right, sum-within}
 use Rattle.octets.proofs.Stretches.{length-rest}
 use Rattle.flow.specs.Flow.{topFlow}
+use Rattle.ts.specs.Packet.{mpegLength, syncByte}
 use Rattle.packet.specs.Header.{Packet, transportUnknown, lead, notVersion3, idLength, sessionId, sub, headerLength}
 use Rattle.packet.specs.Header.{flowId, countValues}
 use Rattle.packet.specs.Header.{segmentCount, notPlain, shortestPacket, longestPacket, beforeSession}
 use Rattle.packet.specs.Segments.{entryWidth, entryAt, beginsIn, endsIn, lengthIn, lengthAt, bodyAt}
 use Rattle.packet.specs.Psp.{wanted, badAt, segmentRefusals, pspRefusals}
-use Rattle.packet.specs.Dmpt.{mpegLength, syncByte, carried, mpegCount, mpegAt, dmptRefusals}
+use Rattle.packet.specs.Dmpt.{carried, mpegCount, mpegAt, dmptRefusals}
 use Rattle.packet.specs.Check.{kindPsp, checkRefusals, check, causeRefusals, segmentCause}
 
 -- Refusals 24, 2, 3, 15 and 4 passed.

@@ -1,5 +1,5 @@
 -- D-MPT packets (document 01, "Packet layout"; DEPI I05, section 8.2): behind the sub-layer header come whole MPEG packets of 188
--- bytes, each starting 0x47; byte 1 of `sub` is read by nobody. And refusals 6, 7 and 9 to 11 of such a packet.
+-- bytes (crate `ts`), each starting 0x47; byte 1 of `sub` is read by nobody. And refusals 6, 7 and 9 to 11 of such a packet.
 use Prim.Native.Nat.{ℕ, _+_, _-_, _*_, _/_, _%_}
 use mathlib.Core.Bool.{not}
 use mathlib.Core.List.{List, [], _∷_}
@@ -9,13 +9,8 @@ use Rattle.refusal.specs.Refusal.{Refusal, _when_}
 use Rattle.octets.specs.Bytes.{byteAt}
 use Rattle.octets.specs.Stretch.{part}
 use Rattle.octets.specs.Count.{any, upTo}
+use Rattle.ts.specs.Packet.{mpegLength, syncByte}
 use Rattle.packet.specs.Header.{headerLength, flowId, notPlain}
-
-abbrev pub mpegLength : ℕ
-mpegLength = 188
-
-abbrev pub syncByte : ℕ
-syncByte = 0x47
 
 -- how many bytes stand behind the header, and how many whole MPEG packets
 abbrev pub carried : List ℕ → ℕ
@@ -29,13 +24,6 @@ mpegAt sub k = part sub (headerLength + mpegLength * k) mpegLength
 
 unfoldable pub mpegs : List ℕ → List (List ℕ)
 mpegs sub = upTo (mpegAt sub) (mpegCount sub)
-
--- the PID of an MPEG packet: the low 5 bits of its byte 1, then byte 2; and the PID of one that carries nothing
-abbrev pub pid : List ℕ → ℕ
-pid mpeg = byteAt mpeg 1 % 32 * 256 + byteAt mpeg 2
-
-abbrev pub nullPid : ℕ
-nullPid = 0x1FFF
 
 abbrev pub mpegRefusals : List ℕ → List Refusal
 mpegRefusals sub =

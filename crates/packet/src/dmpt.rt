@@ -7,24 +7,17 @@ ghost use lib.ListN.{length};
 ghost use Rattle.refusal.specs.Refusal.{first};
 ghost use Rattle.octets.specs.Bytes.{byteAt};
 ghost use Rattle.octets.specs.Count.{any};
+ghost use Rattle.ts.specs.Packet.{mpegLength, syncByte, pid};
 ghost use Rattle.packet.specs.Header.{headerLength};
-ghost use Rattle.packet.specs.Dmpt.{mpegLength, syncByte, mpegCount, mpegAt, pid, mpegRefusals, dmptRefusals};
+ghost use Rattle.packet.specs.Dmpt.{mpegCount, mpegAt, mpegRefusals, dmptRefusals};
 use crate::header;
-
-pub const MPEG_LENGTH: usize = 188;
-
-// The PID of an MPEG packet that carries nothing.
-pub const NULL_PID: u16 = 0x1FFF;
-
-// Every MPEG packet starts with it.
-pub const SYNC: u8 = 0x47;
 
 // How many MPEG packets there are.
 pub fn mpeg_count(sub: &[u8]) -> usize
     requires { ⌜ headerLength ≤ length (now sub) ⌝ }
     ensures { λ r. ⌜ r ≡ mpegCount (now (sub .entry)) ⌝ }
 {
-    (sub.len() - header::HEADER_LENGTH) / MPEG_LENGTH
+    (sub.len() - header::HEADER_LENGTH) / ts::MPEG_LENGTH
 }
 
 // The PID of MPEG packet k.
@@ -32,7 +25,7 @@ pub fn pid_of(sub: &[u8], k: usize) -> u16
     requires { ⌜ headerLength + mpegLength * k + mpegLength ≤ length (now sub) ⌝ }
     ensures { λ r. ⌜ r ≡ pid (mpegAt (now (sub .entry)) k) ⌝ }
 {
-    octets::read_u16(sub, header::HEADER_LENGTH + MPEG_LENGTH * k + 1) % 8192
+    ts::pid_at(sub, header::HEADER_LENGTH + ts::MPEG_LENGTH * k)
 }
 
 // Whether one of the first n MPEG packets starts with another byte than 0x47.
@@ -43,7 +36,7 @@ fn any_unsynced(sub: &[u8], n: usize) -> bool
     let mut unsynced = false;
     let mut k: usize = 0;
     while k < n {
-        unsynced = unsynced | (sub[header::HEADER_LENGTH + MPEG_LENGTH * k] != SYNC);
+        unsynced = unsynced | (sub[header::HEADER_LENGTH + ts::MPEG_LENGTH * k] != ts::SYNC_BYTE);
         k += 1;
     }
     unsynced
@@ -58,7 +51,7 @@ fn refuse_mpegs(sub: &[u8]) -> u32
     if carried == 0 {
         return refusal::NOTHING_CARRIED;
     }
-    if carried % MPEG_LENGTH != 0 {
+    if carried % ts::MPEG_LENGTH != 0 {
         return refusal::LENGTHS_DISAGREE;
     }
     if any_unsynced(sub, mpeg_count(sub)) {

@@ -12,10 +12,11 @@ use Rattle.octets.specs.Stretch.{part}
 use Rattle.octets.proofs.Counts.{sum-same, sum-more}
 use Rattle.octets.proofs.Stretches.{length-part}
 use Rattle.flow.specs.Flow.{longest}
+use Rattle.ts.specs.Packet.{mpegLength}
 use Rattle.packet.specs.Header.{idLength, headerLength, segmentCount, longestPacket}
 use Rattle.packet.specs.Segments.{Segment, entryAt, beginsIn, endsIn, lengthIn, lengthAt, bodyAt, segmentAt}
 use Rattle.packet.specs.Psp.{wanted}
-use Rattle.packet.specs.Dmpt.{mpegLength, mpegCount, mpegAt, dmptRefusals}
+use Rattle.packet.specs.Dmpt.{mpegCount, mpegAt, dmptRefusals}
 use Rattle.packet.proofs.Passing.{SegmentsPassed, body-inside, dmpt-passed, mpeg-inside}
 use Rattle.pass.specs.Pass.{passedOn, wholeWithin, bodyOf, carriesSome, asItIs}
 use Rattle.pass.proofs.Carrying.{Load, Fitting}

@@ -7,7 +7,7 @@ use mathlib.Core.List.{List}
 use lib.Dec.{eqb, leb}
 use lib.ListN.{length}
 use Rattle.packet.specs.Segments.{Segment}
-use Rattle.packet.specs.Dmpt.{pid, nullPid}
+use Rattle.ts.specs.Packet.{pid, nullPid}
 use Rattle.join.specs.Join.{Fate, delivering, dropping, inOrder}
 
 -- one piece: passed on whole, as a frame, or dropped

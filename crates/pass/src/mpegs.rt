@@ -32,9 +32,9 @@ pub fn walk(output: &mut [u8], lengths: &mut [u16], sub: &[u8]) -> Tally
     };
     let mut k: usize = 0;
     while k < count {
-        let from = header::HEADER_LENGTH + dmpt::MPEG_LENGTH * k;
-        let goes = dmpt::pid_of(sub, k) != dmpt::NULL_PID;
-        tally = crate::pass_on(output, lengths, sub, from, dmpt::MPEG_LENGTH, goes, tally);
+        let from = header::HEADER_LENGTH + ts::MPEG_LENGTH * k;
+        let goes = dmpt::pid_of(sub, k) != ts::NULL_PID;
+        tally = crate::pass_on(output, lengths, sub, from, ts::MPEG_LENGTH, goes, tally);
         k += 1;
     }
     tally

@@ -9,8 +9,9 @@ use lib.ListN.{length, length-append}
 use Rattle.octets.specs.Stretch.{joined}
 use Rattle.octets.specs.Each.{Each}
 use Rattle.octets.proofs.Elements.{each-up-to}
+use Rattle.ts.specs.Packet.{mpegLength}
 use Rattle.packet.specs.Header.{Packet, headerLength, sub, sSet}
-use Rattle.packet.specs.Dmpt.{mpegLength, mpegCount, mpegAt, mpegs}
+use Rattle.packet.specs.Dmpt.{mpegCount, mpegAt, mpegs}
 use Rattle.packet.proofs.Passing.{mpeg-inside}
 use Rattle.table.specs.declared.Table.{Table}
 use Rattle.table.specs.Rows.{isDmpt, termsAt}

@@ -7,7 +7,8 @@ use mathlib.Core.List.{List}
 use lib.Dec.{eqb}
 use lib.ListN.{length}
 use Rattle.packet.specs.Header.{sub, sSet}
-use Rattle.packet.specs.Dmpt.{mpegLength, mpegs, pid, nullPid}
+use Rattle.ts.specs.Packet.{mpegLength, pid, nullPid}
+use Rattle.packet.specs.Dmpt.{mpegs}
 use Rattle.table.specs.Rows.{isDmpt, rowAt, termsAt}
 use Rattle.card.specs.Receive.{rowOf}
 use Rattle.card.specs.History.{Card, Arrival, hands, framesOf, answer, after}

@@ -11,15 +11,16 @@ use lib.ListN.{length, replicate, length-append, length-replicate}
 use lib.Seq.{take-append-seam, drop-append-seam}
 use borrow.Author.Tests.{leb-true, leb-false, le-ltb}
 use Rattle.octets.specs.Stretch.{part, rest, put, joined, lengthsOf}
+use Rattle.octets.specs.Tests.{none}
 use Rattle.octets.proofs.Counts.{true-or-false}
 use Rattle.octets.proofs.Stretches.{length-part, part-short, length-rest, length-put, part-put, put-nil, put-put-front, joined-one-more}
-use Rattle.packet.specs.Dmpt.{mpegLength}
+use Rattle.ts.specs.Packet.{mpegLength, payloadLength, header, fillByte}
 use Rattle.text.specs.Text.{Wrote}
 use Rattle.text.proofs.Writing.{wrote-as}
 use Rattle.capture.specs.File.{longestFile}
 use Rattle.listing.specs.Listing.{refusedLine}
 use Rattle.mpeg.specs.declared.writer.Written.{Written}
-use Rattle.mpeg.specs.Packet.{payloadLength, pointedLength, framesPid, fillByte, header, filledTo, none}
+use Rattle.mpeg.specs.Packet.{pointedLength, framesPid, filledTo}
 use Rattle.mpeg.specs.Frame.{good}
 use Rattle.mpeg.specs.Write.{Asked, WriteOutcome, badFrames, leftAt, packetOf, carried, countAfter, wrote, refused, writtenBy, written}
 use Rattle.mpeg.specs.Run.{packetNext, afterNext}

@@ -8,11 +8,12 @@ use lib.ListN.{length}
 use Rattle.octets.specs.Bytes.{byteAt}
 use Rattle.octets.specs.Count.{sumTo}
 use Rattle.octets.specs.Stretch.{rest, put, joined, lengthsOf}
-use Rattle.packet.specs.Dmpt.{mpegLength}
+use Rattle.octets.specs.Tests.{none}
+use Rattle.ts.specs.Packet.{mpegLength}
 use Rattle.join.specs.Slices.{mostFrames}
 use Rattle.capture.specs.File.{longestFile, mostEntries}
 use Rattle.listing.specs.Listing.{refusedLine}
-use Rattle.mpeg.specs.Packet.{pointedLength, none}
+use Rattle.mpeg.specs.Packet.{pointedLength}
 use Rattle.mpeg.specs.Write.{badFrames, leftAt, packetOf, carried, countAfter}
 use Rattle.pspmpeg.specs.declared.gather.Gathered.{Gathered}
 

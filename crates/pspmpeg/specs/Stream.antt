@@ -9,6 +9,7 @@ use lib.Dec.{eqb}
 use lib.ListN.{length}
 use Rattle.refusal.specs.Refusal.{first}
 use Rattle.octets.specs.Stretch.{joined}
+use Rattle.octets.specs.Tests.{none}
 use Rattle.packet.specs.Header.{sessionId, beforeSession}
 use Rattle.table.specs.declared.Table.{Table}
 use Rattle.table.specs.Rows.{isDmpt, termsAt, find}
@@ -18,7 +19,6 @@ use Rattle.capture.specs.File.{Entry, dataEntry, dataOverUdp, headLength, entry
 use Rattle.replay.specs.Run.{packetOf, standing, answerAt}
 use Rattle.listing.specs.Listing.{refusedLine}
 use Rattle.mpeg.specs.Frame.{good}
-use Rattle.mpeg.specs.Packet.{none}
 use Rattle.mpeg.specs.Run.{Backlog, waitingIn, packetNext, afterNext}
 
 -- The session is open as PSP; an entry is a packet for it then, by either transport. (A packet that 24, 2, 3, 15 or 4 refuses delivers

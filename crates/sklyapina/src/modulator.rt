@@ -1,19 +1,18 @@
 // What the host program calls on the modulator's side (W3): frames into MPEG packets, MPEG packets back into frames, and the null packet.
-// Each is the call of crate `mpeg` as it stands, and its contract is that call's.
+// Each is the call of crate `mpeg`, or of `ts`, as it stands, and its contract is that call's.
 ghost use mathlib.Core.Path.{_≡_};
-ghost use Rattle.mpeg.specs.Packet.{nullPacket};
+ghost use Rattle.ts.specs.Packet.{nullPacket};
 ghost use Rattle.mpeg.specs.Write.{PermitsWrite};
 ghost use Rattle.mpeg.specs.Read.{PermitsRead};
 use mpeg::reader;
 use mpeg::reader::ReadBack;
 use mpeg::writer;
 use mpeg::writer::Written;
-use packet::dmpt;
 
 // A whole MPEG packet. C returns no array; a struct that has one it does.
 #[repr(C)]
 pub struct MpegPacket {
-    pub bytes: [u8; dmpt::MPEG_LENGTH],
+    pub bytes: [u8; ts::MPEG_LENGTH],
 }
 
 // Writes the next MPEG packet of these frames at the front of the output; or refuses, and then nothing has changed.
@@ -62,6 +61,6 @@ pub extern "C" fn sklyapina_mpeg_read(
 pub extern "C" fn sklyapina_mpeg_null() -> MpegPacket
     ensures { λ r. ⌜ r .bytes ≡ nullPacket ⌝ }
 {
-    let bytes = mpeg::null_packet();
+    let bytes = ts::null_packet();
     MpegPacket { bytes }
 }

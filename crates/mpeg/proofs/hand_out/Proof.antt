@@ -2,7 +2,7 @@
 use mathlib.Core.Path.{refl, sym}
 use native.Mathlib.Omega.{arith}
 use lib.Seq.{length-take-le}
-use Rattle.packet.specs.Dmpt.{mpegLength}
+use Rattle.ts.specs.Packet.{mpegLength}
 use Rattle.mpeg.proofs.Packets.{from-queue, from-null, handed-whole, handed-none, handed}
 use borrow.Author.Needs.{needs}
 use Rattle.mpeg.proofs.hand_out.Statement.{statement}

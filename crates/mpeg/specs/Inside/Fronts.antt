@@ -8,11 +8,12 @@ use mathlib.Core.List.{List, [], _∷_, _++_}
 use lib.ListN.{length}
 use Rattle.octets.specs.Bytes.{byteAt}
 use Rattle.octets.specs.Stretch.{part, joined}
-use Rattle.packet.specs.Dmpt.{syncByte}
+use Rattle.octets.specs.Tests.{same}
+use Rattle.ts.specs.Packet.{headLength, syncByte, payloadOnly, countOf}
 use Rattle.mpeg.specs.declared.reader.Front.{Front}
 use Rattle.mpeg.specs.declared.reader.Standing.{Standing}
-use Rattle.mpeg.specs.Packet.{headLength, pointedLength, payloadOnly, same}
-use Rattle.mpeg.specs.Read.{Found, found, countOf, countFits, unsound}
+use Rattle.mpeg.specs.Packet.{pointedLength}
+use Rattle.mpeg.specs.Read.{Found, found, countFits, unsound}
 use Rattle.mpeg.specs.Inside.Standing.{frontOf, standingOf}
 
 -- Byte `place` of a frame with these bytes more, whichever `size` bytes it has before them: `known` is that byte where it is among those.

@@ -8,9 +8,9 @@ use mathlib.Core.List.{List}
 use lib.ListN.{length}
 use Rattle.octets.specs.Bytes.{byteAt}
 use Rattle.octets.specs.Stretch.{joined}
+use Rattle.ts.specs.Packet.{counts}
 use Rattle.mpeg.specs.declared.reader.Front.{Front}
 use Rattle.mpeg.specs.declared.reader.Standing.{Standing}
-use Rattle.mpeg.specs.Packet.{counts}
 use Rattle.mpeg.specs.Frame.{fieldAt, mayBegin}
 use Rattle.mpeg.specs.Read.{Reading}
 

@@ -10,8 +10,8 @@ use lib.ListN.{length}
 use Rattle.octets.specs.Bytes.{byteAt}
 use Rattle.octets.specs.Stretch.{rest, joined}
 use Rattle.flow.specs.Flow.{longest}
-use Rattle.packet.specs.Dmpt.{mpegLength}
-use Rattle.mpeg.specs.Packet.{headLength, framesPid}
+use Rattle.ts.specs.Packet.{mpegLength, headLength}
+use Rattle.mpeg.specs.Packet.{framesPid}
 use Rattle.mpeg.specs.Frame.{saidLength}
 use Rattle.mpeg.specs.Read.{Reading, reading}
 

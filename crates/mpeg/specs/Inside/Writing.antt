@@ -6,7 +6,7 @@ use mathlib.Core.List.{List}
 use lib.Dec.{eqb, ltb}
 use lib.ListN.{length}
 use Rattle.octets.specs.Stretch.{part}
-use Rattle.packet.specs.Dmpt.{mpegLength}
+use Rattle.ts.specs.Packet.{mpegLength}
 use Rattle.mpeg.specs.Packet.{pointedLength, filledTo}
 use Rattle.mpeg.specs.Frame.{good}
 

@@ -1,7 +1,7 @@
 -- `mpeg::reader::at_start` answers the numbers of a reading that has found nothing.
 use mathlib.Core.Bool.{true}
 use Rattle.octets.specs.Stretch.{joined}
-use Rattle.mpeg.specs.Packet.{counts}
+use Rattle.ts.specs.Packet.{counts}
 use Rattle.mpeg.proofs.Fronts.{none-found}
 use borrow.Author.Needs.{needs}
 use Rattle.mpeg.proofs.reader.at_start.Statement.{statement}

@@ -4,11 +4,8 @@ use borrow.Author.Needs.{needs}
 use Rattle.mpeg.proofs.reader.has_header.Statement.{statement}
 use Rattle.mpeg.proofs.reader.has_header.Tie as tie
 
-add-count : tie.Need-add-count
-add-count c = search needs
-
-shared-slice-read-count : tie.Need-shared-slice-read-count
-shared-slice-read-count c = search needs
+count-at-requires : tie.Need-count-at-requires
+count-at-requires c κs = search needs
 
 shared-slice-read-result : tie.Need-shared-slice-read-result
 shared-slice-read-result c = search needs
@@ -36,15 +33,15 @@ add-result-4 c = search needs
 
 returns : tie.Need-returns
 returns c =
-    let s = c .before .before .before .before .before in
-    headed-is (s .args .packets .now) (s .args .at) (s .args .second) (s .args .expected) (s .pre)
+    let counted = c .before .before .before .before in
+    let s = counted .before .before in
+    headed-is (s .args .packets .now) (s .args .at) (s .args .second) (s .args .expected) (s .pre) (counted .count-at .ensures)
 
 pub has-header-spec : {M : Type 1} → statement M
 has-header-spec =
     tie.close
     (tie.spec
-    add-count
-    shared-slice-read-count
+    count-at-requires
     shared-slice-read-result
     add-result
     shared-slice-read-result-2

@@ -7,7 +7,7 @@ use lib.Dec.{ltb}
 use lib.ListN.{length}
 use borrow.Author.Tests.{ltb-true}
 use Rattle.refusal.proofs.Laws.{and-left, and-right}
-use Rattle.packet.specs.Dmpt.{mpegLength}
+use Rattle.ts.specs.Packet.{mpegLength}
 use Rattle.mpeg.specs.Inside.Standing.{standingOf}
 use Rattle.mpeg.proofs.Passes.{Passing, pass-begin, pass-inside, pass-within, pass-turn, pass-end, reading-cut}
 use borrow.Author.Needs.{needs}

@@ -1,7 +1,7 @@
 -- `mpeg::reader::unsound` answers the numbers of a reading that is not sound.
 use mathlib.Core.Bool.{false}
 use Rattle.octets.specs.Stretch.{joined}
-use Rattle.mpeg.specs.Packet.{counts}
+use Rattle.ts.specs.Packet.{counts}
 use Rattle.mpeg.proofs.Fronts.{none-found}
 use borrow.Author.Needs.{needs}
 use Rattle.mpeg.proofs.reader.unsound.Statement.{statement}

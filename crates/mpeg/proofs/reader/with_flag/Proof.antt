@@ -12,14 +12,14 @@ use borrow.Author.Needs.{needs}
 use Rattle.mpeg.proofs.reader.with_flag.Statement.{statement}
 use Rattle.mpeg.proofs.reader.with_flag.Tie as tie
 
-add-wide : tie.Need-add-wide
-add-wide c = search needs
+add-wide-u8 : tie.Need-add-wide-u8
+add-wide-u8 c = search needs
 
-shared-slice-read-wide : tie.Need-shared-slice-read-wide
-shared-slice-read-wide c = search needs
+shared-slice-read-wide-u8 : tie.Need-shared-slice-read-wide-u8
+shared-slice-read-wide-u8 c = search needs
 
-wide-requires : tie.Need-wide-requires
-wide-requires c κs = search needs
+wide-u8-requires : tie.Need-wide-u8-requires
+wide-u8-requires c κs = search needs
 
 add-from : tie.Need-add-from
 add-from c = search needs
@@ -37,7 +37,7 @@ returns : tie.Need-returns
 returns c =
     let a = c .before .before .before .before .before .args in
     λ s may is.
-    flag-outside (a .packets .now) (a .at) (c .before .before .before .before .before .pre .0) (c .before .before .wide .ensures .0) s
+    flag-outside (a .packets .now) (a .at) (c .before .before .before .before .before .pre .0) (c .before .before .wide-u8 .ensures .0) s
     (c .before .if1 .taken) (c .unsound .ensures)
 
 next-count-requires : tie.Need-next-count-requires
@@ -54,7 +54,7 @@ returns-2 c =
     let a = c .before .before .before .before .before .before .before .before .before .before .before .args in
     λ s may is.
     flag-none-spoilt (a .packets .now) (a .at) (c .before .before .before .before .before .before .before .before .before .before .before .pre .0)
-    (c .before .before .before .before .before .before .before .before .wide .ensures .0)
+    (c .before .before .before .before .before .before .before .before .wide-u8 .ensures .0)
     (c .before .before .before .before .before .before .before .if1 .left) s is
     (c .before .before .before .before .before .before .next-count .ensures)
     (c .before .before .before .if2 .taken) (c .before .before .all-fill .ensures) (c .before .if3 .taken) (c .unsound2 .ensures)
@@ -67,7 +67,7 @@ returns-3 c =
     let a = c .before .before .before .before .before .before .before .before .before .before .before .args in
     λ s may is.
     flag-none-found (a .packets .now) (a .at) (c .before .before .before .before .before .before .before .before .before .before .before .pre .0)
-    (c .before .before .before .before .before .before .before .before .wide .ensures .0)
+    (c .before .before .before .before .before .before .before .before .wide-u8 .ensures .0)
     (c .before .before .before .before .before .before .before .if1 .left) s is
     (c .before .before .before .before .before .before .next-count .ensures)
     (c .before .before .before .if2 .taken) (c .before .before .all-fill .ensures) (c .before .if3 .left) (c .frames-from .ensures)
@@ -87,7 +87,7 @@ returns-4 c =
     λ s may is.
     flag-some-spoilt (a .packets .now) (a .at)
     (c .before .before .before .before .before .before .before .before .before .before .before .before .before .pre .0)
-    (c .before .before .before .before .before .before .before .before .before .before .wide .ensures .0)
+    (c .before .before .before .before .before .before .before .before .before .before .wide-u8 .ensures .0)
     (c .before .before .before .before .before .before .before .before .before .if1 .left) s is
     (c .before .before .before .before .before .before .before .before .next-count .ensures)
     may (c .before .before .before .before .before .if2 .left)
@@ -132,7 +132,7 @@ returns-5 c =
     λ s may is.
     flag-some-found (a .packets .now) (a .at)
     (c .before .before .before .before .before .before .before .before .before .before .before .before .before .before .before .before .pre .0)
-    (c .before .before .before .before .before .before .before .before .before .before .before .before .before .wide .ensures .0)
+    (c .before .before .before .before .before .before .before .before .before .before .before .before .before .wide-u8 .ensures .0)
     (c .before .before .before .before .before .before .before .before .before .before .before .before .if1 .left) s is
     (c .before .before .before .before .before .before .before .before .before .before .before .next-count .ensures)
     may (c .before .before .before .before .before .before .before .before .if2 .left)
@@ -144,9 +144,9 @@ pub with-flag-spec : {M : Type 1} → statement M
 with-flag-spec =
     tie.close
     (tie.spec
-    add-wide
-    shared-slice-read-wide
-    wide-requires
+    add-wide-u8
+    shared-slice-read-wide-u8
+    wide-u8-requires
     add-from
     add-from-2
     add-end

@@ -19,8 +19,8 @@ add-read-u16 c = search needs
 read-u16-requires : tie.Need-read-u16-requires
 read-u16-requires c κs = let s = c .before .before in let a = s .args in field-there (a .frames .now) (a .start) (a .size) (s .pre .0) (c .if1 .left)
 
-wide-requires : tie.Need-wide-requires
-wide-requires c κs = search needs
+wide-u16-requires : tie.Need-wide-u16-requires
+wide-u16-requires c κs = search needs
 
 add-said : tie.Need-add-said
 add-said c = search needs
@@ -36,8 +36,8 @@ returns-2 : tie.Need-returns-2
 returns-2 c =
     let s = c .before .before .before .before .before in
     let a = s .args in
-    judged (a .frames .now) (a .start) (a .size) (s .pre .0) (c .before .before .before .if1 .left) (c .before .wide .result)
-    (c .before .wide .ensures .0 ∙ c .before .before .read-u16 .ensures)
+    judged (a .frames .now) (a .start) (a .size) (s .pre .0) (c .before .before .before .if1 .left) (c .before .wide-u16 .result)
+    (c .before .wide-u16 .ensures .0 ∙ c .before .before .read-u16 .ensures)
 
 pub bad-frame-spec : {M : Type 1} → statement M
 bad-frame-spec =
@@ -47,7 +47,7 @@ bad-frame-spec =
     returns
     add-read-u16
     read-u16-requires
-    wide-requires
+    wide-u16-requires
     add-said
     shared-slice-read-result
     returns-2)

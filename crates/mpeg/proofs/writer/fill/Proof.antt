@@ -1,7 +1,7 @@
 -- `mpeg::writer::fill` is right since after each turn the bytes from `at` to `i` are 0xFF (`Filling`).
 use Prim.Native.Nat.{_-_}
 use native.Mathlib.Omega.{arith}
-use Rattle.packet.specs.Dmpt.{mpegLength}
+use Rattle.ts.specs.Packet.{mpegLength}
 use Rattle.mpeg.proofs.Packets.{Filling, fill-begin, fill-turn, fill-end}
 use borrow.Author.Needs.{needs}
 use Rattle.mpeg.proofs.writer.fill.Statement.{statement}

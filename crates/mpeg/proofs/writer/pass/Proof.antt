@@ -20,17 +20,17 @@ abbrev μ-loop : tie.MeasureT-loop
 loop-holds : tie.Need-loop-holds Inv-loop μ-loop
 loop-holds c = let a = c .before .before .args in survey-begin (a .frames .now) (a .lengths .now) (a .place)
 
-mul-wide : tie.Need-mul-wide Inv-loop μ-loop
-mul-wide c = search needs
+mul-wide-u16 : tie.Need-mul-wide-u16 Inv-loop μ-loop
+mul-wide-u16 c = search needs
 
-shared-slice-read-wide : tie.Need-shared-slice-read-wide Inv-loop μ-loop
-shared-slice-read-wide c = search needs
+shared-slice-read-wide-u16 : tie.Need-shared-slice-read-wide-u16 Inv-loop μ-loop
+shared-slice-read-wide-u16 c = search needs
 
-wide-requires : tie.Need-wide-requires Inv-loop μ-loop
-wide-requires c κs = search needs
+wide-u16-requires : tie.Need-wide-u16-requires Inv-loop μ-loop
+wide-u16-requires c κs = search needs
 
 bad-frame-requires : tie.Need-bad-frame-requires Inv-loop μ-loop
-bad-frame-requires c κs = (c .before .before .before .loop .inv .in-bytes, c .wide .ensures .1)
+bad-frame-requires c κs = (c .before .before .before .loop .inv .in-bytes, c .wide-u16 .ensures .1)
 
 returns : tie.Need-returns Inv-loop μ-loop
 returns c =
@@ -38,19 +38,19 @@ returns c =
     let turn = size .before .before in
     let s = turn .before .loop .inv in
     let here = sym (c .if1 .taken) ∙ c .before .bad-frame .ensures in
-    let bad = survey-stop s (size .wide .result) (turn .loop-test .taken) (size .wide .ensures .0) here in (
-      survey-not-all s (size .wide .result) (turn .loop-test .taken) (size .wide .ensures .0) here,
+    let bad = survey-stop s (size .wide-u16 .result) (turn .loop-test .taken) (size .wide-u16 .ensures .0) here in (
+      survey-not-all s (size .wide-u16 .result) (turn .loop-test .taken) (size .wide-u16 .ensures .0) here,
       λ e. absurd (true≢false (bad ∙ e)),
     )
 
 -- the frame is sound, so it ends within the bytes
 inside : (c : tie.Else1 Inv-loop μ-loop) →
-    c .before .before .before .before .before .loop .start + c .before .before .wide .result ≤
+    c .before .before .before .before .before .loop .start + c .before .before .wide-u16 .result ≤
     length (c .before .before .before .before .before .before .before .before .args .frames .now)
 inside c =
     let size = c .before .before in
     let turn = size .before .before in
-    survey-inside (turn .before .loop .inv) (size .wide .result) (turn .loop-test .taken) (size .wide .ensures .0)
+    survey-inside (turn .before .loop .inv) (size .wide-u16 .result) (turn .loop-test .taken) (size .wide-u16 .ensures .0)
     (sym (c .if1 .left) ∙ c .before .bad-frame .ensures)
 
 add-begun : tie.Need-add-begun Inv-loop μ-loop
@@ -72,8 +72,8 @@ loop-again c =
     let s = turn .before .loop .inv in
     let sound = sym (c .before .if1 .left) ∙ c .before .before .bad-frame .ensures in
     ⊎-elim
-    (λ w. survey-begun s (size .wide .result) (turn .loop-test .taken) (size .wide .ensures .0) sound (c .if2 .begun) (omega arith) (omega arith))
-    (λ w. survey-kept s (size .wide .result) (turn .loop-test .taken) (size .wide .ensures .0) sound (c .if2 .begun) (omega arith) (omega arith))
+    (λ w. survey-begun s (size .wide-u16 .result) (turn .loop-test .taken) (size .wide-u16 .ensures .0) sound (c .if2 .begun) (omega arith) (omega arith))
+    (λ w. survey-kept s (size .wide-u16 .result) (turn .loop-test .taken) (size .wide-u16 .ensures .0) sound (c .if2 .begun) (omega arith) (omega arith))
     (c .if2 .came)
 
 returns-2 : tie.Need-returns-2 Inv-loop μ-loop
@@ -89,9 +89,9 @@ pass-spec =
     Inv-loop
     μ-loop
     loop-holds
-    mul-wide
-    shared-slice-read-wide
-    wide-requires
+    mul-wide-u16
+    shared-slice-read-wide-u16
+    wide-u16-requires
     bad-frame-requires
     returns
     add-begun

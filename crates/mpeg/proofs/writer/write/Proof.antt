@@ -4,7 +4,7 @@ use mathlib.Core.Path.{_≡_, sym, _∙_}
 use mathlib.Core.Bool.{false}
 use native.Mathlib.Omega.{arith}
 use lib.ListN.{length}
-use Rattle.packet.specs.Dmpt.{mpegLength}
+use Rattle.ts.specs.Packet.{mpegLength}
 use Rattle.mpeg.specs.Write.{Asked, badFrames, leftAt}
 use Rattle.mpeg.proofs.Writing.{write-bad, write-small, write-null, waits, carried-there, write-frames}
 use borrow.Author.Needs.{needs}

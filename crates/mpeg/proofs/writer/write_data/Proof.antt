@@ -4,7 +4,7 @@ use Prim.Native.Nat.{_<_}
 use mathlib.Core.Path.{_∙_}
 use native.Mathlib.Omega.{arith}
 use lib.ListN.{length-set}
-use Rattle.mpeg.specs.Packet.{payloadLength}
+use Rattle.ts.specs.Packet.{payloadLength}
 use Rattle.mpeg.proofs.Packets.{unpointed-carries, unpointed-written, pointed-carries, pointed-written}
 use borrow.Author.Needs.{needs}
 use Rattle.mpeg.proofs.writer.write_data.Statement.{statement}

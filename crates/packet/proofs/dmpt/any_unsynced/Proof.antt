@@ -5,7 +5,8 @@ use mathlib.Core.Bool.{not}
 use lib.Dec.{eqb}
 use Rattle.octets.specs.Bytes.{byteAt}
 use Rattle.octets.proofs.Counts.{Gathered, gather-begin, gather-turn, gather-end}
-use Rattle.packet.specs.Dmpt.{syncByte, mpegAt}
+use Rattle.ts.specs.Packet.{syncByte}
+use Rattle.packet.specs.Dmpt.{mpegAt}
 use Rattle.packet.proofs.Mpegs.{mpeg-first}
 use borrow.Author.Needs.{needs}
 use Rattle.packet.proofs.dmpt.any_unsynced.Statement.{statement}

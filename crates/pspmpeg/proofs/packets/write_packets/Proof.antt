@@ -3,7 +3,7 @@ use Prim.Native.Nat.{_-_}
 use mathlib.Core.Path.{_≡_, refl, _∙_}
 use native.Mathlib.Omega.{arith}
 use lib.ListN.{length}
-use Rattle.packet.specs.Dmpt.{mpegLength}
+use Rattle.ts.specs.Packet.{mpegLength}
 use Rattle.text.proofs.Writing.{wrote-as}
 use Rattle.pspmpeg.proofs.Draining.{code-sound, code-bad, Draining, drain-begin, text-same, packet-room, goes-on, next-place, drain-turn, drain-end}
 use borrow.Author.Needs.{needs}

@@ -1,8 +1,8 @@
--- `mpeg::reader::is_null` compares the header of the null packet, and the rest with 0xFF.
-use Rattle.mpeg.proofs.Fronts.{null-is}
+-- `ts::is_null` compares the header of the null packet, and the rest with 0xFF.
+use Rattle.ts.proofs.Filling.{null-is}
 use borrow.Author.Needs.{needs}
-use Rattle.mpeg.proofs.reader.is_null.Statement.{statement}
-use Rattle.mpeg.proofs.reader.is_null.Tie as tie
+use Rattle.ts.proofs.is_null.Statement.{statement}
+use Rattle.ts.proofs.is_null.Tie as tie
 
 shared-slice-read-result : tie.Need-shared-slice-read-result
 shared-slice-read-result c = search needs

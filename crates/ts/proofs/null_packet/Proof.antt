@@ -1,9 +1,9 @@
--- `mpeg::null_packet` is right by computation: 188 bytes 0xFF, of which the first four are replaced.
+-- `ts::null_packet` is right by computation: 188 bytes 0xFF, of which the first four are replaced.
 use mathlib.Core.Path.{refl}
-use Rattle.mpeg.specs.Packet.{nullPacket}
+use Rattle.ts.specs.Packet.{nullPacket}
 use borrow.Author.Needs.{needs}
-use Rattle.mpeg.proofs.null_packet.Statement.{statement}
-use Rattle.mpeg.proofs.null_packet.Tie as tie
+use Rattle.ts.proofs.null_packet.Statement.{statement}
+use Rattle.ts.proofs.null_packet.Tie as tie
 
 array-write-null : tie.Need-array-write-null
 array-write-null c = search needs
@@ -24,4 +24,9 @@ returns c = refl
 pub null-packet-spec : {M : Type 1} → statement M
 null-packet-spec =
     tie.close
-    (tie.spec array-write-null array-write-null-2 array-write-null-3 array-write-null-4 returns)
+    (tie.spec
+    array-write-null
+    array-write-null-2
+    array-write-null-3
+    array-write-null-4
+    returns)

@@ -1,10 +1,10 @@
--- `mpeg::reader::all_fill` is right since after each turn all bytes before place i are 0xFF (`Filled`).
+-- `ts::all_fill` is right since after each turn all bytes before place i are 0xFF (`Filled`).
 use Prim.Native.Nat.{_-_, _≤_}
 use lib.ListN.{length}
-use Rattle.mpeg.proofs.Fronts.{Filled, fill-begin, fill-turn, fill-not, fill-end}
+use Rattle.ts.proofs.Filling.{Filled, fill-begin, fill-turn, fill-not, fill-end}
 use borrow.Author.Needs.{needs}
-use Rattle.mpeg.proofs.reader.all_fill.Statement.{statement}
-use Rattle.mpeg.proofs.reader.all_fill.Tie as tie
+use Rattle.ts.proofs.all_fill.Statement.{statement}
+use Rattle.ts.proofs.all_fill.Tie as tie
 
 abbrev Inv-loop : tie.InvT-loop
 Inv-loop packets from to i₀ i = (to ≤ length packets) × Filled packets from to i
