@@ -27,6 +27,10 @@ or-false-right false b h = h
 or-false-right true false h = refl
 or-false-right true true h = h
 
+pub or-true-right : (a b : Bool) → (a || b) ≡ true → a ≡ false → b ≡ true
+or-true-right true b h e = absurd (true≢false e)
+or-true-right false b h e = h
+
 pub or-same : {a b x y : Bool} → a ≡ x → b ≡ y → (a || b) ≡ (x || y)
 or-same p q = rw (p, q) refl
 
@@ -202,6 +206,22 @@ sum-but-one f g r (suc n) there same =
 pub up-to-more : {A : Type 0} (f : ℕ → A) (n : ℕ) → upTo f (n + 1) ≡ upTo f n ++ (f n ∷ [])
 unfolding upTo
 up-to-more f n = rw (add-one n) refl
+
+pub up-to-none : {A : Type 0} (f : ℕ → A) → upTo f 0 ≡ []
+unfolding upTo
+up-to-none f = refl
+
+-- the first of them before the others
+pub up-to-front : {A : Type 0} (f : ℕ → A) (n : ℕ) → upTo f (suc n) ≡ f 0 ∷ upTo (λ k. f (suc k)) n
+unfolding upTo
+up-to-front f zero = refl
+up-to-front f (suc n) = ap (λ l. l ++ (f (suc n) ∷ [])) (up-to-front f n)
+
+-- elements that agree
+pub up-to-agree : {A : Type 0} (f g : ℕ → A) (n : ℕ) → ((k : ℕ) → k < n → f k ≡ g k) → upTo f n ≡ upTo g n
+unfolding upTo
+up-to-agree f g zero same = refl
+up-to-agree f g (suc n) same = rw (up-to-agree f g n (λ k l. same k (omega arith)), same n (omega arith)) refl
 
 pub length-up-to : {A : Type 0} (f : ℕ → A) (n : ℕ) → length (upTo f n) ≡ n
 unfolding upTo

@@ -1,9 +1,10 @@
 -- What holds of each element of a list, when lists are laid behind one another, taken apart, or read by place.
-use Prim.Native.Nat.{ℕ, zero, suc, _<_}
+use Prim.Native.Nat.{ℕ, zero, suc, _+_, _<_}
+use mathlib.Core.Path.{_≡_, refl}
 use mathlib.Core.List.{List, [], _∷_, _++_}
 use native.Mathlib.Omega.{arith}
 use native.Mathlib.Nat.{not-suc-le-zero}
-use lib.ListN.{length, getD}
+use lib.ListN.{length, getD, length-append}
 use Rattle.octets.specs.Count.{upTo}
 use Rattle.octets.specs.Each.{Each}
 
@@ -34,3 +35,11 @@ module _ {A : Type 0} (P : A → Type 0) where
 pub each-too : {A : Type 0} (P Q : A → Type 0) (xs : List A) → ((x : A) → P x → Q x) → Each P xs → Each Q xs
 each-too P Q [] follows p = tt
 each-too P Q (x ∷ xs) follows p = (follows x (p .0), each-too P Q xs follows (p .1))
+
+-- A list of no length, and one that is one longer.
+pub length-none : {A : Type 0} (l : List A) → length l ≡ 0 → l ≡ []
+length-none [] z = refl
+length-none (x ∷ l) z = absurd (let never : ⊥ = omega arith in never)
+
+pub length-one-more : {A : Type 0} (l : List A) (x : A) → length (l ++ (x ∷ [])) ≡ length l + 1
+length-one-more l x = length-append l (x ∷ [])

@@ -2,5 +2,6 @@ pub mod Stretches
 pub mod Counts
 pub mod Elements
 pub mod Tests
+pub mod Bytes
 pub mod Numbers
 pub mod Examples

@@ -1,16 +1,23 @@
 -- The laws of cutting and pasting lists, proved once. Every proof above cites these and opens neither `take`, `drop` nor `++`.
 use mathlib.Core.Path.{_≡_, refl, sym, ap, _∙_}
-use Prim.Native.Nat.{ℕ, zero, suc, _+_, _-_, _≤_, _<_}
-use native.Mathlib.Nat.{add-zero, add-assoc}
+use mathlib.Core.Bool.{true, false}
+use Prim.Native.Nat.{ℕ, zero, suc, _+_, _-_, _*_, _≤_, _<_, min}
+use native.Mathlib.Nat.{add-zero, add-assoc, mul-zero, mul-suc, min-eq-left, min-eq-right, min-le-right}
 use native.Mathlib.Numerals.{add-one}
 use native.Mathlib.Omega.{arith}
 use mathlib.Core.Logic.{_⊎_, inl, inr, ⊎-elim}
 use mathlib.Core.List.{List, [], _∷_, _++_, map, append-assoc, append-nil}
-use lib.ListN.{length, take, drop, set, length-append, length-take, length-drop, take-append-drop, List·getD-append}
-use lib.Seq.{length-take-le, take-length, take-take, take-append-le, take-at, take-all, drop-at, drop-cons, drop-drop, set-split, append-snoc, take-add, take-append-seam, drop-append-seam, getD-drop, getD-take, getD-append-add, ext-getD}
+use lib.Dec.{leb}
+use lib.ListN.{length, take, drop, set, length-append, length-take, length-drop, take-append-drop, drop-of-length-le, List·getD-append}
+use lib.Seq.{length-take-le, take-length, take-take, take-append-le, take-at, take-all, take-add, take-append-seam}
+use lib.Seq.{drop-at, drop-cons, drop-drop, drop-append-le, drop-append-add, drop-append-seam, set-split, append-snoc}
+use lib.Seq.{getD-drop, getD-take, getD-append-add, ext-getD}
+use borrow.Author.Tests.{leb-true, leb-false}
 use Rattle.octets.specs.Bytes.{byteAt}
 use Rattle.octets.specs.Stretch.{part, rest, put, joined, lengthsOf, cutBy}
-use Rattle.octets.specs.Count.{sumTo}
+use Rattle.octets.specs.Count.{sumTo, upTo}
+use Rattle.octets.specs.Each.{Each}
+use Rattle.octets.proofs.Counts.{true-or-false, up-to-none, up-to-more, up-to-front, up-to-agree}
 
 -- Stretches read out.
 pub length-part : (l : List ℕ) (from n : ℕ) → from + n ≤ length l → length (part l from n) ≡ n
@@ -358,20 +365,259 @@ set-four-put d a b c e h =
     ∙ put-put d 0 (a ∷ b ∷ []) (c ∷ e ∷ []) (omega arith)
 
 -- a stretch from its first element on
-pub part-cons : (l : List ℕ) (i j n m : ℕ) → j ≡ i + 1 → n ≡ 1 + m → i < length l → part l i n ≡ byteAt l i ∷ part l j m
-part-cons l i j n m e d h = rw (e, d) (sym (part-part l i 1 m) ∙ ap (λ (one : List ℕ). one ++ part l (i + 1) m) (part-one l i h))
+pub part-byte : (l : List ℕ) (i j n m : ℕ) → j ≡ i + 1 → n ≡ 1 + m → i < length l → part l i n ≡ byteAt l i ∷ part l j m
+part-byte l i j n m e d h = rw (e, d) (sym (part-part l i 1 m) ∙ ap (λ (one : List ℕ). one ++ part l (i + 1) m) (part-one l i h))
 
 -- .. up to a place
-pub part-to-cons : (l : List ℕ) (i to : ℕ) → i < to → to ≤ length l → part l i (to - i) ≡ byteAt l i ∷ part l (i + 1) (to - (i + 1))
-part-to-cons l i to h k = part-cons l i (i + 1) (to - i) (to - (i + 1)) refl (omega arith) (omega arith)
+pub part-byte-to : (l : List ℕ) (i to : ℕ) → i < to → to ≤ length l → part l i (to - i) ≡ byteAt l i ∷ part l (i + 1) (to - (i + 1))
+part-byte-to l i to h k = part-byte l i (i + 1) (to - i) (to - (i + 1)) refl (omega arith) (omega arith)
 
 -- .. and from its first four on
 pub part-four : (l : List ℕ) (at m : ℕ) → at + 4 ≤ length l →
     part l at (4 + m) ≡ byteAt l at ∷ byteAt l (at + 1) ∷ byteAt l (at + 2) ∷ byteAt l (at + 3) ∷ part l (at + 4) m
 part-four l at m h =
-    part-cons l at (at + 1) (4 + m) (3 + m) refl (omega arith) (omega arith)
+    part-byte l at (at + 1) (4 + m) (3 + m) refl (omega arith) (omega arith)
     ∙ ap (λ (s : List ℕ). byteAt l at ∷ s)
-    (part-cons l (at + 1) (at + 2) (3 + m) (2 + m) (omega arith) (omega arith) (omega arith)
+    (part-byte l (at + 1) (at + 2) (3 + m) (2 + m) (omega arith) (omega arith) (omega arith)
     ∙ ap (λ (s : List ℕ). byteAt l (at + 1) ∷ s)
-    (part-cons l (at + 2) (at + 3) (2 + m) (1 + m) (omega arith) (omega arith) (omega arith)
-    ∙ ap (λ (s : List ℕ). byteAt l (at + 2) ∷ s) (part-cons l (at + 3) (at + 4) (1 + m) m (omega arith) refl (omega arith))))
+    (part-byte l (at + 2) (at + 3) (2 + m) (1 + m) (omega arith) (omega arith) (omega arith)
+    ∙ ap (λ (s : List ℕ). byteAt l (at + 2) ∷ s) (part-byte l (at + 3) (at + 4) (1 + m) m (omega arith) refl (omega arith))))
+
+-- what the checker knows of a slice taken from the front, `&l[..n]`
+pub length-sliced : (l : List ℕ) (n : ℕ) → n ≤ length l → n ≡ length (take n l)
+length-sliced l n h = sym (length-take-le n l h)
+
+pub sliced-front : (l : List ℕ) (n : ℕ) → take n l ≡ part l 0 n
+unfolding part
+sliced-front l n = refl
+
+-- a stretch from the front, and the rest behind it
+pub part-and-rest : (l : List ℕ) (n : ℕ) → part l 0 n ++ rest l n ≡ l
+unfolding part rest
+part-and-rest l n = take-append-drop n l
+
+-- a stretch from the front that is asked to be longer than the list is the list
+pub part-past : (l : List ℕ) (n : ℕ) → length l ≤ n → part l 0 n ≡ l
+unfolding part
+part-past l n h = take-all n l h
+
+-- a stretch of the rest, from its front
+pub part-rest-front : (l : List ℕ) (from n : ℕ) → part (rest l from) 0 n ≡ part l from n
+part-rest-front l from n = part-rest l from 0 n ∙ ap (λ (at : ℕ). part l at n) (add-zero from)
+
+-- stretches of two lists, one behind the other: the first, a stretch within it, and one behind it
+pub part-append : (a b : List ℕ) → part (a ++ b) 0 (length a) ≡ a
+unfolding part
+part-append a b = take-append-seam a b
+
+pub part-append-within : (a b : List ℕ) (from n : ℕ) → from + n ≤ length a → part (a ++ b) from n ≡ part a from n
+unfolding part
+part-append-within a b from n h =
+    let begins : from ≤ length a = omega arith in
+    let ends : n ≤ length (drop from a) = omega (arith, length-drop from a) in
+    ap (take n) (drop-append-le from a b begins) ∙ take-append-le n (drop from a) b ends
+
+pub part-append-behind : (a b : List ℕ) (at n : ℕ) → part (a ++ b) (length a + at) n ≡ part b at n
+unfolding part
+part-append-behind a b at n = ap (take n) (drop-append-add a b at)
+
+-- The rest, and the rest of that.
+pub rest-none : (l : List ℕ) → rest l 0 ≡ l
+unfolding rest
+rest-none l = refl
+
+pub rest-rest : (l : List ℕ) (from n : ℕ) → rest (rest l from) n ≡ rest l (from + n)
+unfolding rest
+rest-rest l from n = drop-drop n from l
+
+-- behind the end nothing is left
+pub rest-past : (l : List ℕ) (from : ℕ) → length l ≤ from → rest l from ≡ []
+unfolding rest
+rest-past l from h = drop-of-length-le l h
+
+-- the rest of two lists, one behind the other: the second, and what is left of it
+pub rest-append : (a b : List ℕ) → rest (a ++ b) (length a) ≡ b
+unfolding rest
+rest-append a b = drop-append-seam a b
+
+pub rest-append-behind : (a b : List ℕ) (at : ℕ) → rest (a ++ b) (length a + at) ≡ rest b at
+unfolding rest
+rest-append-behind a b at = drop-append-add a b at
+
+-- the rest begins with the element at its place
+pub rest-byte : (l : List ℕ) (i : ℕ) → i < length l → rest l i ≡ byteAt l i ∷ rest l (i + 1)
+unfolding rest
+rest-byte l i h = drop-cons l i 0 h ∙ ap (λ (n : ℕ). byteAt l i ∷ drop n l) (sym (add-one i))
+
+-- What was put grows by what is put behind it: e has x, and f has y behind it.
+pub put-more : {e f : List ℕ} (d : List ℕ) (at : ℕ) (x y : List ℕ) (n : ℕ) → at + length x ≤ length d → e ≡ put d at x → n ≡ at + length x →
+    f ≡ put e n y → f ≡ put d at (x ++ y)
+put-more d at x y n h so-far behind next = next ∙ rw (so-far, behind) (put-put d at x y h)
+
+-- Stretches back to back: none, one more at the front, and one.
+pub joined-none : joined [] ≡ []
+unfolding joined
+joined-none = refl
+
+pub joined-cons : (s : List ℕ) (more : List (List ℕ)) → joined (s ∷ more) ≡ s ++ joined more
+unfolding joined
+joined-cons s more = refl
+
+pub joined-one : (s : List ℕ) → joined (s ∷ []) ≡ s
+unfolding joined
+joined-one s = append-nil s
+
+pub length-joined-none : length (joined []) ≡ 0
+unfolding joined
+length-joined-none = refl
+
+pub length-joined : (s : List ℕ) (more : List (List ℕ)) → length (joined (s ∷ more)) ≡ length s + length (joined more)
+unfolding joined
+length-joined s more = length-append s (joined more)
+
+pub lengthsOf-none : lengthsOf [] ≡ []
+unfolding lengthsOf
+lengthsOf-none = refl
+
+pub lengthsOf-cons : (s : List ℕ) (more : List (List ℕ)) → lengthsOf (s ∷ more) ≡ length s ∷ lengthsOf more
+unfolding lengthsOf
+lengthsOf-cons s more = refl
+
+pub cut-none : (bytes : List ℕ) → cutBy [] bytes ≡ []
+unfolding cutBy
+cut-none bytes = refl
+
+pub cut-cons : (n : ℕ) (more bytes : List ℕ) → cutBy (n ∷ more) bytes ≡ part bytes 0 n ∷ cutBy more (rest bytes n)
+unfolding cutBy part rest
+cut-cons n more bytes = refl
+
+-- Stretches that all have n elements
+pub length-joined-each : (n : ℕ) (a : List (List ℕ)) → Each (λ s. length s ≡ n) a → length (joined a) ≡ n * length a
+length-joined-each n [] same = omega (arith, length-joined-none)
+length-joined-each n (s ∷ a) same =
+    omega (arith, length-joined s a, same .0, length-joined-each n a (same .1), mul-suc n (length a))
+
+-- Stretches of stretches, stretches that reach past the end, and stretches of one length: what the writer and the reader of packets go by.
+-- A stretch from the front is as long as was asked for, or as the list; and one that is asked to be longer than that is what is there of it.
+pub length-part-min : (l : List ℕ) (n : ℕ) → length (part l 0 n) ≡ min n (length l)
+unfolding part
+length-part-min l n = length-take n l
+
+pub part-min : (l : List ℕ) (from n m : ℕ) → m ≡ min n (length l - from) → part l from n ≡ part l from m
+part-min l from n m e =
+    ⊎-elim
+    (λ (t : leb n (length l - from) ≡ true). ap (part l from) (let same : n ≡ m = omega (arith, e, leb-true n (length l - from) t) in same))
+    (λ (t : leb n (length l - from) ≡ false).
+    let short = leb-false n (length l - from) t in
+    let long = length-rest l from in
+    sym (part-rest-front l from n) ∙ part-past (rest l from) n (omega arith)
+    ∙ sym (sym (part-rest-front l from m) ∙ part-past (rest l from) m (omega (arith, e))))
+    (true-or-false (leb n (length l - from)))
+
+pub part-to-end : (l : List ℕ) (from : ℕ) → part l from (length l - from) ≡ rest l from
+unfolding part
+part-to-end l from = sliced-rest l from
+
+-- a stretch of two lists that ends in the second
+pub part-append-past : (a b : List ℕ) (n : ℕ) → length a ≤ n → part (a ++ b) 0 n ≡ a ++ part b 0 (n - length a)
+part-append-past a b n h =
+    let split : n ≡ length a + (n - length a) = omega arith in
+    let here : length a ≡ length a + 0 = omega arith in
+    ap (part (a ++ b) 0) split ∙ sym (part-part-front (a ++ b) (length a) (n - length a))
+    ∙ ap (λ (l : List ℕ). l ++ part (a ++ b) (length a) (n - length a)) (part-append a b)
+    ∙ ap (λ (i : ℕ). a ++ part (a ++ b) i (n - length a)) here
+    ∙ ap (λ (l : List ℕ). a ++ l) (part-append-behind a b 0 (n - length a))
+
+-- a stretch of a stretch, from its front, from a place in it, and the rest of one
+pub part-of-part-front : (l : List ℕ) (at n m : ℕ) → m ≤ n → part (part l at n) 0 m ≡ part l at m
+unfolding part
+part-of-part-front l at n m h = take-take m n (drop at l) h
+
+pub rest-part : (l : List ℕ) (at n from : ℕ) → from ≤ n → at + n ≤ length l → rest (part l at n) from ≡ part l (at + from) (n - from)
+rest-part l at n from h inside =
+    let split : from + (n - from) ≡ n = omega arith in
+    let long : length (part l at from) ≡ from = length-part l at from (omega arith) in
+    ap (λ (m : ℕ). rest (part l at m) from) (sym split) ∙ ap (λ (x : List ℕ). rest x from) (sym (part-part l at from (n - from)))
+    ∙ ap (rest (part l at from ++ part l (at + from) (n - from))) (sym long) ∙ rest-append (part l at from) (part l (at + from) (n - from))
+
+pub part-of-part : (l : List ℕ) (at n from m : ℕ) → at + n ≤ length l → from + m ≤ n → part (part l at n) from m ≡ part l (at + from) m
+part-of-part l at n from m in-l in-part =
+    sym (part-rest-front (part l at n) from m) ∙ ap (λ (x : List ℕ). part x 0 m) (rest-part l at n from (omega arith) in-l)
+    ∙ part-of-part-front l (at + from) (n - from) m (omega arith)
+
+-- one stretch more at the end: so much longer all are
+pub length-joined-one-more : (a : List (List ℕ)) (s : List ℕ) → length (joined (a ++ (s ∷ []))) ≡ length (joined a) + length s
+length-joined-one-more a s = ap length (joined-one-more a s) ∙ length-append (joined a) s
+
+-- Stretches of n elements each, one after the other: laid back to back they are the front of the list, and a list that was laid together from such
+-- stretches gives them back.
+abbrev piece : List ℕ → ℕ → ℕ → List ℕ
+piece l n k = part l (n * k) n
+
+pub joined-pieces : (l : List ℕ) (n m : ℕ) → joined (upTo (λ k. part l (n * k) n) m) ≡ part l 0 (n * m)
+joined-pieces l n zero =
+    ap joined (up-to-none (piece l n)) ∙ joined-none ∙ sym (ap (part l 0) (mul-zero n) ∙ part-none l 0)
+joined-pieces l n (suc m) =
+    let more : n * m + n ≡ n * suc m = sym (mul-suc n m) in
+    ap (λ (k : ℕ). joined (upTo (piece l n) k)) (sym (add-one m)) ∙ ap joined (up-to-more (piece l n) m)
+    ∙ joined-one-more (upTo (piece l n) m) (piece l n m) ∙ ap (λ (x : List ℕ). x ++ piece l n m) (joined-pieces l n m)
+    ∙ part-part-front l (n * m) n ∙ ap (part l 0) more
+
+pub pieces-joined : (n : ℕ) (a : List (List ℕ)) → Each (λ s. length s ≡ n) a → upTo (λ k. part (joined a) (n * k) n) (length a) ≡ a
+pieces-joined n [] same = up-to-none (piece (joined []) n)
+pieces-joined n (s ∷ a) (long, same) =
+    let all = joined (s ∷ a) in
+    let first : piece all n 0 ≡ s =
+    ap (λ (at : ℕ). part all at n) (mul-zero n) ∙ ap (part all 0) (sym long) ∙ ap (λ (l : List ℕ). part l 0 (length s)) (joined-cons s a)
+    ∙ part-append s (joined a) in
+    let further : (k : ℕ) → k < length a → piece all n (suc k) ≡ piece (joined a) n k =
+    λ k there.
+    let e : n * suc k ≡ length s + n * k = omega (arith, long, mul-suc n k) in
+    ap (λ (at : ℕ). part all at n) e ∙ ap (λ (l : List ℕ). part l (length s + n * k) n) (joined-cons s a)
+    ∙ part-append-behind s (joined a) (n * k) n in
+    up-to-front (piece all n) (length a)
+    ∙ ap (λ (x : List ℕ). x ∷ upTo (λ k. piece all n (suc k)) (length a)) first
+    ∙ ap (λ (l : List (List ℕ)). s ∷ l) (up-to-agree (λ k. piece all n (suc k)) (piece (joined a) n) (length a) further ∙ pieces-joined n a same)
+
+-- Of a list that grows the first `total` elements are put: those of x stand at the front of d, in e, and with the next ones, of y behind x, those of both do,
+-- in f. What is copied is a stretch of another list, no longer than is asked for.
+module _ (d e f x l : List ℕ) (b size total : ℕ) (stood : e ≡ put d 0 (part x 0 total)) (room : total ≤ length d) (inside : b + size ≤ length l)
+    (next : f ≡ put e (length x) (part l b (min (length x + size) total - length x))) where
+  abbrev y : List ℕ
+  y = part l b size
+
+  y-long : length y ≡ size
+  y-long = length-part l b size inside
+
+  -- more than `total` stand there already
+  put-full : total < length x → f ≡ put d 0 (part (x ++ y) 0 total)
+  put-full h =
+      let none : min (length x + size) total - length x ≡ 0 = omega (arith, min-le-right (length x + size) total) in
+      next ∙ ap (λ (n : ℕ). put e (length x) (part l b n)) none ∙ ap (put e (length x)) (part-none l b) ∙ put-nil e (length x) ∙ stood
+      ∙ ap (put d 0) (sym (part-append-within x y 0 total (omega arith)))
+
+  -- n of them, which are those of y that are asked for
+  put-some : length x ≤ total → (n : ℕ) → min (length x + size) total ≡ length x + n → part l b n ≡ part y 0 (total - length x) →
+      f ≡ put d 0 (part (x ++ y) 0 total)
+  put-some h n least same =
+      let count : min (length x + size) total - length x ≡ n = omega arith in
+      next ∙ ap (λ (m : ℕ). put e (length x) (part l b m)) count ∙ ap (put e (length x)) same
+      ∙ ap (λ (s : List ℕ). put s (length x) (part y 0 (total - length x))) (stood ∙ ap (put d 0) (part-past x total h))
+      ∙ put-put-front d x (part y 0 (total - length x)) (omega arith)
+      ∙ ap (put d 0) (sym (part-append-past x y total h))
+
+  pub put-part-append : f ≡ put d 0 (part (x ++ y) 0 total)
+  put-part-append =
+      ⊎-elim
+      (λ (t : leb (length x) total ≡ true).
+      let h = leb-true (length x) total t in
+      ⊎-elim
+      (λ (u : leb (length x + size) total ≡ true).
+      put-some h size (min-eq-left (leb-true (length x + size) total u)) (sym (part-past y (total - length x) (omega (arith, leb-true (length x + size) total u, y-long)))))
+      (λ (u : leb (length x + size) total ≡ false).
+      let few : total ≤ length x + size = omega (arith, leb-false (length x + size) total u) in
+      let split : min (length x + size) total ≡ length x + (total - length x) = omega (arith, min-eq-right few) in
+      put-some h (total - length x) split (sym (part-of-part-front l b size (total - length x) (omega arith))))
+      (true-or-false (leb (length x + size) total)))
+      (λ (t : leb (length x) total ≡ false). put-full (leb-false (length x) total t))
+      (true-or-false (leb (length x) total))
