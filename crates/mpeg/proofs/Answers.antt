@@ -9,7 +9,7 @@ use lib.ListN.{length}
 use borrow.Author.Tests.{ltb-false, le-ltb}
 use Rattle.octets.specs.Stretch.{rest, put, joined, lengthsOf}
 use Rattle.octets.proofs.Counts.{or-false-left, or-false-right}
-use Rattle.octets.proofs.Stretches.{put-front}
+use Rattle.octets.proofs.Stretches.{put-front, length-joined-none}
 use Rattle.mpeg.specs.declared.reader.Standing.{Standing}
 use Rattle.mpeg.specs.Read.{Reading, reading, AskedRead, framesRead, ReadOutcome, gotBack, notRead, readBy, read}
 use Rattle.mpeg.specs.Inside.Standing.{standingOf}
@@ -44,10 +44,9 @@ module _ (a : AskedRead) where
 
   -- What is unsound has no frames, and no slice is too small for none: 51's condition never holds where 53's does.
   pub never-both : (reading (a .packets)) .sound ≡ false → small ≡ false
-  unfolding joined
   never-both s =
       let none : framesRead a ≡ [] = ap (λ (r : Reading). r .frames) (reading-lost (a .packets) s) in
-      rw (none, le-ltb (length (a .output)) 0 (omega arith), le-ltb (length (a .lengths)) 0 (omega arith)) refl
+      rw (none, length-joined-none, le-ltb (length (a .output)) 0 (omega arith), le-ltb (length (a .lengths)) 0 (omega arith)) refl
 
   module _ (standing : Standing) (e : standing ≡ standingOf (reading (a .packets))) where
     sound-is : standing .sound ≡ (reading (a .packets)) .sound

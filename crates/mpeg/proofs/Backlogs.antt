@@ -6,12 +6,13 @@ use native.Mathlib.Omega.{arith}
 use native.Mathlib.Nat.{not-suc-le-zero}
 use mathlib.Core.Bool.{true, false}
 use mathlib.Core.List.{List, [], _∷_, _++_, append-assoc, append-nil}
-use lib.ListN.{length, length-append, length-take, length-drop, take, drop, replicate, take-append-drop}
-use lib.Seq.{drop-append-add, drop-append-seam, take-append-le, take-append-add}
+use lib.ListN.{length, length-append, replicate}
 use borrow.Author.Tests.{le-leb, lt-leb, ne-eqb}
 use Rattle.octets.specs.Each.{Each}
 use Rattle.octets.specs.Stretch.{part, rest, joined, lengthsOf}
-use Rattle.octets.proofs.Stretches.{joined-append}
+use Rattle.octets.proofs.Stretches.{length-part, length-part-min, length-rest, part-and-rest, part-append-within, part-append-past}
+use Rattle.octets.proofs.Stretches.{rest-append, rest-append-behind, joined-none, joined-one, joined-append, length-joined, length-joined-none}
+use Rattle.octets.proofs.Stretches.{lengthsOf-none, lengthsOf-cons}
 use Rattle.ts.specs.Packet.{payloadLength, nextCount, header, fillByte}
 use Rattle.mpeg.specs.Packet.{framesPid, pointedLength, filledTo}
 use Rattle.mpeg.specs.Write.{leftAt, packetOf, carried, countAfter, dataPacket, carries}
@@ -32,46 +33,45 @@ pub record At (q : Backlog) (done : List (List ℕ)) (b t : List ℕ) (waiting :
   pub frames-are : q .frames ≡ done ++ (one b t ++ waiting)
   pub place-is : q .place ≡ length (joined done) + length b
 
-pub joined-one : {b t : List ℕ} → Mid b t → joined (one b t) ≡ b ++ t
-unfolding joined
-joined-one between = refl
-joined-one (within x b y t) = append-nil (x ∷ b ++ y ∷ t)
+pub joined-begun : {b t : List ℕ} → Mid b t → joined (one b t) ≡ b ++ t
+joined-begun between = joined-none
+joined-begun (within x b y t) = joined-one (x ∷ b ++ y ∷ t)
 
 -- What a call is given: the bytes that wait.
 pub rest-done : (done fs : List (List ℕ)) (k : ℕ) → rest (joined (done ++ fs)) (length (joined done) + k) ≡ rest (joined fs) k
-unfolding rest
-rest-done done fs k = ap (drop (length (joined done) + k)) (joined-append done fs) ∙ drop-append-add (joined done) (joined fs) k
+rest-done done fs k = ap (λ (l : List ℕ). rest l (length (joined done) + k)) (joined-append done fs) ∙ rest-append-behind (joined done) (joined fs) k
 
 rest-begun : {b t : List ℕ} (waiting : List (List ℕ)) → Mid b t → rest (joined (one b t ++ waiting)) (length b) ≡ t ++ joined waiting
-unfolding rest
 rest-begun {b} {t} waiting m =
-    ap (drop (length b)) (joined-append (one b t) waiting ∙ ap (λ (l : List ℕ). l ++ joined waiting) (joined-one m) ∙ append-assoc b t (joined waiting))
-    ∙ drop-append-seam b (t ++ joined waiting)
+    ap (λ (l : List ℕ). rest l (length b))
+    (joined-append (one b t) waiting ∙ ap (λ (l : List ℕ). l ++ joined waiting) (joined-begun m) ∙ append-assoc b t (joined waiting))
+    ∙ rest-append b (t ++ joined waiting)
 
 -- .. and how many of them end the frame that has begun
 pub left-done : (done fs : List (List ℕ)) (k : ℕ) → leftAt (lengthsOf (done ++ fs)) (length (joined done) + k) ≡ leftAt (lengthsOf fs) k
-unfolding leftAt lengthsOf joined
-left-done [] fs k = ap (leftAt (lengthsOf fs)) (let e : 0 + k ≡ k = omega arith in e)
+unfolding leftAt
+left-done [] fs k = ap (leftAt (lengthsOf fs)) (let e : length (joined []) + k ≡ k = omega (arith, length-joined-none) in e)
 left-done (f ∷ done) fs k =
-    let e : length (f ++ joined done) + k - length f ≡ length (joined done) + k = omega (arith, length-append f (joined done)) in
-    let h : length f ≤ length (f ++ joined done) + k = omega (arith, length-append f (joined done)) in
-    rw (le-leb (length f) (length (f ++ joined done) + k) h, e) (left-done done fs k)
+    let place = length (joined (f ∷ done)) + k in
+    let e : place - length f ≡ length (joined done) + k = omega (arith, length-joined f done) in
+    let h : length f ≤ place = omega (arith, length-joined f done) in
+    rw (lengthsOf-cons f (done ++ fs), le-leb (length f) place h, e) (left-done done fs k)
 
 left-none : (waiting : List (List ℕ)) → leftAt (lengthsOf waiting) 0 ≡ 0
-unfolding leftAt lengthsOf
-left-none [] = refl
-left-none ([] ∷ waiting) = left-none waiting
-left-none ((x ∷ f) ∷ waiting) = rw (lt-leb (suc (length f)) 0 (omega arith)) refl
+unfolding leftAt
+left-none [] = rw lengthsOf-none refl
+left-none ([] ∷ waiting) = rw (lengthsOf-cons [] waiting) (left-none waiting)
+left-none ((x ∷ f) ∷ waiting) = rw (lengthsOf-cons (x ∷ f) waiting, lt-leb (suc (length f)) 0 (omega arith)) refl
 
 left-begun : {b t : List ℕ} (waiting : List (List ℕ)) → Mid b t → leftAt (lengthsOf (one b t ++ waiting)) (length b) ≡ length t
-unfolding leftAt lengthsOf
+unfolding leftAt
 left-begun waiting between = left-none waiting
 left-begun waiting (within x b y t) =
     let long : length (x ∷ b ++ y ∷ t) ≡ suc (length b) + suc (length t) = length-append (x ∷ b) (y ∷ t) in
     let more : suc (length b) < length (x ∷ b ++ y ∷ t) = omega arith in
     let no : suc (length b) ≡ 0 → ⊥ = λ e. omega arith in
     let left : length (x ∷ b ++ y ∷ t) - suc (length b) ≡ suc (length t) = omega arith in
-    rw (lt-leb (length (x ∷ b ++ y ∷ t)) (suc (length b)) more, ne-eqb (suc (length b)) 0 no) left
+    rw (lengthsOf-cons (x ∷ b ++ y ∷ t) waiting, lt-leb (length (x ∷ b ++ y ∷ t)) (suc (length b)) more, ne-eqb (suc (length b)) 0 no) left
 
 -- The packet of t and what waits behind it, where t is left of the frame that has begun.
 pub packet-some : (count r : ℕ) (waiting : List ℕ) → 0 < length waiting → packetOf count r waiting ≡ dataPacket count r waiting
@@ -103,10 +103,9 @@ module _ (t behind : List ℕ) (h : payloadLength ≤ length t) where
   some-on = omega (arith, length-append t behind)
 
   pub packet-on : (count : ℕ) → packetOf count (length t) (t ++ behind) ≡ header false framesPid count ++ part t 0 payloadLength
-  unfolding part
   packet-on count =
       packet-some count (length t) (t ++ behind) some-on
-      ∙ rw (le-leb payloadLength (length t) h, take-append-le payloadLength t behind h) refl
+      ∙ rw (le-leb payloadLength (length t) h, part-append-within t behind 0 payloadLength h) refl
 
   pub carried-on : carried (length t) (t ++ behind) ≡ payloadLength
   carried-on = carried-some (length t) (t ++ behind) some-on ∙ rw (le-leb payloadLength (length t) h) refl
@@ -114,10 +113,7 @@ module _ (t behind : List ℕ) (h : payloadLength ≤ length t) where
 -- with less of it: the flag, the pointer, t and what fits behind it
 module _ (t behind : List ℕ) (h : length t < payloadLength) (some : 0 < length (t ++ behind)) where
   part-ends : part (t ++ behind) 0 pointedLength ≡ t ++ part behind 0 (pointedLength - length t)
-  unfolding part
-  part-ends =
-      let e : pointedLength ≡ length t + (pointedLength - length t) = omega arith in
-      ap (λ (n : ℕ). take n (t ++ behind)) e ∙ take-append-add t behind (pointedLength - length t)
+  part-ends = part-append-past t behind pointedLength (omega arith)
 
   pub packet-ends : (count : ℕ) →
       packetOf count (length t) (t ++ behind)
@@ -130,10 +126,9 @@ module _ (t behind : List ℕ) (h : length t < payloadLength) (some : 0 < length
       (ap (λ (l : List ℕ). header true framesPid count ++ (length t ∷ l)) (append-assoc t front (replicate (pointedLength - length t - length front) fillByte)))
 
   pub carried-ends : carried (length t) (t ++ behind) ≡ length t + length (part behind 0 (pointedLength - length t))
-  unfolding part
   carried-ends =
       carried-some (length t) (t ++ behind) some
-      ∙ rw (lt-leb payloadLength (length t) h) (omega (arith, length-append t behind, length-take (pointedLength - length t) behind))
+      ∙ rw (lt-leb payloadLength (length t) h) (omega (arith, length-append t behind, length-part-min behind (pointedLength - length t)))
 
 -- A frame that has begun is one.
 pub one-some : (b t : List ℕ) → 0 < length t → one b t ≡ (b ++ t) ∷ []
@@ -151,12 +146,13 @@ mid-front (within x b y t) h = omega arith
 
 -- The frames of which every byte has been sent are those that are done.
 sent-done : (done fs : List (List ℕ)) (k : ℕ) → sentWhole (done ++ fs) (length (joined done) + k) ≡ done ++ sentWhole fs k
-unfolding sentWhole joined
-sent-done [] fs k = ap (sentWhole fs) (let e : 0 + k ≡ k = omega arith in e)
+unfolding sentWhole
+sent-done [] fs k = ap (sentWhole fs) (let e : length (joined []) + k ≡ k = omega (arith, length-joined-none) in e)
 sent-done (f ∷ done) fs k =
-    let e : length (f ++ joined done) + k - length f ≡ length (joined done) + k = omega (arith, length-append f (joined done)) in
-    let h : length f ≤ length (f ++ joined done) + k = omega (arith, length-append f (joined done)) in
-    rw (le-leb (length f) (length (f ++ joined done) + k) h, e) (ap (λ (l : List (List ℕ)). f ∷ l) (sent-done done fs k))
+    let place = length (joined (f ∷ done)) + k in
+    let e : place - length f ≡ length (joined done) + k = omega (arith, length-joined f done) in
+    let h : length f ≤ place = omega (arith, length-joined f done) in
+    rw (le-leb (length f) place h, e) (ap (λ (l : List (List ℕ)). f ∷ l) (sent-done done fs k))
 
 -- no frame is empty
 abbrev pub NotEmpty : List ℕ → Type 0
@@ -230,17 +226,18 @@ module _ {q : Backlog} {done waiting : List (List ℕ)} {b t : List ℕ} (at : A
 
   -- the frame that has begun goes on, or ends with the packet
   pub at-on : payloadLength < length t → At (afterNext q) done (b ++ part t 0 payloadLength) (rest t payloadLength) waiting
-  unfolding afterNext part rest
+  unfolding afterNext
   at-on h =
-      let long-front : length (take payloadLength t) ≡ payloadLength = omega (arith, length-take payloadLength t) in
-      let long-b : length (b ++ take payloadLength t) ≡ length b + payloadLength = omega (arith, length-append b (take payloadLength t)) in
-      let more : 0 < length (drop payloadLength t) = omega (arith, length-drop payloadLength t) in
-      let whole : b ++ take payloadLength t ++ drop payloadLength t ≡ b ++ t =
-      append-assoc b (take payloadLength t) (drop payloadLength t) ∙ ap (λ (l : List ℕ). b ++ l) (take-append-drop payloadLength t) in
-      let is-one : one (b ++ take payloadLength t) (drop payloadLength t) ≡ one b t =
-      one-some (b ++ take payloadLength t) (drop payloadLength t) more ∙ ap (λ (f : List ℕ). f ∷ []) whole ∙ sym (one-some b t (omega arith)) in
+      let sent = part t 0 payloadLength in
+      let left = rest t payloadLength in
+      let long-front : length sent ≡ payloadLength = length-part t 0 payloadLength (omega arith) in
+      let long-b : length (b ++ sent) ≡ length b + payloadLength = omega (arith, length-append b sent) in
+      let more : 0 < length left = omega (arith, length-rest t payloadLength) in
+      let whole : b ++ sent ++ left ≡ b ++ t = append-assoc b sent left ∙ ap (λ (l : List ℕ). b ++ l) (part-and-rest t payloadLength) in
+      let is-one : one (b ++ sent) left ≡ one b t =
+      one-some (b ++ sent) left more ∙ ap (λ (f : List ℕ). f ∷ []) whole ∙ sym (one-some b t (omega arith)) in
       record {
-        mid = mid-some (b ++ take payloadLength t) (drop payloadLength t) (omega arith) more;
+        mid = mid-some (b ++ sent) left (omega arith) more;
         frames-are = at .frames-are ∙ ap (λ (l : List (List ℕ)). done ++ (l ++ waiting)) (sym is-one);
         place-is = place-next ∙ omega (arith, carried-on t (joined waiting) (omega arith));
       }
@@ -249,7 +246,7 @@ module _ {q : Backlog} {done waiting : List (List ℕ)} {b t : List ℕ} (at : A
   unfolding afterNext
   at-whole h =
       let long : length (joined (done ++ one b t)) ≡ length (joined done) + (length b + length t) =
-      ap length (joined-append done (one b t) ∙ ap (λ (l : List ℕ). joined done ++ l) (joined-one (at .mid)))
+      ap length (joined-append done (one b t) ∙ ap (λ (l : List ℕ). joined done ++ l) (joined-begun (at .mid)))
       ∙ omega (arith, length-append (joined done) (b ++ t), length-append b t) in
       record {
         mid = between;
@@ -267,7 +264,7 @@ module _ {q : Backlog} {done waiting : List (List ℕ)} {b t : List ℕ} (at : A
       let long : length (joined (done ++ one b t ++ whole)) ≡ length (joined done) + (length b + length t) + length (joined whole) =
       ap length
       (joined-append (done ++ one b t) whole
-      ∙ ap (λ (l : List ℕ). l ++ joined whole) (joined-append done (one b t) ∙ ap (λ (l : List ℕ). joined done ++ l) (joined-one (at .mid))))
+      ∙ ap (λ (l : List ℕ). l ++ joined whole) (joined-append done (one b t) ∙ ap (λ (l : List ℕ). joined done ++ l) (joined-begun (at .mid))))
       ∙ omega (arith, length-append (joined done ++ (b ++ t)) (joined whole), length-append (joined done) (b ++ t), length-append b t) in
       let sent : carried (length t) (t ++ joined waiting) ≡ length t + (length (joined whole) + length front) =
       carried-ends t (joined waiting) h some

@@ -7,11 +7,11 @@ use mathlib.Core.Logic.{_⊎_, inl, inr}
 use mathlib.Core.List.{List, [], _∷_, _++_, append-assoc, append-nil}
 use native.Mathlib.Omega.{arith}
 use lib.ListN.{length, replicate, length-append, length-replicate}
-use lib.Seq.{take-all, take-at, drop-at}
 use Rattle.octets.specs.Bytes.{AllBytes}
 use Rattle.octets.specs.Each.{Each}
 use Rattle.octets.specs.Stretch.{part, rest, joined}
-use Rattle.octets.proofs.Stretches.{joined-append, part-all}
+use Rattle.octets.proofs.Stretches.{joined-none, joined-append, length-joined-none, part-all, part-past, part-append, rest-append}
+use Rattle.octets.proofs.Bytes.{bytes-append, bytes-replicate}
 use Rattle.octets.proofs.Elements.{each-both}
 use Rattle.ts.specs.Packet.{payloadLength, nextCount, header, fillByte, nullPacket}
 use Rattle.mpeg.specs.Packet.{pointedLength, framesPid, filledTo}
@@ -19,8 +19,8 @@ use Rattle.mpeg.specs.Frame.{saidLength, mayBegin, Good}
 use Rattle.mpeg.specs.Write.{packetOf, countAfter}
 use Rattle.mpeg.specs.Read.{anyCount}
 use Rattle.mpeg.specs.Run.{Backlog, Burst, GoodBursts, added, packetNext, afterNext, runPackets}
-use Rattle.mpeg.proofs.Backlogs.{Mid, between, within, one, joined-one, one-some, mid-some, At, at-next, at-added, count-next, at-none, at-on, at-whole, at-ends, packet-on, packet-ends, count-some}
-use Rattle.mpeg.proofs.Taken.{bytes-both, bytes-zeros, may-begin-short, completed-good}
+use Rattle.mpeg.proofs.Backlogs.{Mid, between, within, one, joined-begun, one-some, mid-some, At, at-next, at-added, count-next, at-none, at-on, at-whole, at-ends, packet-on, packet-ends, count-some}
+use Rattle.mpeg.proofs.Frames.{begin-says, completed-good}
 
 -- A frame that has begun, or none, and how it goes on.
 pub record Goes (b t : List ℕ) : Type 0 where
@@ -64,8 +64,8 @@ goes-zeros [] h bytes = goes-none
 goes-zeros (x ∷ b) h bytes =
     let t = zeros (x ∷ b) in
     let n = saidLength (x ∷ b) - length (x ∷ b) in
-    let some : 0 < length t = omega (arith, length-replicate {A = ℕ} n 0, may-begin-short (x ∷ b) h) in
-    goes-on x b t some (completed-good (x ∷ b) h, bytes-both (x ∷ b) t bytes (bytes-zeros n))
+    let some : 0 < length t = omega (arith, length-replicate {A = ℕ} n 0, begin-says (x ∷ b) h .unfinished) in
+    goes-on x b t some (completed-good (x ∷ b) h, bytes-append (x ∷ b) t bytes (bytes-replicate n 0 (omega arith)))
 
 pub run-ends : (b : List ℕ) (expected : ℕ) → mayBegin b ≡ true → AllBytes b → RunOf b expected []
 unfolding runPackets
@@ -89,10 +89,11 @@ next-packet q burst bursts packet more e f = rw (e, f) refl
 -- the null packet
 null-gives : {t : List ℕ} (q : Backlog) (done : List (List ℕ)) (bursts : List Burst) (more : List (List ℕ)) → Mid [] t → At q done [] t [] →
     ((p : Backlog) → At p done [] t [] → p .count ≡ q .count → runPackets p bursts ≡ more) → runPackets q ([] ∷ bursts) ≡ nullPacket ∷ more
-unfolding joined packetOf countAfter
+unfolding packetOf countAfter
 null-gives q done bursts more between at behind =
     let next : At (added q []) done [] [] [] = at-added at [] in
-    next-packet q [] bursts nullPacket more (at-next next) (behind (afterNext (added q [])) (at-none next refl) (count-next next))
+    next-packet q [] bursts nullPacket more (at-next next ∙ ap (packetOf (q .count) 0) joined-none)
+    (behind (afterNext (added q [])) (at-none next length-joined-none) (count-next next ∙ ap (countAfter (q .count)) joined-none))
 
 pub run-null : (expected : ℕ) (more : List (List ℕ)) → RunOf [] expected more → RunOf [] expected (nullPacket ∷ more)
 run-null expected more r =
@@ -120,14 +121,13 @@ module _ (q : Backlog) (done : List (List ℕ)) (x : ℕ) (b payload : List ℕ)
   on-gives : (t : List ℕ) → 0 < length t → At q done (x ∷ b) (payload ++ t) [] →
       ((p : Backlog) → At p done ((x ∷ b) ++ payload) t [] → p .count ≡ nextCount (q .count) → runPackets p bursts ≡ more) →
       runPackets q ([] ∷ bursts) ≡ (header false framesPid (q .count) ++ payload) ∷ more
-  unfolding part rest
   on-gives t some at behind =
       let next : At (added q []) done (x ∷ b) (payload ++ t) [] = at-added at [] in
       let after = afterNext (added q []) in
       let waiting = payload ++ t ++ joined [] in
       let left : payloadLength < length (payload ++ t) = omega (arith, length-append payload t) in
-      let front : part (payload ++ t) 0 payloadLength ≡ payload = take-at payload t payloadLength long in
-      let back : rest (payload ++ t) payloadLength ≡ t = drop-at payload t payloadLength long in
+      let front : part (payload ++ t) 0 payloadLength ≡ payload = ap (part (payload ++ t) 0) (sym long) ∙ part-append payload t in
+      let back : rest (payload ++ t) payloadLength ≡ t = ap (rest (payload ++ t)) (sym long) ∙ rest-append payload t in
       let packet : packetNext (added q []) ≡ header false framesPid (q .count) ++ payload =
       at-next next ∙ packet-on (payload ++ t) (joined []) (omega arith) (q .count) ∙ ap (λ (l : List ℕ). header false framesPid (q .count) ++ l) front in
       let stands : At after done ((x ∷ b) ++ payload) t [] = rw (front, back) at (at-on next left) in
@@ -191,11 +191,11 @@ module _ (x : ℕ) (b payload : List ℕ) (expected c : ℕ) (more : List (List 
 -- With the flag: t ends the frame that has begun, whole frames follow, and then one begins, or 0xFF fills the packet. The burst before it is these frames, and
 -- the one that begins is whole in it. First: what a packet takes of the bytes that wait.
 takes : (n room : ℕ) (bytes behind : List ℕ) → length bytes + n ≡ room → (behind ≡ []) ⊎ (n ≡ 0) → part (bytes ++ behind) 0 room ≡ bytes
-unfolding part
 takes n room bytes behind long (inl e) =
     let all : bytes ++ behind ≡ bytes = ap (λ (l : List ℕ). bytes ++ l) e ∙ append-nil bytes in
-    rw all (take-all room bytes (omega arith))
-takes n room bytes behind long (inr e) = take-at bytes behind room (omega arith)
+    rw all (part-past bytes room (omega arith))
+takes n room bytes behind long (inr e) =
+    ap (part (bytes ++ behind) 0) (let full : room ≡ length bytes = omega arith in full) ∙ part-append bytes behind
 
 module _ (b t : List ℕ) (whole : List (List ℕ)) (front : List ℕ) (fill : ℕ) where
   abbrev pub flagged : ℕ → List ℕ
@@ -214,7 +214,7 @@ module _ (b t : List ℕ) (whole : List (List ℕ)) (front : List ℕ) (fill : �
         let room = pointedLength - length t in
         let short : length t < payloadLength = omega arith in
         let joins : joined burst ≡ bytes ++ back =
-        joined-append whole (one front back) ∙ ap (λ (l : List ℕ). joined whole ++ l) (joined-one mid) ∙ sym (append-assoc (joined whole) front back) in
+        joined-append whole (one front back) ∙ ap (λ (l : List ℕ). joined whole ++ l) (joined-begun mid) ∙ sym (append-assoc (joined whole) front back) in
         let waits : 0 < length (t ++ joined burst) = omega (arith, length-append t (joined burst), ap length joins, length-append bytes back) in
         let taken : part (joined burst) 0 room ≡ bytes =
         ap (λ (l : List ℕ). part l 0 room) joins ∙ takes fill room bytes back (omega arith) one-of-them in

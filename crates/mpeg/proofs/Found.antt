@@ -1,238 +1,165 @@
--- Frames that may be written, fronts of them, and what the reader finds from a frame's start on (W3): whole frames of those that wait, and then the
--- front of one, or nothing and what the packet is filled up with.
+-- What the reader finds from a frame's start on (`found`): its steps, one for each outcome of its tests; which bytes spoil it; and what it takes bytes apart into
+-- where it does find something, `Apart`.
+use Prim.Native.Nat.{ℕ, zero, suc, _≤_, _<_}
 use mathlib.Core.Path.{_≡_, refl, sym, ap, _∙_}
-use Prim.Native.Nat.{ℕ, zero, suc, _+_, _-_, _≤_, _<_}
-use native.Mathlib.Omega.{arith}
-use native.Mathlib.Nat.{not-suc-le-zero}
-use mathlib.Core.Bool.{true, false, not, _&&_, and-eq-true-iff, and-false}
-use mathlib.Core.Logic.{⊎-elim}
+use mathlib.Core.Bool.{Bool, true, false, _&&_}
+use mathlib.Core.Logic.{_⊎_, inl, inr, ⊎-elim}
 use mathlib.Core.List.{List, [], _∷_, _++_, append-assoc, append-nil}
-use lib.Dec.{leb, ltb, eqb}
-use lib.ListN.{length, take, drop, replicate, length-append, length-take, length-drop, take-append-drop, List·getD-append, List·getD-eq-default}
-use lib.Seq.{take-nil, take-append-le, take-append-add, take-append-seam, drop-append-seam}
-use borrow.Author.Tests.{le-leb, lt-leb, leb-true, leb-false, lt-ltb, ltb-true, ltb-false, ne-eqb, eqb-true, not-true}
-use Rattle.octets.specs.Bytes.{byteAt}
+use native.Mathlib.Omega.{arith}
+use lib.Dec.{leb}
+use lib.ListN.{length, replicate, length-append}
+use borrow.Author.Tests.{le-leb, lt-leb, leb-true, leb-false}
+use Rattle.refusal.proofs.Laws.{and-left, and-right}
+use Rattle.octets.specs.Bytes.{byteAt, AllBytes}
 use Rattle.octets.specs.Each.{Each}
 use Rattle.octets.specs.Stretch.{part, rest, joined}
 use Rattle.octets.specs.Tests.{none}
 use Rattle.octets.proofs.Counts.{true-or-false}
+use Rattle.octets.proofs.Elements.{each-zip}
+use Rattle.octets.proofs.Stretches.{length-rest, part-append, part-and-rest, joined-none, joined-cons}
+use Rattle.octets.proofs.Bytes.{bytes-front, bytes-back, bytes-joined}
+use Rattle.octets.proofs.Tests.{none-empty}
 use Rattle.flow.specs.Flow.{longest}
 use Rattle.ts.specs.Packet.{fillByte, allFill}
-use Rattle.mpeg.specs.Packet.{filledTo}
-use Rattle.mpeg.specs.Frame.{saidLength, startsWell, good, mayBegin, Good}
-use Rattle.mpeg.specs.Read.{Found, found}
-use Rattle.mpeg.proofs.Backlogs.{Mid, between, mid-some, one, one-some, NotEmpty}
-use Rattle.mpeg.proofs.Taken.{fill-all}
+use Rattle.ts.proofs.Filling.{all-fill}
+use Rattle.mpeg.specs.Frame.{saidLength, good, mayBegin, Good}
+use Rattle.mpeg.specs.Read.{Found, found, withFrame}
+use Rattle.mpeg.proofs.Frames.{GoodFrame, said-part, first-part, may-begin-none}
+use Rattle.mpeg.proofs.Frames.{not-good-filled, not-good-over, not-begin-filled, not-begin-long}
 
--- What `good` says, in three parts.
-pub record Says (frame : List ℕ) : Type 0 where
-  pub short : length frame ≤ longest
-  pub its-length : saidLength frame ≡ length frame
-  pub starts-well : startsWell frame ≡ true
-
-pub good-says : (frame : List ℕ) → good frame ≡ true → Says frame
-unfolding good
-good-says frame h =
-    let a = and-eq-true-iff (leb (length frame) longest) (eqb (saidLength frame) (length frame) && startsWell frame) .0 h in
-    let b = and-eq-true-iff (eqb (saidLength frame) (length frame)) (startsWell frame) .0 (a .1) in
-    record {
-      short = leb-true (length frame) longest (a .0);
-      its-length = eqb-true (saidLength frame) (length frame) (b .0);
-      starts-well = b .1;
-    }
-
--- .. so that it has six bytes or more
-pub says-some : (frame : List ℕ) → Says frame → 6 ≤ length frame
-says-some frame s = omega (arith, s .its-length)
-
-pub each-some : (frames : List (List ℕ)) → Each Good frames → Each NotEmpty frames
-each-some [] h = tt
-each-some (f ∷ frames) (h, hs) = (omega (arith, says-some f (good-says f (h .0))), each-some frames hs)
-
--- A byte of the front is that byte of the frame, or 0 where it has not come.
-pub front-byte : (front back : List ℕ) (i : ℕ) → i < length front → byteAt (front ++ back) i ≡ byteAt front i
-front-byte front back i h = List·getD-append front back 0 i h
-
-front-below : (front back : List ℕ) (i : ℕ) → byteAt front i ≤ byteAt (front ++ back) i
-front-below front back i =
-    ⊎-elim
-    (λ (h : ltb i (length front) ≡ true).
-    let k = front-byte front back i (ltb-true i (length front) h) in
-    let g : byteAt front i ≤ byteAt (front ++ back) i = omega arith in g)
-    (λ (h : ltb i (length front) ≡ false).
-    let k : byteAt front i ≡ 0 = List·getD-eq-default front 0 (ltb-false i (length front) h) in
-    let g : byteAt front i ≤ byteAt (front ++ back) i = omega arith in g)
-    (true-or-false (ltb i (length front)))
-
--- The front of a frame that may be written, which is not all of it.
-module _ (front back : List ℕ) (some : 0 < length front) (more : 0 < length back) (says : Says (front ++ back)) where
-  front-short : saidLength front ≤ length (front ++ back)
-  front-short = omega (arith, front-below front back 2, front-below front back 3, says .its-length)
-
-  front-open : length front < saidLength front
-  front-open =
-      ⊎-elim
-      (λ (h : leb 4 (length front) ≡ true).
-      let k : 4 ≤ length front = leb-true 4 (length front) h in
-      let g : length front < saidLength front =
-      omega (arith, front-byte front back 2 (omega arith), front-byte front back 3 (omega arith), says .its-length, length-append front back) in g)
-      (λ (h : leb 4 (length front) ≡ false).
-      let k : length front < 4 = leb-false 4 (length front) h in
-      let g : length front < saidLength front = omega arith in g)
-      (true-or-false (leb 4 (length front)))
-
-  front-starts : startsWell front ≡ true
-  front-starts = ap (λ (b : ℕ). not (eqb b fillByte)) (sym (front-byte front back 0 some)) ∙ says .starts-well
-
-  pub front-begins : mayBegin front ≡ true
-  unfolding mayBegin
-  front-begins =
-      let k : saidLength front ≤ longest = omega (arith, front-short, says .short) in
-      rw (lt-ltb (length front) (saidLength front) front-open, le-leb (saidLength front) longest k, front-starts) refl
-
-  pub front-not-good : good front ≡ false
-  unfolding good
-  front-not-good =
-      let no : saidLength front ≡ length front → ⊥ = λ e. omega (arith, front-open) in
-      rw (ne-eqb (saidLength front) (length front) no) (and-false (leb (length front) longest))
-
--- What starts a frame is not what a packet is filled up with.
-pub starts-not-fill : (bytes : List ℕ) → 0 < length bytes → startsWell bytes ≡ true → allFill bytes ≡ false
-unfolding allFill
-starts-not-fill [] some h = absurd (not-suc-le-zero some)
-starts-not-fill (x ∷ bytes) some h = rw (not-true (eqb x fillByte) h) refl
-
--- What is found.
 abbrev pub foundWell : List (List ℕ) → List ℕ → Found
 foundWell whole front = record { well = true; whole = whole; open-end = front }
 
-found-fill : (n m : ℕ) → m ≤ n → found n (replicate m fillByte) ≡ foundWell [] []
-unfolding found none
-found-fill zero zero h = refl
-found-fill zero (suc m) h = absurd (not-suc-le-zero h)
-found-fill (suc n) m h = rw (fill-all m) refl
-
-found-front : (n : ℕ) (front : List ℕ) → 0 < length front → startsWell front ≡ true → length front < saidLength front → mayBegin front ≡ true →
-    found (suc n) front ≡ foundWell [] front
+-- The steps.
+found-last : (bytes : List ℕ) → found zero bytes ≡ record { well = none bytes; whole = []; open-end = [] }
 unfolding found
-found-front n front some starts opens begins =
-    rw (starts-not-fill front some starts, lt-leb (saidLength front) (length front) opens, begins) refl
+found-last bytes = refl
 
-found-frame : (n : ℕ) (f behind : List ℕ) (whole : List (List ℕ)) (front : List ℕ) → good f ≡ true → found n behind ≡ foundWell whole front →
-    found (suc n) (f ++ behind) ≡ foundWell (f ∷ whole) front
-unfolding found part rest
-found-frame n f behind whole front g e =
-    let s = good-says f g in
-    let six : 6 ≤ length f = says-some f s in
-    let some : 0 < length (f ++ behind) = omega (arith, length-append f behind) in
-    let starts : startsWell (f ++ behind) ≡ true = ap (λ (b : ℕ). not (eqb b fillByte)) (front-byte f behind 0 (omega arith)) ∙ s .starts-well in
-    let said : saidLength (f ++ behind) ≡ length f = omega (arith, front-byte f behind 2 (omega arith), front-byte f behind 3 (omega arith), s .its-length) in
-    let fits : length f ≤ length (f ++ behind) = omega (arith, length-append f behind) in
-    let fits-test = le-leb (length f) (length (f ++ behind)) fits in
-    rw (starts-not-fill (f ++ behind) some starts, said, fits-test, take-append-seam f behind, drop-append-seam f behind, e, g) refl
+pub found-filled : (n : ℕ) (b : List ℕ) → allFill b ≡ true → found (suc n) b ≡ foundWell [] []
+unfolding found
+found-filled n b e = rw e refl
 
--- The m bytes behind the pointer, or behind a frame's end: of the frames that wait, filled up.
-abbrev pub room : ℕ → List (List ℕ) → List ℕ
-room m waiting = filledTo m (part (joined waiting) 0 m)
+pub found-frame : (n : ℕ) (b : List ℕ) → allFill b ≡ false → saidLength b ≤ length b →
+    found (suc n) b ≡ withFrame (part b 0 (saidLength b)) (found n (rest b (saidLength b)))
+unfolding found
+found-frame n b e h = rw (e, le-leb _ _ h) refl
 
--- How they cut the frames that wait, and that the reader finds just this.
-pub record Split (m n : ℕ) (waiting : List (List ℕ)) : Type 0 where
-  pub whole : List (List ℕ)
-  pub front : List ℕ
-  pub back : List ℕ
-  pub behind : List (List ℕ)
-  pub mid : Mid front back
-  pub are : waiting ≡ whole ++ (one front back ++ behind)
-  pub taken : part (joined waiting) 0 m ≡ joined whole ++ front
-  pub is-found : found n (room m waiting) ≡ foundWell whole front
+pub found-open : (n : ℕ) (b : List ℕ) → allFill b ≡ false → length b < saidLength b →
+    found (suc n) b ≡ record { well = mayBegin b; whole = []; open-end = b }
+unfolding found
+found-open n b e h = rw (e, lt-leb _ _ h) refl
 
-filled-behind : (m : ℕ) (f l : List ℕ) → filledTo m (f ++ l) ≡ f ++ filledTo (m - length f) l
-filled-behind m f l =
-    let n : m - length (f ++ l) ≡ m - length f - length l = omega (arith, length-append f l) in
-    rw n (append-assoc f l (replicate (m - length f - length l) fillByte))
+-- the outcomes of the tests, for whatever is shown of each
+module _ {A : Type 0} (b : List ℕ) (filled : allFill b ≡ true → A) (frame : allFill b ≡ false → saidLength b ≤ length b → A)
+    (begun : allFill b ≡ false → length b < saidLength b → A) where
+  by-tests : A
+  by-tests =
+      ⊎-elim filled
+      (λ (e : allFill b ≡ false).
+      ⊎-elim (λ (t : leb (saidLength b) (length b) ≡ true). frame e (leb-true _ _ t)) (λ (t : leb (saidLength b) (length b) ≡ false). begun e (leb-false _ _ t))
+      (true-or-false (leb (saidLength b) (length b))))
+      (true-or-false (allFill b))
 
-split-none : (m n : ℕ) → m ≤ n → Split m n []
-unfolding part joined
-split-none m n h =
-    let e : m - 0 ≡ m = omega arith in
-    let none-taken : _≡_ {A = List ℕ} (take m []) [] = take-nil m in
+pub found-none : (n : ℕ) → found n [] ≡ foundWell [] []
+unfolding none allFill
+found-none zero = found-last []
+found-none (suc n) = found-filled n [] refl
+
+-- more steps than there are bytes change nothing: each frame has at least one
+pub more-steps : (n : ℕ) (b : List ℕ) → length b ≤ n → found n b ≡ found (suc n) b
+more-steps zero [] h = found-none zero ∙ sym (found-none (suc zero))
+more-steps zero (x ∷ b) h = absurd (let z : ⊥ = omega (arith, h) in z)
+more-steps (suc n) b h =
+    by-tests b
+    (λ e. found-filled n b e ∙ sym (found-filled (suc n) b e))
+    (λ e k.
+    let behind : length (rest b (saidLength b)) ≤ n = omega (arith, length-rest b (saidLength b)) in
+    found-frame n b e k ∙ ap (withFrame (part b 0 (saidLength b))) (more-steps n (rest b (saidLength b)) behind) ∙ sym (found-frame (suc n) b e k))
+    (λ e k. found-open n b e k ∙ sym (found-open (suc n) b e k))
+
+-- Bytes that do not begin as a frame: the first is 0xFF and not all are; or it says more than the longest.
+module _ (n : ℕ) (b : List ℕ) (some : allFill b ≡ false) where
+  spoils : good (part b 0 (saidLength b)) ≡ false → mayBegin b ≡ false → (found (suc n) b) .well ≡ false
+  spoils whole begun =
+      ⊎-elim
+      (λ (t : leb (saidLength b) (length b) ≡ true).
+      ap (λ (f : Found). f .well) (found-frame n b some (leb-true _ _ t)) ∙ ap (λ (g : Bool). g && (found n (rest b (saidLength b))) .well) whole)
+      (λ (t : leb (saidLength b) (length b) ≡ false). ap (λ (f : Found). f .well) (found-open n b some (leb-false _ _ t)) ∙ begun)
+      (true-or-false (leb (saidLength b) (length b)))
+
+  pub spoils-filled : byteAt b 0 ≡ fillByte → (found (suc n) b) .well ≡ false
+  spoils-filled e = spoils (not-good-filled (part b 0 (saidLength b)) (first-part b ∙ e)) (not-begin-filled b e)
+
+  pub spoils-long : longest < saidLength b → (found (suc n) b) .well ≡ false
+  spoils-long h =
+      spoils (not-good-over (part b 0 (saidLength b)) (let q : longest < saidLength (part b 0 (saidLength b)) = omega (arith, said-part b) in q))
+      (not-begin-long b h)
+
+-- What it takes bytes apart into: good frames, then the front of one, or 0xFF to the end.
+pub record Apart (bytes : List ℕ) (f : Found) : Type 0 where
+  pub fill : ℕ
+  pub all : joined (f .whole) ++ f .open-end ++ replicate fill fillByte ≡ bytes
+  pub good-frames : Each GoodFrame (f .whole)
+  pub may-begin : mayBegin (f .open-end) ≡ true
+  pub one-of-them : (f .open-end ≡ []) ⊎ (fill ≡ 0)
+
+apart-none : (well : Bool) (n : ℕ) (bytes : List ℕ) → bytes ≡ replicate n fillByte → Apart bytes (record { well = well; whole = []; open-end = [] })
+apart-none well n bytes e =
+    record { fill = n; all = rw joined-none (sym e); good-frames = tt; may-begin = may-begin-none; one-of-them = inl refl }
+
+apart-end : (bytes : List ℕ) (well : Bool) → mayBegin bytes ≡ true → Apart bytes (record { well = well; whole = []; open-end = bytes })
+apart-end bytes well h =
+    record { fill = 0; all = rw joined-none (append-nil bytes); good-frames = tt; may-begin = h; one-of-them = inr refl }
+
+apart-frame : (bytes : List ℕ) (n : ℕ) (f : Found) → (f .well ≡ true → Apart (rest bytes n) f) →
+    (good (part bytes 0 n) && f .well) ≡ true → Apart bytes (withFrame (part bytes 0 n) f)
+apart-frame bytes n f behind h =
+    let frame = part bytes 0 n in
+    let a : Apart (rest bytes n) f = behind (and-right (good frame) (f .well) h) in
+    let fills = replicate (a .fill) fillByte in
+    let in-order : frame ++ joined (f .whole) ++ f .open-end ++ fills ≡ frame ++ (joined (f .whole) ++ f .open-end ++ fills) = simp append-assoc in
     record {
-      whole = [];
-      front = [];
-      back = [];
-      behind = [];
-      mid = between;
-      are = refl;
-      taken = none-taken;
-      is-found = rw (none-taken, e) (found-fill n m h);
+      fill = a .fill;
+      all =
+          ap (λ (l : List ℕ). l ++ f .open-end ++ fills) (joined-cons frame (f .whole)) ∙ in-order
+          ∙ ap (λ (l : List ℕ). frame ++ l) (a .all) ∙ part-and-rest bytes n;
+      good-frames = (and-left (good frame) (f .well) h, a .good-frames);
+      may-begin = a .may-begin;
+      one-of-them = a .one-of-them;
     }
 
-split-zero : (n : ℕ) (waiting : List (List ℕ)) → Split 0 n waiting
-unfolding part joined
-split-zero n waiting =
-    record {
-      whole = [];
-      front = [];
-      back = [];
-      behind = waiting;
-      mid = between;
-      are = refl;
-      taken = refl;
-      is-found = found-fill n 0 (omega arith);
-    }
+pub found-apart : (n : ℕ) (bytes : List ℕ) → (found n bytes) .well ≡ true → Apart bytes (found n bytes)
+found-apart zero bytes h =
+    let e = found-last bytes in
+    rw e (apart-none (none bytes) 0 bytes (none-empty bytes (sym (ap (λ (f : Found). f .well) e) ∙ h)))
+found-apart (suc n) bytes h =
+    by-tests bytes
+    (λ e. rw (found-filled n bytes e) (apart-none true (length bytes) bytes (all-fill bytes e)))
+    (λ e k.
+    let said = saidLength bytes in
+    let step = found-frame n bytes e k in
+    rw step (apart-frame bytes said (found n (rest bytes said)) (found-apart n (rest bytes said)) (sym (ap (λ (f : Found). f .well) step) ∙ h)))
+    (λ e k.
+    let step = found-open n bytes e k in
+    rw step (apart-end bytes (mayBegin bytes) (sym (ap (λ (f : Found). f .well) step) ∙ h)))
 
-split-front : (m n : ℕ) (f : List ℕ) (waiting : List (List ℕ)) → Says f → 0 < m → m < length f → Split m (suc n) (f ∷ waiting)
-unfolding part joined
-split-front m n f waiting says some less =
-    let front = take m f in
-    let back = drop m f in
-    let long : length front ≡ m = omega (arith, length-take m f) in
-    let a : 0 < length front = omega arith in
-    let b : 0 < length back = omega (arith, length-drop m f) in
-    let whole-frame : front ++ back ≡ f = take-append-drop m f in
-    let frame-says : Says (front ++ back) = rw whole-frame says in
-    let is-taken : take m (f ++ joined waiting) ≡ front = take-append-le m f (joined waiting) (omega arith) in
-    let filled : m - length front ≡ 0 = omega arith in
-    record {
-      whole = [];
-      front = front;
-      back = back;
-      behind = waiting;
-      mid = mid-some front back a b;
-      are = ap (λ (l : List (List ℕ)). l ++ waiting) (sym (one-some front back b ∙ ap (λ (l : List ℕ). l ∷ []) whole-frame));
-      taken = is-taken;
-      is-found = rw (is-taken, filled, append-nil front)
-          (found-front n front a (front-starts front back a b frame-says) (front-open front back a b frame-says) (front-begins front back a b frame-says));
-    }
+-- The frames' bytes stand at the front, and are bytes where all are.
+module _ {bytes : List ℕ} {f : Found} (a : Apart bytes f) where
+  abbrev pub pieces : List ℕ
+  pieces = joined (f .whole) ++ f .open-end
 
-split-frame : (m n : ℕ) (f : List ℕ) (waiting : List (List ℕ)) → good f ≡ true → length f ≤ m → Split (m - length f) n waiting → Split m (suc n) (f ∷ waiting)
-unfolding part joined
-split-frame m n f waiting g fits s =
-    let split : m ≡ length f + (m - length f) = omega arith in
-    let is-taken : take m (f ++ joined waiting) ≡ f ++ take (m - length f) (joined waiting) =
-    ap (λ (k : ℕ). take k (f ++ joined waiting)) split ∙ take-append-add f (joined waiting) (m - length f) in
-    record {
-      whole = f ∷ s .whole;
-      front = s .front;
-      back = s .back;
-      behind = s .behind;
-      mid = s .mid;
-      are = ap (λ (l : List (List ℕ)). f ∷ l) (s .are);
-      taken = is-taken ∙ ap (λ (l : List ℕ). f ++ l) (s .taken) ∙ sym (append-assoc f (joined (s .whole)) (s .front));
-      is-found = ap (found (suc n)) (ap (filledTo m) is-taken ∙ filled-behind m f (take (m - length f) (joined waiting)))
-          ∙ found-frame n f (room (m - length f) waiting) (s .whole) (s .front) g (s .is-found);
-    }
+  pub pieces-inside : length pieces ≤ length bytes
+  pieces-inside = omega (arith, length-append pieces (replicate (a .fill) fillByte), ap length (a .all))
 
-pub split : (m n : ℕ) (waiting : List (List ℕ)) → Each Good waiting → m ≤ n → Split m n waiting
-split m n [] gs h = split-none m n h
-split zero n (f ∷ waiting) gs h = split-zero n (f ∷ waiting)
-split (suc m) zero (f ∷ waiting) gs h = absurd (not-suc-le-zero h)
-split (suc m) (suc n) (f ∷ waiting) (g, gs) h =
-    ⊎-elim
-    (λ (fits : leb (length f) (suc m) ≡ true).
-    let k : length f ≤ suc m = leb-true (length f) (suc m) fits in
-    let six : 6 ≤ length f = says-some f (good-says f (g .0)) in
-    split-frame (suc m) n f waiting (g .0) k (split (suc m - length f) n waiting gs (omega arith)))
-    (λ (less : leb (length f) (suc m) ≡ false).
-    split-front (suc m) n f waiting (good-says f (g .0)) (omega arith) (leb-false (length f) (suc m) less))
-    (true-or-false (leb (length f) (suc m)))
+  pub pieces-part : pieces ≡ part bytes 0 (length pieces)
+  pieces-part = sym (ap (λ (l : List ℕ). part l 0 (length pieces)) (sym (a .all)) ∙ part-append pieces (replicate (a .fill) fillByte))
+
+  module _ (all-bytes : AllBytes bytes) where
+    pieces-bytes : AllBytes pieces
+    pieces-bytes = bytes-front pieces (replicate (a .fill) fillByte) (rw (a .all) all-bytes)
+
+    pub end-bytes : AllBytes (f .open-end)
+    end-bytes = bytes-back (joined (f .whole)) (f .open-end) pieces-bytes
+
+    pub frames-good : Each Good (f .whole)
+    frames-good = each-zip GoodFrame AllBytes (f .whole) (a .good-frames) (bytes-joined (f .whole) (bytes-front (joined (f .whole)) (f .open-end) pieces-bytes))

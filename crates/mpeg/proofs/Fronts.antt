@@ -6,36 +6,36 @@ use mathlib.Core.Bool.{Bool, _&&_, _||_}
 use mathlib.Core.List.{List, [], _++_}
 use native.Mathlib.Omega.{arith}
 use lib.Dec.{eqb}
-use lib.ListN.{length, length-append, List·getD-append, List·getD-eq-default}
-use lib.Seq.{getD-append-add}
+use lib.ListN.{length, length-append}
 use Rattle.octets.specs.Bytes.{byteAt}
 use Rattle.octets.specs.Stretch.{part}
-use Rattle.octets.proofs.Stretches.{length-part, byte-part}
+use Rattle.octets.proofs.Stretches.{length-part, byte-part, length-joined-none}
+use Rattle.octets.proofs.Bytes.{byte-append, byte-append-behind, byte-past}
 use Rattle.octets.proofs.Tests.{same-four}
 use Rattle.ts.specs.Packet.{mpegLength, syncByte, payloadOnly, counts, countOf}
 use Rattle.mpeg.specs.declared.reader.Front.{Front}
 use Rattle.mpeg.specs.declared.reader.Standing.{Standing}
 use Rattle.mpeg.specs.Frame.{fieldAt, besideField, saidLength}
 use Rattle.mpeg.specs.Read.{countFits}
-use Rattle.mpeg.specs.Inside.Standing.{frontOf}
+use Rattle.mpeg.specs.Inside.Standing.{frontOf, standingOf}
 use Rattle.mpeg.specs.Inside.Fronts.{headed}
 
 -- Byte `place` of a frame: among the bytes that came before, among those that come now, or among neither.
 pub byte-before : {size place known : ℕ} (begun more : List ℕ) → place < size → size ≡ length begun → known ≡ byteAt begun place →
     known ≡ byteAt (begun ++ more) place
-byte-before {size} {place} {known} begun more below long e = e ∙ sym (List·getD-append begun more 0 place (omega arith))
+byte-before {size} {place} {known} begun more below long e = e ∙ sym (byte-append begun more place (omega arith))
 
 pub byte-among : (packets : List ℕ) (from n : ℕ) {size place : ℕ} (begun : List ℕ) → size ≤ place → place < size + n → size ≡ length begun →
     byteAt packets (from + (place - size)) ≡ byteAt (begun ++ part packets from n) place
 byte-among packets from n {size} {place} begun above below long =
     let more = part packets from n in
     let split : length begun + (place - size) ≡ place = omega arith in
-    sym (ap (byteAt (begun ++ more)) (sym split) ∙ getD-append-add begun more (place - size) 0 ∙ byte-part packets from n (place - size) (omega arith))
+    sym (ap (byteAt (begun ++ more)) (sym split) ∙ byte-append-behind begun more (place - size) ∙ byte-part packets from n (place - size) (omega arith))
 
 pub byte-behind : (packets : List ℕ) (from n : ℕ) {size place : ℕ} (begun : List ℕ) → from + n ≤ length packets → size + n ≤ place → size ≡ length begun →
     0 ≡ byteAt (begun ++ part packets from n) place
 byte-behind packets from n {size} {place} begun inside above long =
-    sym (List·getD-eq-default (begun ++ part packets from n) 0 {n = place}
+    sym (byte-past (begun ++ part packets from n) place
     (omega (arith, length-append begun (part packets from n), length-part packets from n inside)))
 
 -- the three together are the front
@@ -65,8 +65,8 @@ headed-is packets at second expected {count} h e =
 -- where the reader stands with no frame begun and nothing found
 pub none-found : (sound : Bool) (expected : ℕ) {front : Front} → front ≡ frontOf [] →
     _≡_ {A = Standing} (record { sound = sound; expected = expected; begun = front; frames = 0; bytes = 0 })
-    (record { sound = sound; expected = expected; begun = frontOf []; frames = 0; bytes = 0 })
-none-found sound expected e = ap (λ (f : Front). record { sound = sound; expected = expected; begun = f; frames = 0; bytes = 0 }) e
+    (standingOf (record { sound = sound; expected = expected; begun = []; frames = [] }))
+none-found sound expected e = rw (e, length-joined-none) refl
 
 -- the length that the code reads from a front is the one that the frame says
 pub says-of : {front : Front} {said : ℕ} (bytes : List ℕ) → front ≡ frontOf bytes → said ≡ front .high * 256 + front .low + besideField →

@@ -8,26 +8,16 @@ use mathlib.Core.List.{List, [], _∷_, _++_, append-assoc}
 use native.Mathlib.Numerals.{add-one}
 use native.Mathlib.Omega.{arith}
 use native.Mathlib.Nat.{not-suc-le-zero, eq-or-lt-of-le, le-of-suc-le-suc}
-use lib.ListN.{length, set, length-append, List·getD-append}
-use lib.Seq.{drop-drop, drop-append-seam}
+use lib.ListN.{length, set, length-append}
 use Rattle.octets.specs.Bytes.{byteAt, be16At}
 use Rattle.octets.specs.Each.{Each}
 use Rattle.octets.specs.Stretch.{rest, put, joined, lengthsOf}
-use Rattle.octets.proofs.Stretches.{byte-rest, put-nil, put-put-front, length-put, set-put}
+use Rattle.octets.proofs.Stretches.{byte-rest, rest-none, rest-rest, rest-append, put-nil, put-put-front, length-put, set-put}
+use Rattle.octets.proofs.Stretches.{joined-cons, length-joined, length-joined-none, lengthsOf-none, lengthsOf-cons}
 use Rattle.flow.specs.Flow.{longest}
 use Rattle.mpeg.specs.Frame.{fieldAt, besideField, saidLength, good}
 use Rattle.mpeg.specs.Inside.Stream.{saidLengths, saidEnd, Laid}
-use Rattle.mpeg.proofs.Streams.{GoodFrame}
-use Rattle.mpeg.proofs.Passes.{good-length, good-short}
-use Rattle.mpeg.proofs.Surveying.{rest-all}
-
-rest-rest : (l : List ℕ) (n m : ℕ) → rest (rest l n) m ≡ rest l (n + m)
-unfolding rest
-rest-rest l n m = drop-drop m n l
-
-rest-append : (a b : List ℕ) → rest (a ++ b) (length a) ≡ b
-unfolding rest
-rest-append a b = drop-append-seam a b
+use Rattle.mpeg.proofs.Frames.{GoodFrame, good-says, good-some, said-append}
 
 -- One frame more.
 abbrev saidAt : ℕ → List ℕ → ℕ
@@ -35,7 +25,7 @@ saidAt k bytes = saidLength (rest bytes (saidEnd k bytes))
 
 end-suc : (k : ℕ) (bytes : List ℕ) → saidEnd (suc k) bytes ≡ saidEnd k bytes + saidAt k bytes
 unfolding saidEnd
-end-suc zero bytes = rw (rest-all bytes) (omega arith)
+end-suc zero bytes = rw (rest-none bytes) (omega arith)
 end-suc (suc k) bytes =
     let n = saidLength bytes in
     let more = rest bytes n in
@@ -44,7 +34,7 @@ end-suc (suc k) bytes =
 
 lengths-suc : (k : ℕ) (bytes : List ℕ) → saidLengths (suc k) bytes ≡ saidLengths k bytes ++ (saidAt k bytes ∷ [])
 unfolding saidLengths saidEnd
-lengths-suc zero bytes = rw (rest-all bytes) refl
+lengths-suc zero bytes = rw (rest-none bytes) refl
 lengths-suc (suc k) bytes =
     let n = saidLength bytes in
     let more = rest bytes n in
@@ -133,48 +123,38 @@ module _ {bytes lengths : List ℕ} {count : ℕ} {lengths′ : List ℕ} {from 
 
 -- Good frames say their lengths, whatever stands behind them.
 said-front : (frame behind : List ℕ) → good frame ≡ true → saidLength (frame ++ behind) ≡ length frame
-said-front frame behind g =
-    let long = good-length frame g in
-    let high = List·getD-append frame behind 0 fieldAt (omega arith) in
-    let low = List·getD-append frame behind 0 (fieldAt + 1) (omega arith) in
-    omega arith
+said-front frame behind g = said-append frame behind (omega (arith, good-some frame g)) ∙ good-says frame g .its-length
 
 module _ (frame : List ℕ) (frames : List (List ℕ)) (behind : List ℕ) (g : good frame ≡ true) where
+  first-is : joined (frame ∷ frames) ++ behind ≡ frame ++ (joined frames ++ behind)
+  first-is = ap (λ (l : List ℕ). l ++ behind) (joined-cons frame frames) ∙ append-assoc frame (joined frames) behind
+
   said-first : saidLength (joined (frame ∷ frames) ++ behind) ≡ length frame
-  unfolding joined
-  said-first = ap saidLength (append-assoc frame (joined frames) behind) ∙ said-front frame (joined frames ++ behind) g
+  said-first = ap saidLength first-is ∙ said-front frame (joined frames ++ behind) g
 
   said-others : rest (joined (frame ∷ frames) ++ behind) (saidLength (joined (frame ∷ frames) ++ behind)) ≡ joined frames ++ behind
-  unfolding joined
   said-others =
-      ap (rest (frame ++ joined frames ++ behind)) said-first ∙ ap (λ (l : List ℕ). rest l (length frame)) (append-assoc frame (joined frames) behind)
+      ap (rest (joined (frame ∷ frames) ++ behind)) said-first ∙ ap (λ (l : List ℕ). rest l (length frame)) first-is
       ∙ rest-append frame (joined frames ++ behind)
 
 pub said-lengths : (frames : List (List ℕ)) (behind : List ℕ) → Each GoodFrame frames → saidLengths (length frames) (joined frames ++ behind) ≡ lengthsOf frames
-unfolding saidLengths lengthsOf
-said-lengths [] behind g = refl
+unfolding saidLengths
+said-lengths [] behind g = sym lengthsOf-none
 said-lengths (f ∷ frames) behind g =
-    rw (said-others f frames behind (g .0), said-first f frames behind (g .0)) (ap (λ (l : List ℕ). length f ∷ l) (said-lengths frames behind (g .1)))
-
-joined-none : length (joined []) ≡ 0
-unfolding joined
-joined-none = refl
-
-joined-first : (frame : List ℕ) (frames : List (List ℕ)) → length (joined (frame ∷ frames)) ≡ length frame + length (joined frames)
-unfolding joined
-joined-first frame frames = length-append frame (joined frames)
+    rw (said-others f frames behind (g .0), said-first f frames behind (g .0))
+    (ap (λ (l : List ℕ). length f ∷ l) (said-lengths frames behind (g .1)) ∙ sym (lengthsOf-cons f frames))
 
 said-end : (frames : List (List ℕ)) (behind : List ℕ) → Each GoodFrame frames → saidEnd (length frames) (joined frames ++ behind) ≡ length (joined frames)
 unfolding saidEnd
-said-end [] behind g = sym joined-none
+said-end [] behind g = sym length-joined-none
 said-end (f ∷ frames) behind g =
-    rw (said-others f frames behind (g .0), said-first f frames behind (g .0)) (omega (arith, said-end frames behind (g .1), joined-first f frames))
+    rw (said-others f frames behind (g .0), said-first f frames behind (g .0)) (omega (arith, said-end frames behind (g .1), length-joined f frames))
 
 said-short : (frames : List (List ℕ)) (behind : List ℕ) → Each GoodFrame frames → (k : ℕ) → k < length frames → saidAt k (joined frames ++ behind) ≤ longest
 unfolding saidEnd
 said-short [] behind g k l = absurd (not-suc-le-zero l)
 said-short (f ∷ frames) behind g zero l =
-    rw (rest-all (joined (f ∷ frames) ++ behind), said-first f frames behind (g .0)) (good-short f (g .0))
+    rw (rest-none (joined (f ∷ frames) ++ behind), said-first f frames behind (g .0)) (good-says f (g .0) .short)
 said-short (f ∷ frames) behind g (suc k) l =
     let bytes = joined (f ∷ frames) ++ behind in
     let more = rest bytes (saidLength bytes) in

@@ -1,9 +1,11 @@
 pub mod Backlogs
+pub mod Frames
 pub mod Found
+pub mod Split
+pub mod Ways
 pub mod PacketsRead
 pub mod RunsRead
 pub mod RunInstance
-pub mod Taken
 pub mod Completing
 pub mod ReadRuns
 pub mod TailInstance

@@ -7,48 +7,29 @@ use mathlib.Core.Logic.{⊎-elim}
 use mathlib.Core.List.{List, [], _∷_, _++_, append-nil}
 use native.Mathlib.Omega.{arith}
 use lib.Dec.{eqb, ltb, leb}
-use lib.ListN.{length, length-append, List·getD-append}
+use lib.ListN.{length, length-append}
 use borrow.Author.Tests.{eqb-true, eqb-false, ltb-true, ltb-false, le-leb, lt-leb, not-true, not-false}
-use Rattle.refusal.proofs.Laws.{and-right}
 use Rattle.octets.specs.Bytes.{byteAt}
 use Rattle.octets.specs.Stretch.{part, rest, joined}
 use Rattle.octets.specs.Tests.{none, same}
-use Rattle.octets.proofs.Counts.{true-or-false, or-false-left, or-false-right}
-use Rattle.octets.proofs.Stretches.{byte-part, joined-append, joined-one-more}
+use Rattle.octets.proofs.Counts.{true-or-false, or-false-left, or-false-right, or-true-right}
+use Rattle.octets.proofs.Elements.{length-one-more}
+use Rattle.octets.proofs.Stretches.{byte-part, rest-part, part-of-part-front, joined-append, length-joined-one-more}
+use Rattle.octets.proofs.Tests.{none-length, none-some}
 use Rattle.flow.specs.Flow.{longest}
 use Rattle.ts.specs.Packet.{mpegLength, headLength, payloadLength, syncByte, payloadOnly, countOf, nextCount, header, allFill, nullPacket}
 use Rattle.mpeg.specs.declared.reader.Front.{Front}
 use Rattle.mpeg.specs.declared.reader.Standing.{Standing}
 use Rattle.mpeg.specs.Packet.{pointedLength, framesPid}
 use Rattle.mpeg.specs.Frame.{besideField, saidLength, startsWell, good, mayBegin}
-use Rattle.mpeg.specs.Read.{Reading, Found, found, unsound, countFits, hasHeader, wentOn, withoutFlag}
+use Rattle.mpeg.specs.Read.{Reading, Found, found, unsound, countFits, hasHeader, withoutFlag}
 use Rattle.mpeg.specs.Read.{pointer, pointed, ended, foundIn, endsWell, endedFrames, withFlag, readPacket}
 use Rattle.mpeg.specs.Inside.Standing.{frontOf, standingOf}
 use Rattle.mpeg.specs.Inside.Fronts.{headed, spoilt, standingWith, foundBetween}
 use Rattle.mpeg.proofs.Fronts.{says-of}
-use Rattle.mpeg.proofs.Finding.{good-is, not-good-says, not-good-over, may-begin-is, not-begin-long, not-begin-whole, rest-part, part-front}
-
--- Whether a frame has begun, by the size of what has come of it.
-pub none-is : (l : List ℕ) → length l ≡ 0 → none l ≡ true
-unfolding none
-none-is [] h = refl
-none-is (x ∷ l) h = absurd (let z : ⊥ = omega (arith, h) in z)
-
-pub some-is : (l : List ℕ) → (length l ≡ 0 → ⊥) → none l ≡ false
-unfolding none
-some-is [] h = absurd (h refl)
-some-is (x ∷ l) h = refl
-
-or-true-right : (a b : Bool) → (a || b) ≡ true → a ≡ false → b ≡ true
-or-true-right true b h e = absurd (true≢false e)
-or-true-right false b h e = h
-
--- a frame goes on as it began
-pub starts-on : (begun more : List ℕ) → mayBegin begun ≡ true → (length begun ≡ 0 → ⊥) → startsWell (begun ++ more) ≡ true
-unfolding mayBegin
-starts-on begun more may some =
-    let first : byteAt (begun ++ more) 0 ≡ byteAt begun 0 = List·getD-append begun more 0 0 (omega (arith, some)) in
-    rw first (and-right (leb (saidLength begun) longest) (startsWell begun) (and-right (ltb (length begun) (saidLength begun)) _ may))
+use Rattle.mpeg.proofs.Frames.{starts-append, begin-says, good-is, not-good-says, not-good-over, may-begin-is, not-begin-long, not-begin-whole}
+use Rattle.mpeg.proofs.Ways.{longer, afterFinished, afterWentOn, read-null, read-misfit, read-without, read-with, read-neither}
+use Rattle.mpeg.proofs.Ways.{without-none, without-good, without-more, without-bad, flagPasses, with-fails}
 
 -- five numbers are those of a reading
 pub standing-is : (s : Reading) {expected frames bytes : ℕ} {front : Front} → s .sound ≡ true → expected ≡ s .expected → front ≡ frontOf (s .begun) →
@@ -56,58 +37,46 @@ pub standing-is : (s : Reading) {expected frames bytes : ℕ} {front : Front} �
     _≡_ {A = Standing} (record { sound = true; expected = expected; begun = front; frames = frames; bytes = bytes }) (standingOf s)
 standing-is s a b c d e = rw (a, b, c, d, e) refl
 
-one-more : (frames : List (List ℕ)) (frame : List ℕ) → length frames + 1 ≡ length (frames ++ (frame ∷ []))
-one-more frames frame = omega (arith, length-append frames (frame ∷ []))
-
-more-bytes : (frames : List (List ℕ)) (frame : List ℕ) → length (joined frames) + length frame ≡ length (joined (frames ++ (frame ∷ [])))
-more-bytes frames frame = sym (ap length (joined-one-more frames frame) ∙ length-append (joined frames) frame)
+-- a frame goes on as it began
+starts-on : (begun more : List ℕ) → mayBegin begun ≡ true → 0 < length begun → startsWell (begun ++ more) ≡ true
+starts-on begun more may some = starts-append begun more some ∙ begin-says begun may .starts
 
 -- Without the flag.
 pub flagless-none : {standing r : Standing} (packet : List ℕ) (s : Reading) → standing ≡ standingOf s → standing .begun .size ≡ 0 → r ≡ spoilt →
     r ≡ standingOf (withoutFlag s packet)
-unfolding withoutFlag
 flagless-none packet s is none-begun spoils =
-    rw (none-is (s .begun) (sym (ap (λ (st : Standing). st .begun .size) is) ∙ none-begun)) spoils
-
-went-spoilt : (s : Reading) (packet frame : List ℕ) → none (s .begun) ≡ false → good frame ≡ false → mayBegin frame ≡ false →
-    spoilt ≡ standingOf (wentOn s packet frame)
-went-spoilt s packet frame a b c = rw (a, b, c) refl
-
-went-ended : (s : Reading) (packet frame : List ℕ) → none (s .begun) ≡ false → good frame ≡ true →
-    wentOn s packet frame ≡ record { sound = true; expected = nextCount (countOf packet); begun = []; frames = s .frames ++ (frame ∷ []) }
-went-ended s packet frame a b = rw (a, b) refl
-
-went-more : (s : Reading) (packet frame : List ℕ) → none (s .begun) ≡ false → good frame ≡ false → mayBegin frame ≡ true →
-    wentOn s packet frame ≡ record { sound = true; expected = nextCount (countOf packet); begun = frame; frames = s .frames }
-went-more s packet frame a b c = rw (a, b, c) refl
+    let empty = none-length (s .begun) (sym (ap (λ (st : Standing). st .begun .size) is) ∙ none-begun) in
+    spoils ∙ ap standingOf (sym (without-none s packet empty))
 
 module _ (packets : List ℕ) (at : ℕ) (inside : at + mpegLength ≤ length packets) {standing : Standing} (s : Reading)
     (may : mayBegin (s .begun) ≡ true) (is : standing ≡ standingOf s) (some : standing .begun .size ≡ 0 → ⊥) where
-  begun-some : length (s .begun) ≡ 0 → ⊥
-  begun-some e = some (ap (λ (st : Standing). st .begun .size) is ∙ e)
+  begun-some : 0 < length (s .begun)
+  begun-some = omega (arith, some, ap (λ (st : Standing). st .begun .size) is)
+
+  begun-not : none (s .begun) ≡ false
+  begun-not = none-some (s .begun) begun-some
 
   module _ {front : Front} (is-front : front ≡ frontOf (s .begun ++ part packets (at + headLength) payloadLength)) {said : ℕ}
       (reads : said ≡ front .high * 256 + front .low + besideField) where
-    flagless : withoutFlag s (part packets at mpegLength)
-        ≡ wentOn s (part packets at mpegLength) (s .begun ++ part packets (at + headLength) payloadLength)
-    unfolding withoutFlag
-    flagless =
-        ap (λ (l : List ℕ). wentOn s (part packets at mpegLength) (s .begun ++ l)) (rest-part packets at mpegLength headLength (omega arith) inside)
+    abbrev frame : List ℕ
+    frame = s .begun ++ part packets (at + headLength) payloadLength
 
-    flagless-says : said ≡ saidLength (s .begun ++ part packets (at + headLength) payloadLength)
-    flagless-says = says-of (s .begun ++ part packets (at + headLength) payloadLength) is-front reads
+    frame-is : longer s (part packets at mpegLength) ≡ frame
+    frame-is = ap (λ (l : List ℕ). s .begun ++ l) (rest-part packets at mpegLength headLength (omega arith) inside)
 
-    flagless-size : front .size ≡ length (s .begun ++ part packets (at + headLength) payloadLength)
+    flagless-says : said ≡ saidLength frame
+    flagless-says = says-of frame is-front reads
+
+    flagless-size : front .size ≡ length frame
     flagless-size = ap (λ (f : Front). f .size) is-front
 
-    flagless-starts : startsWell (s .begun ++ part packets (at + headLength) payloadLength) ≡ true
+    flagless-starts : startsWell frame ≡ true
     flagless-starts = starts-on (s .begun) (part packets (at + headLength) payloadLength) may begun-some
 
     -- longer than the longest, or than it says
     pub flagless-spoilt : {r : Standing} → (ltb longest said || ltb said (front .size)) ≡ true → r ≡ spoilt →
         r ≡ standingOf (withoutFlag s (part packets at mpegLength))
     flagless-spoilt {r} over spoils =
-        let frame = s .begun ++ part packets (at + headLength) payloadLength in
         let says : said ≡ saidLength frame = flagless-says in
         let size : front .size ≡ length frame = flagless-size in
         let bad : (good frame ≡ false) × (mayBegin frame ≡ false) =
@@ -119,7 +88,7 @@ module _ (packets : List ℕ) (at : ℕ) (inside : at + mpegLength ≤ length pa
         let k : said < front .size = ltb-true _ _ (or-true-right (ltb longest said) (ltb said (front .size)) over t) in
         (not-good-says frame (λ e. omega arith), not-begin-whole frame (omega arith)))
         (true-or-false (ltb longest said)) in
-        spoils ∙ went-spoilt s (part packets at mpegLength) frame (some-is (s .begun) begun-some) (bad .0) (bad .1) ∙ ap standingOf (sym flagless)
+        spoils ∙ ap standingOf (sym (without-bad s (part packets at mpegLength) begun-not (rw frame-is (bad .0)) (rw frame-is (bad .1))))
 
     module _ (not-over : (ltb longest said || ltb said (front .size)) ≡ false) {expected : ℕ}
         (counted : expected ≡ nextCount (countOf (part packets at mpegLength))) where
@@ -131,7 +100,6 @@ module _ (packets : List ℕ) (at : ℕ) (inside : at + mpegLength ≤ length pa
           _≡_ {A = Standing} (record { sound = true; expected = expected; begun = empty; frames = standing .frames + 1; bytes = standing .bytes + said })
           (standingOf (withoutFlag s (part packets at mpegLength)))
       flagless-ended {empty} whole is-empty =
-          let frame = s .begun ++ part packets (at + headLength) payloadLength in
           let says : said ≡ saidLength frame = flagless-says in
           let size : front .size ≡ length frame = flagless-size in
           let few : said ≤ longest = short in
@@ -139,18 +107,20 @@ module _ (packets : List ℕ) (at : ℕ) (inside : at + mpegLength ≤ length pa
           let long : said ≡ length frame = omega arith in
           let frames-are : standing .frames ≡ length (s .frames) = ap (λ (st : Standing). st .frames) is in
           let bytes-are : standing .bytes ≡ length (joined (s .frames)) = ap (λ (st : Standing). st .bytes) is in
-          standing-is (record { sound = true; expected = nextCount (countOf (part packets at mpegLength)); begun = []; frames = s .frames ++ (frame ∷ []) })
+          let next : List ℕ → Reading =
+          λ l. record { sound = true; expected = nextCount (countOf (part packets at mpegLength)); begun = []; frames = s .frames ++ (l ∷ []) } in
+          let over : afterFinished s (part packets at mpegLength) ≡ next frame = ap next frame-is in
+          standing-is (next frame)
           refl counted is-empty
-          (ap (λ (n : ℕ). n + 1) frames-are ∙ one-more (s .frames) frame)
-          (rw (bytes-are, long) (more-bytes (s .frames) frame))
-          ∙ ap standingOf (sym (flagless ∙ went-ended s (part packets at mpegLength) frame (some-is (s .begun) begun-some) well))
+          (ap (λ (n : ℕ). n + 1) frames-are ∙ sym (length-one-more (s .frames) frame))
+          (rw (bytes-are, long) (sym (length-joined-one-more (s .frames) frame)))
+          ∙ ap standingOf (sym (without-good s (part packets at mpegLength) begun-not (rw frame-is well) ∙ over))
 
       -- more of it is to come
       pub flagless-more : (said ≡ front .size → ⊥) →
           _≡_ {A = Standing} (record { sound = true; expected = expected; begun = front; frames = standing .frames; bytes = standing .bytes })
           (standingOf (withoutFlag s (part packets at mpegLength)))
       flagless-more part-only =
-          let frame = s .begun ++ part packets (at + headLength) payloadLength in
           let says : said ≡ saidLength frame = flagless-says in
           let size : front .size ≡ length frame = flagless-size in
           let few : said ≤ longest = short in
@@ -158,16 +128,16 @@ module _ (packets : List ℕ) (at : ℕ) (inside : at + mpegLength ≤ length pa
           let less : length frame < saidLength frame = omega (arith, part-only) in
           let frames-are : standing .frames ≡ length (s .frames) = ap (λ (st : Standing). st .frames) is in
           let bytes-are : standing .bytes ≡ length (joined (s .frames)) = ap (λ (st : Standing). st .bytes) is in
-          standing-is (record { sound = true; expected = nextCount (countOf (part packets at mpegLength)); begun = frame; frames = s .frames })
-          refl counted is-front frames-are bytes-are
-          ∙ ap standingOf (sym (flagless ∙ went-more s (part packets at mpegLength) frame (some-is (s .begun) begun-some)
-          (not-good-says frame (λ e. omega arith)) (may-begin-is frame less (omega arith) flagless-starts)))
+          let next : List ℕ → Reading =
+          λ l. record { sound = true; expected = nextCount (countOf (part packets at mpegLength)); begun = l; frames = s .frames } in
+          let on : afterWentOn s (part packets at mpegLength) ≡ next frame = ap next frame-is in
+          standing-is (next frame) refl counted is-front frames-are bytes-are
+          ∙ ap standingOf (sym (without-more s (part packets at mpegLength) begun-not (rw frame-is (not-good-says frame (λ e. omega arith)))
+          (rw frame-is (may-begin-is frame less (omega arith) flagless-starts)) ∙ on))
 
 -- With the flag.
-flag-spoilt : (s : Reading) (packet : List ℕ) → (leb (pointer packet) pointedLength && (endsWell s packet && (foundIn packet) .well)) ≡ false →
-    spoilt ≡ standingOf (withFlag s packet)
-unfolding withFlag
-flag-spoilt s packet e = rw e refl
+flag-spoilt : (s : Reading) (packet : List ℕ) → flagPasses s packet ≡ false → spoilt ≡ standingOf (withFlag s packet)
+flag-spoilt s packet e = ap standingOf (sym (with-fails s packet e))
 
 by-found : (expected : ℕ) (before : List (List ℕ)) (f : Found) (t : Bool) →
     standingOf (cond t (record { sound = true; expected = expected; begun = f .open-end; frames = before ++ f .whole }) unsound)
@@ -225,7 +195,7 @@ module _ (packets : List ℕ) (at : ℕ) (inside : at + mpegLength ≤ length pa
     ended-is s =
         ap (λ (n : ℕ). s .begun ++ part (pointed (part packets at mpegLength)) 0 n) pointer-is
         ∙ ap (λ (l : List ℕ). s .begun ++ part l 0 pointed-at) pointed-is
-        ∙ ap (λ (l : List ℕ). s .begun ++ l) (part-front packets (at + headLength + 1) pointedLength pointed-at within)
+        ∙ ap (λ (l : List ℕ). s .begun ++ l) (part-of-part-front packets (at + headLength + 1) pointedLength pointed-at within)
 
     spoilt-end : (s : Reading) → endsWell s (part packets at mpegLength) ≡ false → spoilt ≡ standingOf (withFlag s (part packets at mpegLength))
     spoilt-end s e =
@@ -252,7 +222,7 @@ module _ (packets : List ℕ) (at : ℕ) (inside : at + mpegLength ≤ length pa
             let left : at + mpegLength - (at + headLength + 1) ≡ pointedLength = omega arith in
             let same-fill : allFill (pointed (part packets at mpegLength)) ≡ filled =
             ap allFill pointed-is ∙ sym (all ∙ ap (λ (n : ℕ). allFill (part packets (at + headLength + 1) n)) left) in
-            rw (none-is (s .begun) (sym size-is ∙ none-begun), pointer-is, same-fill) refl
+            rw (none-length (s .begun) (sym size-is ∙ none-begun), pointer-is, same-fill) refl
 
         pub flag-none-spoilt : {r : Standing} → (not (eqb pointed-at 0) || filled) ≡ true → r ≡ spoilt →
             r ≡ standingOf (withFlag s (part packets at mpegLength))
@@ -271,7 +241,7 @@ module _ (packets : List ℕ) (at : ℕ) (inside : at + mpegLength ≤ length pa
             let zero-pointer : pointed-at ≡ 0 = eqb-true _ _ (not-false _ (or-false-left (not (eqb pointed-at 0)) filled ready)) in
             let start : at + headLength + 1 + pointed-at ≡ at + headLength + 1 = omega arith in
             let no-ended : s .frames ++ endedFrames s packet ≡ s .frames =
-            ap (λ (t : Bool). s .frames ++ cond t [] (ended s packet ∷ [])) (none-is (s .begun) (sym size-is ∙ none-begun)) ∙ append-nil (s .frames) in
+            ap (λ (t : Bool). s .frames ++ cond t [] (ended s packet ∷ [])) (none-length (s .begun) (sym size-is ∙ none-begun)) ∙ append-nil (s .frames) in
             is-found
             ∙ rw (counted, frames-are, bytes-are)
             (flag-found s packet (s .frames) (foundBetween packets (at + headLength + 1) (at + mpegLength)) pointer-fits
@@ -287,8 +257,11 @@ module _ (packets : List ℕ) (at : ℕ) (inside : at + mpegLength ≤ length pa
       module _ (may : mayBegin (s .begun) ≡ true) (some : standing .begun .size ≡ 0 → ⊥) {front : Front}
           (is-front : front ≡ frontOf (s .begun ++ part packets (at + headLength + 1) pointed-at)) {said : ℕ}
           (reads : said ≡ front .high * 256 + front .low + besideField) where
+        begun-there : 0 < length (s .begun)
+        begun-there = omega (arith, some, size-is)
+
         none-not : none (s .begun) ≡ false
-        none-not = some-is (s .begun) (λ e. some (size-is ∙ e))
+        none-not = none-some (s .begun) begun-there
 
         ends-some : endsWell s (part packets at mpegLength) ≡ good (s .begun ++ part packets (at + headLength + 1) pointed-at)
         ends-some = rw (none-not) (ap good (ended-is s))
@@ -326,11 +299,11 @@ module _ (packets : List ℕ) (at : ℕ) (inside : at + mpegLength ≤ length pa
             let short : said ≤ longest = ltb-false _ _ (or-false-left (ltb longest said) (not (eqb said (front .size))) ready) in
             let whole : said ≡ front .size = eqb-true _ _ (not-false _ (or-false-right (ltb longest said) (not (eqb said (front .size))) ready)) in
             let long : said ≡ length frame = omega arith in
-            let well : good frame ≡ true = good-is frame (omega arith) (omega arith) (starts-on (s .begun) _ may (λ e. some (size-is ∙ e))) in
+            let well : good frame ≡ true = good-is frame (omega arith) (omega arith) (starts-on (s .begun) _ may begun-there) in
             let one-ended : s .frames ++ endedFrames s packet ≡ s .frames ++ (frame ∷ []) =
             ap (λ (t : Bool). s .frames ++ cond t [] (ended s packet ∷ [])) none-not ∙ ap (λ (l : List ℕ). s .frames ++ (l ∷ [])) (ended-is s) in
-            let count : standing .frames + 1 ≡ length (s .frames ++ (frame ∷ [])) = ap (λ (n : ℕ). n + 1) frames-are ∙ one-more (s .frames) frame in
-            let bytes : standing .bytes + said ≡ length (joined (s .frames ++ (frame ∷ []))) = rw (bytes-are, long) (more-bytes (s .frames) frame) in
+            let count : standing .frames + 1 ≡ length (s .frames ++ (frame ∷ [])) = ap (λ (n : ℕ). n + 1) frames-are ∙ sym (length-one-more (s .frames) frame) in
+            let bytes : standing .bytes + said ≡ length (joined (s .frames ++ (frame ∷ []))) = rw (bytes-are, long) (sym (length-joined-one-more (s .frames) frame)) in
             is-found
             ∙ rw (counted, count, bytes)
             (flag-found s packet (s .frames ++ (frame ∷ [])) (foundBetween packets (at + headLength + 1 + pointed-at) (at + mpegLength)) pointer-fits
@@ -351,20 +324,15 @@ headed-with : (expected : ℕ) (packet : List ℕ) → headed 0x5F expected pack
 headed-with expected packet = ap (λ (t : Bool). t && countFits expected packet) (sym (header-is true 0x5F packet refl))
 
 -- the definition's tests in the code's order
-packet-null : (s : Reading) (packet : List ℕ) → s .sound ≡ true → same packet nullPacket ≡ true → readPacket s packet ≡ cond (none (s .begun)) s unsound
-unfolding readPacket
-packet-null s packet a b = rw (a, b) refl
-
 packet-data : (s : Reading) (packet : List ℕ) (fits without with : Bool) → s .sound ≡ true → same packet nullPacket ≡ false →
     countFits (s .expected) packet ≡ fits → hasHeader false packet ≡ without → hasHeader true packet ≡ with →
     readPacket s packet
     ≡ cond (without && fits) (withoutFlag s packet) (cond (with && fits) (withFlag s packet) unsound)
-unfolding readPacket
-packet-data s packet true true with a b c d e = rw (a, b, c, d) refl
-packet-data s packet true false true a b c d e = rw (a, b, c, d, e) refl
-packet-data s packet true false false a b c d e = rw (a, b, c, d, e) refl
-packet-data s packet false true with a b c d e = rw (a, b, c, and-false with) refl
-packet-data s packet false false with a b c d e = rw (a, b, c, and-false with) refl
+packet-data s packet true true with a b c d e = read-without s packet a b c d
+packet-data s packet true false true a b c d e = read-with s packet a b c d e
+packet-data s packet true false false a b c d e = read-neither s packet a b c d e
+packet-data s packet false true with a b c d e = rw (and-false with) (read-misfit s packet a b c)
+packet-data s packet false false with a b c d e = rw (and-false with) (read-misfit s packet a b c)
 
 module _ {standing : Standing} (sound : standing .sound ≡ true) (packet : List ℕ) {null : Bool} (is-null : null ≡ same packet nullPacket)
     (s : Reading) (is : standing ≡ standingOf s) where
@@ -376,13 +344,13 @@ module _ {standing : Standing} (sound : standing .sound ≡ true) (packet : List
 
   pub null-inside : {r : Standing} → null ≡ true → (standing .begun .size ≡ 0 → ⊥) → r ≡ spoilt → r ≡ standingOf (readPacket s packet)
   null-inside t some spoils =
-      spoils ∙ ap standingOf (sym (packet-null s packet s-sound (sym is-null ∙ t)
-      ∙ ap (λ (b : Bool). cond b s unsound) (some-is (s .begun) (λ e. some (s-size ∙ e)))))
+      spoils ∙ ap standingOf (sym (read-null s packet s-sound (sym is-null ∙ t)
+      ∙ ap (λ (b : Bool). cond b s unsound) (none-some (s .begun) (omega (arith, some, s-size)))))
 
   pub null-between : null ≡ true → standing .begun .size ≡ 0 → standing ≡ standingOf (readPacket s packet)
   null-between t nothing =
-      is ∙ ap standingOf (sym (packet-null s packet s-sound (sym is-null ∙ t)
-      ∙ ap (λ (b : Bool). cond b s unsound) (none-is (s .begun) (sym s-size ∙ nothing))))
+      is ∙ ap standingOf (sym (read-null s packet s-sound (sym is-null ∙ t)
+      ∙ ap (λ (b : Bool). cond b s unsound) (none-length (s .begun) (sym s-size ∙ nothing))))
 
   module _ (not-null : null ≡ false) {without : Bool} (is-without : without ≡ headed 0x1F (standing .expected) packet) where
     s-expected : standing .expected ≡ s .expected

@@ -3,17 +3,14 @@
 use Prim.Native.Nat.{ℕ, _+_, _-_, _≤_, _<_, min}
 use mathlib.Core.Path.{_≡_, refl, sym, ap, _∙_}
 use mathlib.Core.Bool.{true, false}
-use mathlib.Core.Logic.{⊎-elim}
 use mathlib.Core.List.{List, [], _∷_, _++_, append-nil}
 use native.Mathlib.Omega.{arith}
 use denote.Ref.{RefT}
-use lib.Dec.{leb}
-use lib.ListN.{length, take, drop, set, replicate, length-set, length-drop, length-replicate, replicate-append-replicate}
-use lib.Seq.{take-all}
-use borrow.Author.Tests.{le-leb, lt-leb, leb-true, leb-false}
+use lib.ListN.{length, set, replicate, length-set, length-replicate, replicate-append-replicate}
+use borrow.Author.Tests.{le-leb, lt-leb}
 use Rattle.octets.specs.Stretch.{part, rest, put}
-use Rattle.octets.proofs.Counts.{true-or-false}
-use Rattle.octets.proofs.Stretches.{length-part, length-rest, length-put, part-rest, put-nil, put-put, put-put-front, put-on, set-put}
+use Rattle.octets.proofs.Stretches.{length-part, length-rest, length-put, part-min, part-rest-front}
+use Rattle.octets.proofs.Stretches.{put-nil, put-put, put-more, put-on, set-put}
 use Rattle.ts.specs.Packet.{mpegLength, headLength, payloadLength, header, fillByte}
 use Rattle.mpeg.specs.Packet.{pointedLength, framesPid}
 use Rattle.mpeg.specs.HandOut.{source, handedLength, PermitsHandOut}
@@ -39,8 +36,7 @@ handed-none bytes h = rw (lt-leb mpegLength (length bytes) h) refl
 
 -- the first n bytes of the slice that is handed from
 pub handed : (queue null from answer : RefT (List ℕ)) (n : ℕ) → source queue null ≡ from → handedLength (from .now) ≡ n →
-    answer .ptr .0 ≡ from .ptr .0 → answer .ptr .1 ≡ from .ptr .1 → answer .now ≡ take n (from .now) → PermitsHandOut queue null answer
-unfolding part
+    answer .ptr .0 ≡ from .ptr .0 → answer .ptr .1 ≡ from .ptr .1 → answer .now ≡ part (from .now) 0 n → PermitsHandOut queue null answer
 handed queue null from answer n s l block place bytes =
     record { in-its-source = rw s block; at-its-front = rw s place; its-bytes = rw (s, l) bytes }
 
@@ -88,24 +84,6 @@ fill-end {d} {at} {output} {i} f done =
     let all : i ≡ mpegLength = omega (arith, f .within) in
     f .so-far ∙ ap (λ (n : ℕ). put d at (replicate (n - at) fillByte)) all
 
--- a stretch that is asked to be longer than the list is what is there of it
-part-there : (l : List ℕ) (from n m : ℕ) → m ≡ min n (length l - from) → part l from n ≡ part l from m
-unfolding part
-part-there l from n m e =
-    ⊎-elim
-    (λ (t : leb n (length l - from) ≡ true).
-    let same : n ≡ m = omega (arith, e, leb-true n (length l - from) t) in
-    ap (λ (k : ℕ). take k (drop from l)) same)
-    (λ (t : leb n (length l - from) ≡ false).
-    let short = leb-false n (length l - from) t in
-    let long = length-drop from l in
-    take-all n (drop from l) (omega (arith, long, short)) ∙ sym (take-all m (drop from l) (omega (arith, long, short, e))))
-    (true-or-false (leb n (length l - from)))
-
--- a put behind one at the front
-put-next : (d x y : List ℕ) (n : ℕ) → n ≡ length x → n ≤ length d → put (put d 0 x) n y ≡ put d 0 (x ++ y)
-put-next d x y n e h = ap (λ (k : ℕ). put (put d 0 x) k y) e ∙ put-put-front d x y (omega (arith, e))
-
 -- Many bytes, copied in three blocks.
 module _ (d s : List ℕ) (at from n : ℕ) (long : 128 ≤ n) (in-d : at + n ≤ length d) (in-s : from + n ≤ length s) where
   pub copied-long : (e f g : List ℕ) → e ≡ put d at (part s from 64) → f ≡ put e (at + 64) (part s (from + 64) 64) →
@@ -123,8 +101,7 @@ module _ (d bytes : List ℕ) (place : ℕ) (inside : place ≤ length bytes) (r
   -- what is copied of the bytes that wait
   copied : (n : ℕ) → n ≡ min pointedLength size → part (rest bytes place) 0 pointedLength ≡ part bytes place n
   copied n e =
-      let here : place + 0 ≡ place = omega arith in
-      part-rest bytes place 0 pointedLength ∙ ap (λ (p : ℕ). part bytes p pointedLength) here ∙ part-there bytes place pointedLength n e
+      part-rest-front bytes place pointedLength ∙ part-min bytes place pointedLength n e
 
   pub full-written : (last : List ℕ) → pointedLength ≤ size → last ≡ put d (headLength + 1) (part bytes place pointedLength) →
       last ≡ put d (headLength + 1) (behindPointer (rest bytes place))
@@ -167,14 +144,10 @@ module _ (d bytes : List ℕ) (place left count : ℕ) (w : Waiting bytes place 
     pub unpointed-written : (first last : List ℕ) → first ≡ put d 0 (header false framesPid count) →
         last ≡ put first headLength (part bytes place payloadLength) → last ≡ put d 0 (dataPacket count left waiting)
     unpointed-written first last e f =
-        let here : place + 0 ≡ place = omega arith in
-        let stretch : part waiting 0 payloadLength ≡ part bytes place payloadLength =
-        part-rest bytes place 0 payloadLength ∙ ap (λ (p : ℕ). part bytes p payloadLength) here in
+        let stretch : part waiting 0 payloadLength ≡ part bytes place payloadLength = part-rest-front bytes place payloadLength in
         let whole : dataPacket count left waiting ≡ header false framesPid count ++ part bytes place payloadLength =
         rw (le-leb payloadLength left far, stretch) refl in
-        f
-        ∙ ap (λ (l : List ℕ). put l headLength (part bytes place payloadLength)) e
-        ∙ put-next d (header false framesPid count) (part bytes place payloadLength) headLength refl (omega (arith, w .room))
+        put-more d 0 (header false framesPid count) (part bytes place payloadLength) headLength (omega (arith, w .room)) e refl f
         ∙ ap (put d 0) (sym whole)
 
   -- with one
@@ -189,11 +162,7 @@ module _ (d bytes : List ℕ) (place left count : ℕ) (w : Waiting bytes place 
         let p = h ++ (left ∷ []) in
         let long-front : length (put d 0 h) ≡ length d = length-put d 0 h (omega (arith, w .room)) in
         let whole : dataPacket count left waiting ≡ p ++ behindPointer waiting = rw (lt-leb payloadLength left near) refl in
-        let pointed : set first headLength left ≡ put d 0 p =
-        ap (λ (l : List ℕ). set l headLength left) e
-        ∙ set-put (put d 0 h) headLength left (omega (arith, w .room, long-front))
-        ∙ put-next d h (left ∷ []) headLength refl (omega (arith, w .room)) in
-        f
-        ∙ ap (λ (l : List ℕ). put l (headLength + 1) (behindPointer waiting)) pointed
-        ∙ put-next d p (behindPointer waiting) (headLength + 1) refl (omega (arith, w .room))
-        ∙ ap (put d 0) (sym whole)
+        let stored : set first headLength left ≡ put first headLength (left ∷ []) =
+        set-put first headLength left (omega (arith, w .room, long-front, ap length e)) in
+        let pointed : set first headLength left ≡ put d 0 p = put-more d 0 h (left ∷ []) headLength (omega (arith, w .room)) e refl stored in
+        put-more d 0 p (behindPointer waiting) (headLength + 1) (omega (arith, w .room)) pointed refl f ∙ ap (put d 0) (sym whole)

@@ -7,44 +7,31 @@ use mathlib.Core.Logic.{⊎-elim}
 use mathlib.Core.List.{List, [], _∷_, _++_}
 use native.Mathlib.Omega.{arith}
 use native.Mathlib.Nat.{eq-or-lt-of-le, le-of-suc-le-suc, min-eq-left, min-eq-right, min-le-left, min-le-right}
-use lib.Dec.{eqb, ltb, leb}
-use lib.ListN.{length, drop, length-append}
-use lib.Seq.{take-all, take-take, take-append-le, take-append-seam, drop-append-seam, ext-getD}
-use borrow.Author.Tests.{eqb-true, eq-eqb, ne-eqb, leb-true, leb-false, ltb-false}
-use Rattle.refusal.proofs.Laws.{and-left, and-right}
+use lib.Dec.{eqb, ltb}
+use lib.ListN.{length, length-append}
+use borrow.Author.Tests.{eqb-true, eq-eqb, ne-eqb, ltb-false}
 use Rattle.octets.specs.Bytes.{byteAt}
 use Rattle.octets.specs.Each.{Each}
 use Rattle.octets.specs.Count.{upTo}
 use Rattle.octets.specs.Stretch.{part, put, joined}
 use Rattle.octets.proofs.Counts.{true-or-false}
-use Rattle.octets.proofs.Stretches.{length-part, byte-part, part-none, part-part-front, put-nil, put-put-front, length-put, part-short}
-use Rattle.flow.specs.Flow.{longest}
+use Rattle.octets.proofs.Stretches.{length-part, byte-part, part-none, part-past, part-append, part-of-part, part-short, put-nil, put-part-append, length-put}
+use Rattle.octets.proofs.Stretches.{joined-none, length-joined, length-joined-none}
 use Rattle.ts.specs.Packet.{mpegLength, headLength}
 use Rattle.mpeg.specs.declared.reader.Standing.{Standing}
 use Rattle.mpeg.specs.Packet.{framesPid}
-use Rattle.mpeg.specs.Frame.{saidLength, startsWell, good}
 use Rattle.mpeg.specs.Read.{Reading, atStart, unsound, readPacket, readFrom, packetsIn, reading}
 use Rattle.mpeg.specs.Inside.Standing.{standingOf, Within, Follows}
 use Rattle.mpeg.specs.Inside.Stream.{stream, bytesAt, Surveyed, Writable}
-use Rattle.mpeg.proofs.Streams.{GoodFrame, may-begin-none, stays-unsound, refused-is, Adds, adds, Steady, steady-turn}
+use Rattle.mpeg.proofs.Frames.{GoodFrame, good-some, may-begin-none}
+use Rattle.mpeg.proofs.Ways.{stays-unsound}
+use Rattle.mpeg.proofs.Streams.{refused-is, Adds, adds, Steady, steady-turn}
 
--- A good frame is as long as it says, and so has 6 bytes at least.
-pub good-length : (frame : List ℕ) → good frame ≡ true → saidLength frame ≡ length frame
-unfolding good
-good-length frame g =
-    let says = eqb (saidLength frame) (length frame) in
-    eqb-true (saidLength frame) (length frame) (and-left says (startsWell frame) (and-right (leb (length frame) longest) (says && startsWell frame) g))
-
-pub good-short : (frame : List ℕ) → good frame ≡ true → length frame ≤ longest
-unfolding good
-good-short frame g =
-    leb-true (length frame) longest (and-left (leb (length frame) longest) (eqb (saidLength frame) (length frame) && startsWell frame) g)
-
+-- A good frame has 6 bytes at least.
 few-frames : (frames : List (List ℕ)) → Each GoodFrame frames → length frames ≤ length (joined frames)
-unfolding joined
 few-frames [] g = omega arith
 few-frames (f ∷ frames) g =
-    omega (arith, few-frames frames (g .1), good-length f (g .0), length-append f (joined frames))
+    omega (arith, few-frames frames (g .1), good-some f (g .0), length-joined f frames)
 
 -- One packet more.
 pub read-more : (s : Reading) (packets : List (List ℕ)) (packet : List ℕ) → readFrom s (packets ++ (packet ∷ [])) ≡ readPacket (readFrom s packets) packet
@@ -97,8 +84,15 @@ module _ (packets : List ℕ) where
   packet-long k l = length-part packets (mpegLength * k) mpegLength (omega arith)
 
   steady-start : Steady (mpegLength * 0) atStart
-  unfolding stream joined
-  steady-start = record { still-sound = refl; count-known = omega arith; may-begin = may-begin-none; all-good = tt; short = omega arith }
+  unfolding stream
+  steady-start =
+      record {
+        still-sound = refl;
+        count-known = omega arith;
+        may-begin = may-begin-none;
+        all-good = tt;
+        short = omega (arith, length-append (joined []) [], length-joined-none);
+      }
 
   pub steady-at : (k : ℕ) → mpegLength * k ≤ length packets → (readingAt packets k) .sound ≡ true → Steady (mpegLength * k) (readingAt packets k)
   steady-at zero l sound = rw reading-none steady-start
@@ -167,8 +161,7 @@ pub record FitsIn (n : ℕ) (s : Reading) : Type 0 where
   pub few-frames : length (s .frames) ≤ length (joined (s .frames))
 
 none-fits : (n : ℕ) → FitsIn n unsound
-unfolding joined
-none-fits n = record { few-bytes = omega arith; few-frames = omega arith }
+none-fits n = record { few-bytes = omega (arith, length-joined-none); few-frames = omega arith }
 
 pub reading-fits : (packets : List ℕ) → FitsIn (length packets) (reading packets)
 reading-fits packets =
@@ -238,89 +231,7 @@ module _ {packets : List ℕ} {standing : Standing} {at : ℕ} (p : Passing pack
       p .stands ∙ ap standingOf (lost ∙ sym last ∙ reading-all packets n (omega arith)))
       (true-or-false (standing .sound))
 
--- Stretches from the front of lists that stand one behind the other.
-part-long : (l : List ℕ) (n : ℕ) → length l ≤ n → part l 0 n ≡ l
-unfolding part
-part-long l n h = take-all n l h
-
-part-append-short : (a b : List ℕ) (n : ℕ) → n ≤ length a → part (a ++ b) 0 n ≡ part a 0 n
-unfolding part
-part-append-short a b n h = take-append-le n a b h
-
-part-append-first : (a b : List ℕ) → part (a ++ b) 0 (length a) ≡ a
-unfolding part
-part-append-first a b = take-append-seam a b
-
-part-append-behind : (a b : List ℕ) (n : ℕ) → part (a ++ b) (length a) n ≡ part b 0 n
-unfolding part
-part-append-behind a b n = rw (drop-append-seam a b) refl
-
-part-append-long : (a b : List ℕ) (n : ℕ) → length a ≤ n → part (a ++ b) 0 n ≡ a ++ part b 0 (n - length a)
-part-append-long a b n h =
-    let split : n ≡ length a + (n - length a) = omega arith in
-    ap (part (a ++ b) 0) split ∙ sym (part-part-front (a ++ b) (length a) (n - length a))
-    ∙ rw (part-append-first a b, part-append-behind a b (n - length a)) refl
-
-part-of-part : (l : List ℕ) (from n m : ℕ) → m ≤ n → part (part l from n) 0 m ≡ part l from m
-unfolding part
-part-of-part l from n m h = take-take m n (drop from l) h
-
--- The first `total` elements of x stand at the front of d, in e. With the next ones of what follows x, those of y, in f the first `total` of both do.
-module _ (d e f x packet : List ℕ) (b size total : ℕ) (stood : e ≡ put d 0 (part x 0 total)) (room : total ≤ length d) (inside : b + size ≤ length packet)
-    (next : f ≡ put e (length x) (part packet b (min (length x + size) total - length x))) where
-  abbrev y : List ℕ
-  y = part packet b size
-
-  y-long : length y ≡ size
-  y-long = length-part packet b size inside
-
-  -- more than `total` stand there already
-  poured-full : total < length x → f ≡ put d 0 (part (x ++ y) 0 total)
-  poured-full l =
-      let none : min (length x + size) total - length x ≡ 0 = omega (arith, min-le-right (length x + size) total) in
-      next ∙ ap (λ (n : ℕ). put e (length x) (part packet b n)) none ∙ ap (put e (length x)) (part-none packet b) ∙ put-nil e (length x) ∙ stood
-      ∙ ap (put d 0) (sym (part-append-short x y total (omega arith)))
-
-  -- n of them, which are those of y that are asked for
-  poured-more : length x ≤ total → (n : ℕ) → min (length x + size) total ≡ length x + n → part packet b n ≡ part y 0 (total - length x) →
-      f ≡ put d 0 (part (x ++ y) 0 total)
-  poured-more l n least same =
-      let count : min (length x + size) total - length x ≡ n = omega arith in
-      next ∙ ap (λ (m : ℕ). put e (length x) (part packet b m)) count ∙ ap (put e (length x)) same
-      ∙ ap (λ (s : List ℕ). put s (length x) (part y 0 (total - length x))) (stood ∙ ap (put d 0) (part-long x total l))
-      ∙ put-put-front d x (part y 0 (total - length x)) (omega arith)
-      ∙ ap (put d 0) (sym (part-append-long x y total l))
-
-  pub poured : f ≡ put d 0 (part (x ++ y) 0 total)
-  poured =
-      ⊎-elim
-      (λ (t : leb (length x) total ≡ true).
-      let l = leb-true (length x) total t in
-      ⊎-elim
-      (λ (u : leb (length x + size) total ≡ true).
-      let m = leb-true (length x + size) total u in
-      poured-more l size (min-eq-left m) (sym (part-long y (total - length x) (omega (arith, y-long)))))
-      (λ (u : leb (length x + size) total ≡ false).
-      let m = leb-false (length x + size) total u in
-      let few : total ≤ length x + size = omega arith in
-      let split : min (length x + size) total ≡ length x + (total - length x) = omega (arith, min-eq-right few) in
-      poured-more l (total - length x) split (sym (part-of-part packet b size (total - length x) (omega arith))))
-      (true-or-false (leb (length x + size) total)))
-      (λ (t : leb (length x) total ≡ false). poured-full (leb-false (length x) total t))
-      (true-or-false (leb (length x) total))
-
 -- What one packet's bytes are in the slice of all packets.
-pub part-in-part : (l : List ℕ) (at n from m : ℕ) → at + n ≤ length l → from + m ≤ n → part (part l at n) from m ≡ part l (at + from) m
-part-in-part l at n from m in-l in-part =
-    let long : length (part l at n) ≡ n = length-part l at n in-l in
-    ext-getD 0 (part (part l at n) from m) (part l (at + from) m)
-    (length-part (part l at n) from m (omega arith) ∙ sym (length-part l (at + from) m (omega arith)))
-    (λ i b.
-    let below : i < m = omega (arith, part-short (part l at n) from m) in
-    let inner : from + i < n = omega arith in
-    byte-part (part l at n) from m i below ∙ byte-part l at n (from + i) inner
-    ∙ ap (byteAt l) (let e : at + (from + i) ≡ at + from + i = omega arith in e) ∙ sym (byte-part l (at + from) m i below))
-
 pub end-total : (end behind total : ℕ) → end ≡ total → total ≤ behind → end ≡ min behind total
 end-total end behind total e l = e ∙ sym (min-eq-right l)
 
@@ -362,7 +273,7 @@ module _ (packets : List ℕ) (at : ℕ) where
       pub copied : (output′ : List ℕ) → output′ ≡ put output before (part packets (at + from) (end - before)) →
           output′ ≡ put output before (part packetFrom (bytesAt packetFrom) (min behind total - before))
       copied output′ e =
-          e ∙ ap (put output before) (sym (part-in-part packets at mpegLength from (end - before) (w .packet-inside) from-inside)
+          e ∙ ap (put output before) (sym (part-of-part packets at mpegLength from (end - before) (w .packet-inside) from-inside)
           ∙ ap (λ (n : ℕ). part packetFrom n (end - before)) f ∙ ap (λ (n : ℕ). part packetFrom (bytesAt packetFrom) (n - before)) least)
 
     pub not-copied : end ≤ before → output ≡ put output before (part packetFrom (bytesAt packetFrom) (min behind total - before))
@@ -382,13 +293,14 @@ pub record Pouring (packets output : List ℕ) (total : ℕ) (standing : Standin
   pub stands : output′ ≡ put output 0 (part (stream (readingAt packets (passing .k))) 0 total)
 
 pub pour-begin : (packets output : List ℕ) (total : ℕ) (standing : Standing) → standing ≡ standingOf atStart → Pouring packets output total standing 0 output
-unfolding stream joined pass-begin
+unfolding stream pass-begin
 pour-begin packets output total standing e =
     record {
       passing = pass-begin packets standing e;
       stands =
           sym (ap (λ (s : Reading). put output 0 (part (stream s) 0 total)) (reading-none packets)
-          ∙ ap (put output 0) (part-long [] total (omega arith)) ∙ put-nil output 0);
+          ∙ ap (λ (l : List ℕ). put output 0 (part (l ++ []) 0 total)) joined-none
+          ∙ ap (put output 0) (part-past [] total (omega arith)) ∙ put-nil output 0);
     }
 
 module _ {packets output : List ℕ} {total : ℕ} {standing : Standing} {at : ℕ} {output′ : List ℕ} (w : Pouring packets output total standing at output′)
@@ -484,7 +396,7 @@ module _ {packets output : List ℕ} {total : ℕ} {standing : Standing} {at : �
           record {
             passing = pour-passing;
             stands =
-                poured output output′ output″ (stream here) packet (bytesAt packet) (a .size) total (w .stands) (surveyed .room)
+                put-part-append output output′ output″ (stream here) packet (bytesAt packet) (a .size) total (w .stands) (surveyed .room)
                 (omega (arith, a .inside, length-part packets at mpegLength pour-inside)) written
                 ∙ ap (λ (l : List ℕ). put output 0 (part l 0 total)) after;
           }
@@ -495,4 +407,4 @@ module _ {packets output : List ℕ} {total : ℕ} {standing : Standing} {at : �
       let r = reading packets in
       w .stands ∙ ap (λ (s : Reading). put output 0 (part (stream s) 0 total)) (pass-through (w .passing) done)
       ∙ ap (λ (n : ℕ). put output 0 (part (stream r) 0 n)) (surveyed .all-bytes)
-      ∙ ap (put output 0) (part-append-first (joined (r .frames)) (r .begun))
+      ∙ ap (put output 0) (part-append (joined (r .frames)) (r .begun))

@@ -1,34 +1,35 @@
 -- What a run of the writer gives, the reader takes, and gives back the frames that have been sent whole (W3): `runs-are-read`. And with calls enough
 -- all frames come back: `all-come-back`. After each packet the reader stands where the run stands: `Keeps`.
 use mathlib.Core.Path.{_≡_, refl, sym, ap, _∙_}
-use Prim.Native.Nat.{ℕ, zero, suc, _+_, _-_, _*_, _/_, _%_, _≤_, _<_, min}
+use Prim.Native.Nat.{ℕ, zero, suc, _+_, _-_, _/_, _%_, _≤_, _<_, min}
 use native.Mathlib.Omega.{arith}
 use native.Mathlib.Nat.{not-suc-le-zero}
 use mathlib.Core.Bool.{true, false, not}
 use mathlib.Core.Logic.{inl, inr, ⊎-elim}
 use mathlib.Core.List.{List, [], _∷_, _++_, append-assoc, append-nil}
 use lib.Dec.{leb, ltb, eqb}
-use lib.ListN.{length, take, drop, replicate, length-append, length-take, length-drop, length-replicate, take-append-drop}
-use lib.Seq.{getD-take, take-all, take-append-seam, drop-append-add}
+use lib.ListN.{length, replicate, length-append, length-replicate}
 use borrow.Author.Tests.{le-leb, leb-true, leb-false, ltb-true, ltb-false, eqb-true, eqb-false, eq-eqb}
 use Rattle.octets.specs.Bytes.{byteAt}
 use Rattle.octets.specs.Each.{Each}
-use Rattle.octets.specs.Count.{upTo}
 use Rattle.octets.specs.Stretch.{part, rest, joined}
-use Rattle.octets.specs.Tests.{none}
 use Rattle.octets.proofs.Counts.{true-or-false}
-use Rattle.octets.proofs.Elements.{each-both, each-front, each-back}
-use Rattle.octets.proofs.Stretches.{length-rest}
+use Rattle.octets.proofs.Elements.{each-both, each-front, each-back, each-too, length-none}
+use Rattle.octets.proofs.Stretches.{length-part, length-part-min, length-rest, byte-part, part-past, part-and-rest, joined-cons}
+use Rattle.octets.proofs.Stretches.{length-joined, length-joined-none, length-joined-each, pieces-joined}
+use Rattle.octets.proofs.Bytes.{byte-append}
+use Rattle.octets.proofs.Tests.{none-some}
 use Rattle.ts.specs.Packet.{mpegLength, payloadLength, counts, nextCount, header, fillByte, allFill, nullPacket}
 use Rattle.mpeg.specs.Packet.{pointedLength, framesPid}
-use Rattle.mpeg.specs.Frame.{Good}
+use Rattle.mpeg.specs.Frame.{startsWell, Good}
 use Rattle.mpeg.specs.Write.{packetOf, carried, countAfter}
 use Rattle.mpeg.specs.Read.{Reading, atStart, anyCount, readPacket, readFrom, packetsIn, reading}
 use Rattle.mpeg.specs.Run.{Backlog, noBacklog, Burst, added, waitingIn, leftIn, packetNext, afterNext, runPackets, runEnd, GoodBursts, allFrames}
 use Rattle.mpeg.specs.Run.{sentWhole, RunsAreRead, drained, AllComeBack}
 use Rattle.mpeg.proofs.Backlogs.{Mid, between, within, mid-front, one, one-some, At, at-next, at-added, at-none, at-on, at-whole, at-ends}
-use Rattle.mpeg.proofs.Backlogs.{at-sent, count-next, count-some, packet-on, packet-ends, carried-some}
-use Rattle.mpeg.proofs.Found.{good-says, says-some, each-some, front-begins, front-not-good, front-byte, starts-not-fill, Says, room, split}
+use Rattle.mpeg.proofs.Backlogs.{NotEmpty, at-sent, count-next, count-some, packet-on, packet-ends, carried-some}
+use Rattle.mpeg.proofs.Frames.{Says, good-says, good-some, starts-append, starts-not-fill, front-begins, front-not-good}
+use Rattle.mpeg.proofs.Split.{room, split}
 use Rattle.mpeg.proofs.PacketsRead.{standing, Expects, read-null, read-on, read-whole, read-ends}
 
 -- The reader stands where the run stands: the frames done are those found, and what has been sent of one that has begun has come.
@@ -58,14 +59,11 @@ keeps-added burst k g =
       is = k .is;
     }
 
--- One packet. Nothing waits: the null packet.
-pub nil-of : (l : List ℕ) → length l ≡ 0 → l ≡ []
-nil-of [] h = refl
-nil-of (x ∷ l) h = absurd (never h)
-  where
-    never : suc (length l) ≡ 0 → ⊥
-    never e = omega arith
+-- no frame that may be written is empty
+each-some : (frames : List (List ℕ)) → Each Good frames → Each NotEmpty frames
+each-some frames g = each-too Good NotEmpty frames (λ f p. omega (arith, good-some f (p .0))) g
 
+-- One packet. Nothing waits: the null packet.
 none-begun : {b t : List ℕ} → Mid b t → (w : List ℕ) → length (t ++ w) ≡ 0 → b ≡ []
 none-begun between w h = refl
 none-begun (within x b y t) w h = absurd (never h)
@@ -73,36 +71,19 @@ none-begun (within x b y t) w h = absurd (never h)
     never : suc (length (t ++ w)) ≡ 0 → ⊥
     never e = omega arith
 
-some-begun : (b : List ℕ) → 0 < length b → none b ≡ false
-unfolding none
-some-begun [] h = absurd (not-suc-le-zero h)
-some-begun (x ∷ b) h = refl
-
 -- what waits does not start with what a packet is filled up with
 room-starts : (m : ℕ) (waiting : List (List ℕ)) → Each Good waiting → 0 < m → 0 < length (joined waiting) → allFill (room m waiting) ≡ false
-unfolding part joined
-room-starts m [] g k some = absurd (not-suc-le-zero some)
+room-starts m [] g k some = absurd (not-suc-le-zero (rw length-joined-none at some))
 room-starts m (f ∷ waiting) (g, gs) k some =
-    let says = good-says f (g .0) in
-    let six : 6 ≤ length f = says-some f says in
-    let w = f ++ joined waiting in
-    let front = take m w in
-    let long : 0 < length front = omega (arith, length-take m w, length-append f (joined waiting)) in
+    let w = joined (f ∷ waiting) in
+    let front = part w 0 m in
+    let long : 0 < length front = omega (arith, length-part-min w m) in
     let fill = replicate (m - length front) fillByte in
-    let first : byteAt (front ++ fill) 0 ≡ byteAt f 0 =
-    front-byte front fill 0 long ∙ getD-take m w 0 0 k ∙ front-byte f (joined waiting) 0 (omega arith) in
-    starts-not-fill (front ++ fill) (omega (arith, length-append front fill)) (ap (λ (x : ℕ). not (eqb x fillByte)) first ∙ says .starts-well)
-
-more-of : (n m : ℕ) → m ≤ n → (n ≡ m → ⊥) → m < n
-more-of n m h differ =
-    ⊎-elim
-    (λ (e : ltb m n ≡ true). ltb-true m n e)
-    (λ (e : ltb m n ≡ false). let k : n ≤ m = ltb-false m n e in absurd (differ (let g : n ≡ m = omega arith in g)))
-    (true-or-false (ltb m n))
-
-some-of : (n : ℕ) → (n ≡ 0 → ⊥) → 0 < n
-some-of zero differ = absurd (differ refl)
-some-of (suc n) differ = omega arith
+    let first : byteAt w 0 ≡ byteAt f 0 =
+    ap (λ (l : List ℕ). byteAt l 0) (joined-cons f waiting) ∙ byte-append f (joined waiting) 0 (omega (arith, good-some f (g .0))) in
+    let same-first : byteAt front 0 ≡ byteAt f 0 = byte-part w 0 m 0 k ∙ first in
+    let starts : startsWell front ≡ true = ap (λ (x : ℕ). not (eqb x fillByte)) same-first ∙ good-says f (g .0) .starts in
+    starts-not-fill (front ++ fill) (omega (arith, length-append front fill)) (starts-append front fill long ∙ starts)
 
 module _ (q : Backlog) (expected : ℕ) (done : List (List ℕ)) (b t : List ℕ) (waiting : List (List ℕ)) (at : At q done b t waiting)
     (goods : Each Good (one b t ++ waiting)) (expects : Expects expected (q .count)) where
@@ -124,7 +105,7 @@ module _ (q : Backlog) (expected : ℕ) (done : List (List ℕ)) (b t : List ℕ
   keeps-none : length w ≡ 0 → Keeps (afterNext q) next
   unfolding packetOf countAfter
   keeps-none h =
-      let no-w : w ≡ [] = nil-of w h in
+      let no-w : w ≡ [] = length-none w h in
       let no-b : b ≡ [] = none-begun (at .mid) (joined waiting) h in
       let same-count : (afterNext q) .count ≡ q .count = count-next at ∙ ap (countAfter (q .count)) no-w in
       record {
@@ -150,16 +131,16 @@ module _ (q : Backlog) (expected : ℕ) (done : List (List ℕ)) (b t : List ℕ
   some-on h = omega (arith, length-append t (joined waiting))
 
   keeps-on : payloadLength < length t → Keeps (afterNext q) next
-  unfolding part rest
   keeps-on h =
-      let front = b ++ take payloadLength t in
-      let back = drop payloadLength t in
+      let sent = part t 0 payloadLength in
+      let front = b ++ sent in
+      let back = rest t payloadLength in
       let some-t : 0 < length t = omega arith in
       let some-b : 0 < length b = mid-front (at .mid) some-t in
-      let some-front : 0 < length front = omega (arith, length-append b (take payloadLength t)) in
-      let some-back : 0 < length back = omega (arith, length-drop payloadLength t) in
+      let some-front : 0 < length front = omega (arith, length-append b sent) in
+      let some-back : 0 < length back = omega (arith, length-rest t payloadLength) in
       let whole : front ++ back ≡ b ++ t =
-      append-assoc b (take payloadLength t) back ∙ ap (λ (l : List ℕ). b ++ l) (take-append-drop payloadLength t) in
+      append-assoc b sent back ∙ ap (λ (l : List ℕ). b ++ l) (part-and-rest t payloadLength) in
       let says : Says (front ++ back) = rw whole (good-says (b ++ t) ((this-good some-t) .0)) in
       let is-one : one front back ≡ one b t = one-some front back some-back ∙ ap (λ (l : List ℕ). l ∷ []) whole ∙ sym (one-some b t some-t) in
       record {
@@ -172,18 +153,17 @@ module _ (q : Backlog) (expected : ℕ) (done : List (List ℕ)) (b t : List ℕ
         goods = rw is-one goods;
         expects = next-expects (some-on (omega arith));
         is = next-is
-            (header false framesPid (q .count) ++ take payloadLength t)
+            (header false framesPid (q .count) ++ sent)
             (packet-on t (joined waiting) (omega arith) (q .count))
-            (read-on expected (q .count) b (take payloadLength t) done expects (some-begun b some-b)
+            (read-on expected (q .count) b sent done expects (none-some b some-b)
             (front-not-good front back some-front some-back says) (front-begins front back some-front some-back says));
       }
 
   keeps-whole : length t ≡ payloadLength → Keeps (afterNext q) next
-  unfolding part
   keeps-whole h =
       let some-t : 0 < length t = omega arith in
       let some-b : 0 < length b = mid-front (at .mid) some-t in
-      let all : take payloadLength t ≡ t = take-all payloadLength t (omega arith) in
+      let all : part t 0 payloadLength ≡ t = part-past t payloadLength (omega arith) in
       record {
         expected = nextCount (q .count);
         done = done ++ one b t;
@@ -196,7 +176,7 @@ module _ (q : Backlog) (expected : ℕ) (done : List (List ℕ)) (b t : List ℕ
         is = next-is
             (header false framesPid (q .count) ++ t)
             (packet-on t (joined waiting) (omega arith) (q .count) ∙ ap (λ (l : List ℕ). header false framesPid (q .count) ++ l) all)
-            (read-whole expected (q .count) b t done expects (some-begun b some-b) ((this-good some-t) .0)
+            (read-whole expected (q .count) b t done expects (none-some b some-b) ((this-good some-t) .0)
             ∙ ap (λ (l : List (List ℕ)). standing (nextCount (q .count)) [] (done ++ l)) (sym (one-some b t some-t)));
       }
 
@@ -226,26 +206,24 @@ module _ (q : Backlog) (expected : ℕ) (done : List (List ℕ)) (b t : List ℕ
   -- every packet has 188 bytes
   sized-none : length w ≡ 0 → length (packetNext q) ≡ mpegLength
   unfolding packetOf nullPacket
-  sized-none h = ap length (at-next at ∙ ap (packetOf (q .count) (length t)) (nil-of w h))
+  sized-none h = ap length (at-next at ∙ ap (packetOf (q .count) (length t)) (length-none w h))
 
   sized-on : payloadLength ≤ length t → length (packetNext q) ≡ mpegLength
-  unfolding part
   sized-on h =
       ap length (at-next at ∙ packet-on t (joined waiting) h (q .count))
-      ∙ omega (arith, length-append (header false framesPid (q .count)) (take payloadLength t), length-take payloadLength t)
+      ∙ omega (arith, length-append (header false framesPid (q .count)) (part t 0 payloadLength), length-part t 0 payloadLength h)
 
   sized-ends : length t < payloadLength → 0 < length w → length (packetNext q) ≡ mpegLength
-  unfolding part
   sized-ends h some =
       let m = pointedLength - length t in
-      let front = take m (joined waiting) in
+      let front = part (joined waiting) 0 m in
       let fill = replicate (m - length front) fillByte in
       let body = length t ∷ (t ++ (front ++ fill)) in
       let long-fill : length fill ≡ m - length front = length-replicate (m - length front) fillByte in
       let long : length (t ++ (front ++ fill)) ≡ length t + (length front + length fill) =
       omega (arith, length-append t (front ++ fill), length-append front fill) in
       ap length (at-next at ∙ packet-ends t (joined waiting) h some (q .count))
-      ∙ omega (arith, length-append (header true framesPid (q .count)) body, length-take m (joined waiting))
+      ∙ omega (arith, length-append (header true framesPid (q .count)) body, length-part-min (joined waiting) m)
 
   -- whichever packet it is
   next-keeps : Keeps (afterNext q) next × (length (packetNext q) ≡ mpegLength)
@@ -253,13 +231,13 @@ module _ (q : Backlog) (expected : ℕ) (done : List (List ℕ)) (b t : List ℕ
       ⊎-elim
       (λ (e : eqb (length w) 0 ≡ true). let h = eqb-true (length w) 0 e in (keeps-none h, sized-none h))
       (λ (e : eqb (length w) 0 ≡ false).
-      let some : 0 < length w = some-of (length w) (eqb-false (length w) 0 e) in
+      let some : 0 < length w = omega (arith, eqb-false (length w) 0 e) in
       ⊎-elim
       (λ (e1 : leb payloadLength (length t) ≡ true).
       let h = leb-true payloadLength (length t) e1 in
       ⊎-elim
       (λ (e2 : eqb (length t) payloadLength ≡ true). (keeps-whole (eqb-true (length t) payloadLength e2), sized-on h))
-      (λ (e2 : eqb (length t) payloadLength ≡ false). (keeps-on (more-of (length t) payloadLength h (eqb-false (length t) payloadLength e2)), sized-on h))
+      (λ (e2 : eqb (length t) payloadLength ≡ false). (keeps-on (omega (arith, h, eqb-false (length t) payloadLength e2)), sized-on h))
       (true-or-false (eqb (length t) payloadLength)))
       (λ (e1 : leb payloadLength (length t) ≡ false).
       let h = leb-false payloadLength (length t) e1 in (keeps-ends h some, sized-ends h some))
@@ -288,47 +266,20 @@ frames-at-end [] q = sym (append-nil (q .frames))
 frames-at-end (burst ∷ bursts) q = frames-at-end bursts (afterNext (added q burst)) ∙ append-assoc (q .frames) burst (allFrames bursts)
 
 -- The packets back to back are taken apart again.
-up-to-first : {A : Type 0} (f : ℕ → A) (n : ℕ) → upTo f (suc n) ≡ f 0 ∷ upTo (λ k. f (suc k)) n
-unfolding upTo
-up-to-first f zero = refl
-up-to-first f (suc n) = ap (λ l. l ++ (f (suc n) ∷ [])) (up-to-first f n)
-
-up-to-same : {A : Type 0} (f g : ℕ → A) (n : ℕ) → ((k : ℕ) → f k ≡ g k) → upTo f n ≡ upTo g n
-unfolding upTo
-up-to-same f g zero h = refl
-up-to-same f g (suc n) h = rw (up-to-same f g n h, h n) refl
-
 packets-back : (ps : List (List ℕ)) → Each Sized ps → packetsIn (joined ps) (length ps) ≡ ps
-unfolding packetsIn upTo joined part
-packets-back [] h = refl
-packets-back (p ∷ ps) (h, hs) =
-    let all : ℕ → List ℕ = λ k. take mpegLength (drop (mpegLength * k) (p ++ joined ps)) in
-    let behind : ℕ → List ℕ = λ k. take mpegLength (drop (mpegLength * k) (joined ps)) in
-    let first : all 0 ≡ p = ap (λ (n : ℕ). take n (p ++ joined ps)) (sym h) ∙ take-append-seam p (joined ps) in
-    let further : (k : ℕ) → all (suc k) ≡ behind k =
-    λ k.
-    let e : mpegLength * suc k ≡ length p + mpegLength * k = omega arith in
-    ap (λ (n : ℕ). take mpegLength (drop n (p ++ joined ps))) e ∙ ap (take mpegLength) (drop-append-add p (joined ps) (mpegLength * k)) in
-    up-to-first all (length ps)
-    ∙ ap (λ (x : List ℕ). x ∷ upTo (λ k. all (suc k)) (length ps)) first
-    ∙ ap (λ (l : List (List ℕ)). p ∷ l) (up-to-same (λ k. all (suc k)) behind (length ps) further ∙ packets-back ps hs)
-
-packets-length : (ps : List (List ℕ)) → Each Sized ps → length (joined ps) ≡ mpegLength * length ps
-unfolding joined
-packets-length [] h = refl
-packets-length (p ∷ ps) (h, hs) = omega (arith, length-append p (joined ps), packets-length ps hs)
+unfolding packetsIn
+packets-back ps h = pieces-joined mpegLength ps h
 
 reading-packets : (ps : List (List ℕ)) → Each Sized ps → reading (joined ps) ≡ readFrom atStart ps
 unfolding reading
 reading-packets ps h =
-    let long = packets-length ps h in
+    let long = length-joined-each mpegLength ps h in
     let whole : length (joined ps) % mpegLength ≡ 0 = omega arith in
     let many : length (joined ps) / mpegLength ≡ length ps = omega arith in
     rw (eq-eqb (length (joined ps) % mpegLength) 0 whole, many, packets-back ps h) refl
 
 -- What a run gives is read.
 keeps-start : (count : ℕ) → Keeps (noBacklog count) atStart
-unfolding joined
 keeps-start count =
     record {
       expected = anyCount;
@@ -336,7 +287,7 @@ keeps-start count =
       b = [];
       t = [];
       waiting = [];
-      at = record { mid = between; frames-are = refl; place-is = refl };
+      at = record { mid = between; frames-are = refl; place-is = omega (arith, length-joined-none) };
       goods = tt;
       expects = inl refl;
       is = refl;
@@ -423,11 +374,11 @@ drained-good (burst ∷ bursts) n (g, gs) = (g, drained-good bursts n gs)
 
 -- with every byte sent, all frames have been sent whole
 sent-all : (frames : List (List ℕ)) (place : ℕ) → length (joined frames) ≤ place → sentWhole frames place ≡ frames
-unfolding sentWhole joined
+unfolding sentWhole
 sent-all [] place h = refl
 sent-all (f ∷ frames) place h =
-    let k : length f ≤ place = omega (arith, length-append f (joined frames)) in
-    let more : length (joined frames) ≤ place - length f = omega (arith, length-append f (joined frames)) in
+    let k : length f ≤ place = omega (arith, length-joined f frames) in
+    let more : length (joined frames) ≤ place - length f = omega (arith, length-joined f frames) in
     rw (le-leb (length f) place k) (ap (λ (fs : List (List ℕ)). f ∷ fs) (sent-all frames (place - length f) more))
 
 pub all-come-back : AllComeBack

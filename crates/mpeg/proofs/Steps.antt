@@ -3,19 +3,19 @@
 -- in where no frame has begun (`nulls-between`).
 use Prim.Native.Nat.{ℕ, _+_, _≤_}
 use mathlib.Core.Path.{_≡_, refl, sym, ap, _∙_}
-use mathlib.Core.Bool.{Bool, true, false, not, _||_}
+use mathlib.Core.Bool.{true, false, not, _||_}
 use mathlib.Core.List.{List, [], _∷_, _++_}
 use native.Mathlib.Omega.{arith}
 use lib.Dec.{eqb, ltb, leb}
 use lib.ListN.{length, length-append}
-use lib.Seq.{take-append-seam, drop-append-seam}
-use borrow.Author.Tests.{le-ltb, le-leb, ltb-false, eqb-true}
+use borrow.Author.Tests.{le-ltb, le-leb, ltb-false, eqb-true, not-false}
 use Rattle.refusal.specs.Refusal.{first}
 use Rattle.octets.specs.Stretch.{part, rest, joined, lengthsOf, cutBy}
 use Rattle.octets.specs.Each.{Each}
 use Rattle.octets.proofs.Counts.{or-false-left, or-false-right}
-use Rattle.octets.proofs.Elements.{each-too}
-use Rattle.octets.proofs.Stretches.{length-part}
+use Rattle.octets.proofs.Elements.{each-too, length-none}
+use Rattle.octets.proofs.Stretches.{length-part, part-all, part-and-rest, part-append, rest-append}
+use Rattle.octets.proofs.Stretches.{joined-none, joined-cons, lengthsOf-none, lengthsOf-cons, cut-none, cut-cons}
 use Rattle.ts.specs.Packet.{mpegLength, nullPacket}
 use Rattle.mpeg.specs.Frame.{good, Good}
 use Rattle.mpeg.specs.Write.{badFrames, writeRefusals, carried, WriteOutcome, wrote, writtenBy, written}
@@ -23,43 +23,39 @@ use Rattle.mpeg.specs.HandOut.{source, handedLength, HandsOutPackets}
 use Rattle.mpeg.specs.Read.{Reading, readPacket, readFrom}
 use Rattle.mpeg.specs.Run.{Backlog, packetNext, afterNext, waitingIn, leftIn, askedFor, IsStep, CallsMakeRuns, JudgedByFrames, behindSent, SentMayGo, NullsBetween}
 use Rattle.mpeg.proofs.Backlogs.{rest-done, left-done}
-use Rattle.mpeg.proofs.RunsRead.{nil-of}
 use Rattle.mpeg.proofs.PacketsRead.{read-null}
-use Rattle.mpeg.proofs.Taken.{front-and-rest}
 use Rattle.mpeg.proofs.Packets.{from-queue, from-null}
 
 -- Frames, and then 52's condition over their lengths and their bytes back to back.
-front-is : (f behind : List ℕ) → part (f ++ behind) 0 (length f) ≡ f
-unfolding part
-front-is f behind = take-append-seam f behind
-
-behind-is : (f behind : List ℕ) → rest (f ++ behind) (length f) ≡ behind
-unfolding rest
-behind-is f behind = drop-append-seam f behind
-
 pub frames-pass : (frames : List (List ℕ)) → Each (λ f. good f ≡ true) frames → badFrames (lengthsOf frames) (joined frames) ≡ false
-unfolding badFrames lengthsOf joined
-frames-pass [] g = refl
+unfolding badFrames
+frames-pass [] g = rw (lengthsOf-none, joined-none) refl
 frames-pass (f ∷ more) g =
-    let long : ltb (length (f ++ joined more)) (length f) ≡ false = le-ltb (length (f ++ joined more)) (length f) (omega (arith, length-append f (joined more))) in
-    rw (long, front-is f (joined more), behind-is f (joined more), g .0) (frames-pass more (g .1))
-
-not-not : (b : Bool) → not b ≡ false → b ≡ true
-not-not true h = refl
-not-not false h = sym h
+    let all = f ++ joined more in
+    let long : ltb (length all) (length f) ≡ false = le-ltb (length all) (length f) (omega (arith, length-append f (joined more))) in
+    rw (lengthsOf-cons f more, joined-cons f more, long, part-append f (joined more), rest-append f (joined more), g .0) (frames-pass more (g .1))
 
 pub passed-are-frames : (lengths bytes : List ℕ) → badFrames lengths bytes ≡ false →
     (lengthsOf (cutBy lengths bytes) ≡ lengths) × (joined (cutBy lengths bytes) ≡ bytes) × Each (λ f. good f ≡ true) (cutBy lengths bytes)
-unfolding badFrames part rest lengthsOf joined cutBy
-passed-are-frames [] bytes h = (refl, sym (nil-of bytes (eqb-true (length bytes) 0 (not-not (eqb (length bytes) 0) h))), tt)
+unfolding badFrames
+passed-are-frames [] bytes h =
+    let empty = length-none bytes (eqb-true (length bytes) 0 (not-false (eqb (length bytes) 0) h)) in
+    rw (cut-none bytes) (lengthsOf-none, joined-none ∙ sym empty, tt)
 passed-are-frames (n ∷ more) bytes h =
-    let few : n ≤ length bytes = ltb-false (length bytes) n (or-false-left (ltb (length bytes) n) (not (good (part bytes 0 n)) || badFrames more (rest bytes n)) h) in
-    let enough : 0 + n ≤ length bytes = omega (arith, few) in
-    let others : (not (good (part bytes 0 n)) || badFrames more (rest bytes n)) ≡ false =
-    or-false-right (ltb (length bytes) n) (not (good (part bytes 0 n)) || badFrames more (rest bytes n)) h in
-    let this = not-not (good (part bytes 0 n)) (or-false-left (not (good (part bytes 0 n))) (badFrames more (rest bytes n)) others) in
-    let behind = passed-are-frames more (rest bytes n) (or-false-right (not (good (part bytes 0 n))) (badFrames more (rest bytes n)) others) in
-    (rw (length-part bytes 0 n enough, behind .0) refl, ap (λ (l : List ℕ). part bytes 0 n ++ l) (behind .1) ∙ front-and-rest bytes n, (this, behind .2))
+    let frame = part bytes 0 n in
+    let fewer = ltb (length bytes) n in
+    let bad-more = badFrames more (rest bytes n) in
+    let few : n ≤ length bytes = ltb-false (length bytes) n (or-false-left fewer (not (good frame) || bad-more) h) in
+    let long : length frame ≡ n = length-part bytes 0 n (omega (arith, few)) in
+    let others : (not (good frame) || bad-more) ≡ false = or-false-right fewer (not (good frame) || bad-more) h in
+    let this = not-false (good frame) (or-false-left (not (good frame)) bad-more others) in
+    let behind = passed-are-frames more (rest bytes n) (or-false-right (not (good frame)) bad-more others) in
+    let cuts = cutBy more (rest bytes n) in
+    rw (cut-cons n more bytes) (
+      lengthsOf-cons frame cuts ∙ rw (long, behind .0) refl,
+      joined-cons frame cuts ∙ ap (λ (l : List ℕ). frame ++ l) (behind .1) ∙ part-and-rest bytes n,
+      (this, behind .2),
+    )
 
 pub judged-by-frames : JudgedByFrames
 judged-by-frames = record { frames-pass = frames-pass; passed-are-frames = passed-are-frames }
@@ -108,7 +104,7 @@ nulls-between s (p ∷ before) behind sound none-begun = nulls-between (readPack
 
 -- What is handed out.
 pub hands-out-packets : HandsOutPackets
-unfolding handedLength nullPacket part
+unfolding handedLength nullPacket
 hands-out-packets queue null answer is-null p =
     record {
       of-the-queue = λ some.
@@ -117,5 +113,5 @@ hands-out-packets queue null answer is-null p =
           p .its-bytes ∙ rw (from, whole) refl;
       the-null-packet = λ few.
           let from : source queue null ≡ null = from-null queue null few in
-          p .its-bytes ∙ rw (from, is-null) refl;
+          p .its-bytes ∙ rw (from, is-null) (part-all nullPacket);
     }

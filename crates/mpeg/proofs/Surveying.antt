@@ -1,26 +1,24 @@
 -- What the survey of the frames finds, over plain variables: the first frame is sound or it is not (`bad_frame`), and `Surveying`, the invariant of
 -- the loop that goes through all, with a begin, a turn and its ends. It speaks of the frames that are still to come: none before them was bad.
-use Prim.Native.Nat.{ℕ, suc, _+_, _-_, _≤_, _<_}
+use Prim.Native.Nat.{ℕ, _+_, _-_, _≤_, _<_}
 use mathlib.Core.Path.{_≡_, refl, sym, ap, _∙_}
 use mathlib.Core.Bool.{Bool, true, false, not, _||_, _&&_, or-assoc, true≢false}
 use mathlib.Core.Logic.{_⊎_, inl, inr, ⊎-elim}
 use mathlib.Core.List.{List, [], _∷_}
 use native.Mathlib.Omega.{arith}
-use native.Mathlib.Numerals.{add-one}
 use lib.Dec.{eqb, ltb, leb}
-use lib.ListN.{length, drop}
-use lib.Seq.{drop-cons, drop-drop}
+use lib.ListN.{length}
 use borrow.Author.Tests.{ltb-false, leb-true, leb-false, eqb-true, eqb-false, lt-ltb, le-ltb, le-leb, lt-leb, eq-eqb, ne-eqb, not-false}
-use Rattle.refusal.proofs.Laws.{and-left, and-right}
 use Rattle.octets.specs.Bytes.{byteAt, be16At}
 use Rattle.octets.specs.Stretch.{part, rest}
 use Rattle.octets.proofs.Counts.{true-or-false, or-false-left, or-false-right}
-use Rattle.octets.proofs.Stretches.{length-part, length-rest, byte-part, byte-rest}
+use Rattle.octets.proofs.Stretches.{length-part, length-rest, byte-part, byte-rest, rest-none, rest-rest, rest-past, rest-byte}
 use Rattle.flow.specs.Flow.{longest}
 use Rattle.ts.specs.Packet.{fillByte}
-use Rattle.mpeg.specs.Frame.{fieldAt, besideField, saidLength, good}
+use Rattle.mpeg.specs.Frame.{fieldAt, besideField, good}
 use Rattle.mpeg.specs.Write.{badFrames, leftAt}
 use Rattle.mpeg.specs.Inside.Writing.{badFirst, notAll}
+use Rattle.mpeg.proofs.Frames.{good-says}
 
 -- One frame.
 -- A frame that may be written is there, and as long as one can be.
@@ -30,15 +28,14 @@ pub record Sized (bytes : List ℕ) (n : ℕ) : Type 0 where
   pub not-long : n ≤ longest
 
 pub sized : (bytes : List ℕ) (n : ℕ) → badFirst bytes n ≡ false → Sized bytes n
-unfolding badFirst good
+unfolding badFirst
 sized bytes n h =
     let p = part bytes 0 n in
     let is-good = not-false (good p) (or-false-right (ltb (length bytes) n) (not (good p)) h) in
     let there = ltb-false (length bytes) n (or-false-left (ltb (length bytes) n) (not (good p)) h) in
     let long : length p ≡ n = length-part bytes 0 n (omega (arith, there)) in
-    let short = leb-true (length p) longest (and-left (leb (length p) longest) _ is-good) in
-    let said = eqb-true (saidLength p) (length p) (and-left (eqb (saidLength p) (length p)) _ (and-right (leb (length p) longest) _ is-good)) in
-    record { there = there; enough = omega (arith, said, long); not-long = omega (arith, short, long) }
+    let says = good-says p is-good in
+    record { there = there; enough = omega (arith, says .its-length, long); not-long = omega (arith, says .short, long) }
 
 module _ (bytes : List ℕ) (start size : ℕ) (inside : start ≤ length bytes) where
   abbrev from-here : List ℕ
@@ -137,26 +134,6 @@ left-there (n ∷ more) bytes place h =
     let behind = left-there more (rest bytes n) (place - n) (or-false-right (badFirst bytes n) (badFrames more (rest bytes n)) here) in
     left-first n more bytes place there (omega (arith, behind, length-rest bytes n))
 
--- The lengths from one on.
-rest-next : (l : List ℕ) (k : ℕ) → k < length l → rest l k ≡ byteAt l k ∷ rest l (k + 1)
-unfolding rest
-rest-next l k h = drop-cons l k 0 h ∙ ap (λ (i : ℕ). byteAt l k ∷ drop i l) (sym (add-one k))
-
-pub rest-none : (l : List ℕ) (k : ℕ) → length l ≤ k → rest l k ≡ []
-rest-none l k h = by (rest l k) (omega (arith, length-rest l k))
-  where
-    by : (r : List ℕ) → length r ≡ 0 → r ≡ []
-    by [] e = refl
-    by (x ∷ r) e = absurd (let z : suc (length r) ≡ 0 = e in omega (arith, z))
-
-rest-rest : (l : List ℕ) (from n : ℕ) → rest (rest l from) n ≡ rest l (from + n)
-unfolding rest
-rest-rest l from n = drop-drop n from l
-
-pub rest-all : (l : List ℕ) → rest l 0 ≡ l
-unfolding rest
-rest-all l = refl
-
 -- The loop that goes through all frames: k of them are sound and end at `start`, and the last of those that start before the place ends at `begun`.
 pub record Surveying (bytes lengths : List ℕ) (place begun start k : ℕ) : Type 0 where
   pub in-lengths : k ≤ length lengths
@@ -171,15 +148,15 @@ survey-begin bytes lengths place =
     record {
       in-lengths = omega arith;
       in-bytes = omega arith;
-      to-come = rw (rest-all lengths, rest-all bytes) refl;
-      ahead = λ h. (omega arith, rw (rest-all lengths, same) refl);
+      to-come = rw (rest-none lengths, rest-none bytes) refl;
+      ahead = λ h. (omega arith, rw (rest-none lengths, same) refl);
       behind = λ h. absurd (omega (arith, h));
     }
 
 module _ {bytes lengths : List ℕ} {place begun start k : ℕ} (s : Surveying bytes lengths place begun start k) where
   module _ (n : ℕ) (more : k < length lengths) (e : n ≡ byteAt lengths k) where
     next : rest lengths k ≡ n ∷ rest lengths (k + 1)
-    next = rest-next lengths k more ∙ ap (λ (m : ℕ). m ∷ rest lengths (k + 1)) (sym e)
+    next = rest-byte lengths k more ∙ ap (λ (m : ℕ). m ∷ rest lengths (k + 1)) (sym e)
 
     these : badFrames lengths bytes ≡ (badFirst (rest bytes start) n || badFrames (rest lengths (k + 1)) (rest bytes (start + n)))
     these =
@@ -247,7 +224,7 @@ module _ {bytes lengths : List ℕ} {place begun start k : ℕ} (s : Surveying b
   module _ (done : length lengths ≤ k) where
     left-over : not (eqb start (length bytes)) ≡ badFrames lengths bytes
     unfolding badFrames
-    left-over = sym (s .to-come ∙ rw (rest-none lengths k done, length-rest bytes start) (ap not (by (true-or-false (eqb start (length bytes))))))
+    left-over = sym (s .to-come ∙ rw (rest-past lengths k done, length-rest bytes start) (ap not (by (true-or-false (eqb start (length bytes))))))
       where
         by : (eqb start (length bytes) ≡ true) ⊎ (eqb start (length bytes) ≡ false) → eqb (length bytes - start) 0 ≡ eqb start (length bytes)
         by (inl e) = eq-eqb (length bytes - start) 0 (omega (arith, eqb-true start (length bytes) e)) ∙ sym e
@@ -264,6 +241,6 @@ module _ {bytes lengths : List ℕ} {place begun start k : ℕ} (s : Surveying b
         (λ (t : leb start place ≡ true).
         let a = s .ahead (leb-true start place t) in
         let ended : begun - place ≡ 0 = omega (arith, a .0) in
-        ended ∙ sym (a .1 ∙ ap (λ (l : List ℕ). leftAt l (place - start)) (rest-none lengths k done)))
+        ended ∙ sym (a .1 ∙ ap (λ (l : List ℕ). leftAt l (place - start)) (rest-past lengths k done)))
         (λ (t : leb start place ≡ false). sym (s .behind (leb-false start place t)))
         (true-or-false (leb start place))

@@ -3,7 +3,7 @@ use Prim.Native.Nat.{ℕ, _+_, _≤_, _<_}
 use mathlib.Core.Path.{_≡_, refl, sym, ap, _∙_}
 use mathlib.Core.Bool.{true, false}
 use mathlib.Core.Logic.{⊎-elim}
-use mathlib.Core.List.{List, [], _∷_}
+use mathlib.Core.List.{List}
 use native.Mathlib.Omega.{arith}
 use lib.Dec.{leb}
 use lib.ListN.{length}
@@ -11,19 +11,14 @@ use borrow.Author.Tests.{lt-ltb, le-ltb, leb-true}
 use Rattle.octets.specs.Stretch.{part, put}
 use Rattle.octets.specs.Tests.{none}
 use Rattle.octets.proofs.Counts.{true-or-false}
-use Rattle.octets.proofs.Stretches.{length-rest, part-all}
+use Rattle.octets.proofs.Stretches.{length-rest, rest-past, part-all}
+use Rattle.octets.proofs.Tests.{none-some}
 use Rattle.ts.specs.Packet.{mpegLength, payloadLength, nextCount, nullPacket}
 use Rattle.mpeg.specs.Write.{Asked, WriteOutcome, badFrames, dataPacket, carries, packetOf, carried, countAfter}
 use Rattle.mpeg.specs.Write.{waitingFor, leftFor, wrote, refused, writtenBy, written}
 use Rattle.mpeg.specs.Inside.Writing.{Waiting}
-use Rattle.mpeg.proofs.Surveying.{left-there, rest-none}
+use Rattle.mpeg.proofs.Surveying.{left-there}
 use Rattle.mpeg.proofs.Backlogs.{packet-some, carried-some, count-some}
-
--- bytes wait
-none-some : (waiting : List ℕ) → 0 < length waiting → none waiting ≡ false
-unfolding none
-none-some [] h = absurd (omega (arith, h))
-none-some (x ∷ waiting) h = refl
 
 -- no more is carried than waits
 carries-waiting : (r : ℕ) (waiting : List ℕ) → r ≤ length waiting → carries r waiting ≤ length waiting
@@ -56,7 +51,7 @@ module _ (a : Asked) where
           _≡_ {A = WriteOutcome} (record { answer = record { code = 0; place = a .place; count = a .count; null = true }; output = output }) (written a)
       unfolding wrote packetOf carried countAfter none nullPacket
       write-null null output h e f =
-          let none = rest-none (a .bytes) (a .place) h in
+          let none = rest-past (a .bytes) (a .place) h in
           let same : a .place + 0 ≡ a .place = omega arith in
           let whole : part null 0 mpegLength ≡ nullPacket = ap (λ (l : List ℕ). part l 0 mpegLength) e ∙ part-all nullPacket in
           let this : wrote a ≡ record { answer = record { code = 0; place = a .place; count = a .count; null = true }; output = output } =

@@ -1,12 +1,12 @@
 // The writer: one call, one packet. It is given frames, back to back with their lengths, how many of their bytes have been sent, and the count, and
 // answers where the next call goes on.
 ghost use mathlib.Core.Path.{_≡_};
-ghost use Prim.Native.Nat.{_+_, _-_, _/_, _<_, _≤_, min};
+ghost use Prim.Native.Nat.{_+_, _-_, _<_, _≤_, min};
 ghost use mathlib.Core.Bool.{false};
 ghost use lib.ListN.{length, replicate};
 ghost use Rattle.octets.specs.Stretch.{part, rest, put};
-ghost use Rattle.ts.specs.Packet.{mpegLength, headLength, flagged, nextCount, header, fillByte};
-ghost use Rattle.mpeg.specs.Packet.{pointedLength, framesPid};
+ghost use Rattle.ts.specs.Packet.{mpegLength, headLength, fillByte};
+ghost use Rattle.mpeg.specs.Packet.{pointedLength};
 ghost use Rattle.mpeg.specs.Write.{badFrames, leftAt, dataPacket, carries, PermitsWrite};
 ghost use Rattle.mpeg.specs.Inside.Writing.{badFirst, notAll, behindPointer, Waiting};
 use crate::BESIDE_FIELD;

@@ -10,9 +10,10 @@ use lib.ListN.{length, replicate, List·getD-append, List·getD-eq-default}
 use lib.Seq.{getD-append-add}
 use borrow.Author.Tests.{ltb-true, ltb-false}
 use Rattle.octets.specs.Bytes.{byteAt, AllBytes}
-use Rattle.octets.specs.Stretch.{part, rest}
+use Rattle.octets.specs.Stretch.{part, rest, joined}
+use Rattle.octets.specs.Each.{Each}
 use Rattle.octets.proofs.Counts.{true-or-false}
-use Rattle.octets.proofs.Stretches.{byte-part, byte-rest, part-short}
+use Rattle.octets.proofs.Stretches.{byte-part, byte-rest, part-short, joined-cons}
 
 -- a place in the first of two lists, one in the second, and one behind the end
 pub byte-append : (a b : List ℕ) (i : ℕ) → i < length a → byteAt (a ++ b) i ≡ byteAt a i
@@ -64,3 +65,16 @@ pub bytes-replicate : (n x : ℕ) → x < 256 → AllBytes (replicate n x)
 bytes-replicate zero x h i = bytes-none i
 bytes-replicate (suc n) x h zero = h
 bytes-replicate (suc n) x h (suc i) = bytes-replicate n x h i
+
+-- .. and taken apart again
+pub bytes-front : (a b : List ℕ) → AllBytes (a ++ b) → AllBytes a
+bytes-front a b p i = let g : byteAt a i < 256 = omega (arith, byte-below-append a b i, p i) in g
+
+pub bytes-back : (a b : List ℕ) → AllBytes (a ++ b) → AllBytes b
+bytes-back a b p i = rw (byte-append-behind a b i) at (p (length a + i))
+
+pub bytes-joined : (a : List (List ℕ)) → AllBytes (joined a) → Each AllBytes a
+bytes-joined [] p = tt
+bytes-joined (s ∷ a) p =
+    let both : AllBytes (s ++ joined a) = rw (joined-cons s a) at p in
+    (bytes-front s (joined a) both, bytes-joined a (bytes-back s (joined a) both))

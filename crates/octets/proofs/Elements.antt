@@ -36,6 +36,11 @@ pub each-too : {A : Type 0} (P Q : A → Type 0) (xs : List A) → ((x : A) → 
 each-too P Q [] follows p = tt
 each-too P Q (x ∷ xs) follows p = (follows x (p .0), each-too P Q xs follows (p .1))
 
+-- two things that hold of each
+pub each-zip : {A : Type 0} (P Q : A → Type 0) (xs : List A) → Each P xs → Each Q xs → Each (λ x. P x × Q x) xs
+each-zip P Q [] p q = tt
+each-zip P Q (x ∷ xs) p q = ((p .0, q .0), each-zip P Q xs (p .1) (q .1))
+
 -- A list of no length, and one that is one longer.
 pub length-none : {A : Type 0} (l : List A) → length l ≡ 0 → l ≡ []
 length-none [] z = refl

@@ -13,6 +13,7 @@ use borrow.Author.Tests.{leb-true, leb-false, le-ltb}
 use Rattle.octets.specs.Stretch.{part, rest, put, joined, lengthsOf}
 use Rattle.octets.specs.Tests.{none}
 use Rattle.octets.proofs.Counts.{true-or-false}
+use Rattle.octets.proofs.Tests.{none-length}
 use Rattle.octets.proofs.Stretches.{length-part, part-short, length-rest, length-put, part-put, put-nil, put-put-front, joined-one-more}
 use Rattle.ts.specs.Packet.{mpegLength, payloadLength, header, fillByte}
 use Rattle.text.specs.Text.{Wrote}
@@ -27,7 +28,6 @@ use Rattle.mpeg.specs.Run.{packetNext, afterNext}
 use Rattle.pspmpeg.specs.Stream.{drain, packetsOf, allGood, streamOf}
 use Rattle.pspmpeg.specs.Inside.{streamRoom, packetsFrom, streamFrom}
 use Rattle.mpeg.proofs.Surveying.{left-there}
-use Rattle.mpeg.proofs.OnePacket.{none-is}
 
 -- where bytes wait a packet is 188 long, and carries 183 at least or all of them
 packet-by : (b : Bool) (head-a head-b waiting : List ℕ) (r : ℕ) → leb payloadLength r ≡ b → r ≤ length waiting → length head-a ≡ 4 → length head-b ≡ 4 →
@@ -105,7 +105,7 @@ module _ (bytes lengths packet : List ℕ) (long : length packet ≡ mpegLength)
 none-waits : (n : ℕ) (bytes lengths : List ℕ) (place count : ℕ) → length (rest bytes place) ≡ 0 → packetsFrom n bytes lengths place count ≡ []
 unfolding packetsFrom
 none-waits zero bytes lengths place count e = refl
-none-waits (suc n) bytes lengths place count e = rw (none-is (rest bytes place) e) refl
+none-waits (suc n) bytes lengths place count e = rw (none-length (rest bytes place) e) refl
 
 pub record Draining (bytes lengths text₀ text : List ℕ) (place count at : ℕ) : Type 0 where
   pub written-so-far : List (List ℕ)

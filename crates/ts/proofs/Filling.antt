@@ -1,16 +1,16 @@
 -- Bytes that are all 0xFF, found one after the other, and the null packet, compared byte for byte.
 use Prim.Native.Nat.{ℕ, zero, suc, _+_, _-_, _≤_, _<_}
 use mathlib.Core.Path.{_≡_, refl, sym, ap, _∙_}
-use mathlib.Core.Bool.{Bool, true, false, _&&_, and-assoc}
+use mathlib.Core.Bool.{Bool, true, false, _&&_, and-assoc, and-eq-true-iff}
 use mathlib.Core.List.{List, [], _∷_}
 use native.Mathlib.Omega.{arith}
 use lib.Dec.{eqb}
 use lib.ListN.{length, replicate}
-use borrow.Author.Tests.{eq-eqb, ne-eqb}
+use borrow.Author.Tests.{eq-eqb, ne-eqb, eqb-true}
 use Rattle.octets.specs.Bytes.{byteAt}
 use Rattle.octets.specs.Stretch.{part}
 use Rattle.octets.specs.Tests.{same}
-use Rattle.octets.proofs.Stretches.{length-part, part-none, part-to-cons, part-four}
+use Rattle.octets.proofs.Stretches.{length-part, part-none, part-byte-to, part-four}
 use Rattle.ts.specs.Packet.{mpegLength, payloadLength, syncByte, fillByte, allFill, nullPacket}
 
 -- 0xFF from one place to another: the bytes before place i are, and so the answer is that of the bytes from i on.
@@ -25,7 +25,7 @@ fill-begin packets from to h = record { begins = omega arith; within = h; so-far
 fill-first : (packets : List ℕ) (i to : ℕ) → i < to → to ≤ length packets →
     allFill (part packets i (to - i)) ≡ (eqb (byteAt packets i) fillByte && allFill (part packets (i + 1) (to - (i + 1))))
 unfolding allFill
-fill-first packets i to h k = rw (part-to-cons packets i to h k) refl
+fill-first packets i to h k = rw (part-byte-to packets i to h k) refl
 
 pub fill-turn : {packets : List ℕ} {from to i : ℕ} → Filled packets from to i → i < to → to ≤ length packets → byteAt packets i ≡ fillByte →
     Filled packets from to (i + 1)
@@ -46,6 +46,24 @@ unfolding allFill
 fill-end {packets} {from} {to} {i} f h =
     let nothing : to - i ≡ 0 = omega (arith, f .within) in
     sym (f .so-far ∙ ap (λ (n : ℕ). allFill (part packets i n)) nothing ∙ ap allFill (part-none packets i))
+
+-- What the test says of a list, and what makes it true.
+pub all-fill : (l : List ℕ) → allFill l ≡ true → l ≡ replicate (length l) fillByte
+unfolding allFill
+all-fill [] h = refl
+all-fill (x ∷ l) h =
+    let both = and-eq-true-iff (eqb x fillByte) (allFill l) .0 h in
+    ap (λ (y : ℕ). y ∷ l) (eqb-true x fillByte (both .0)) ∙ ap (λ (m : List ℕ). fillByte ∷ m) (all-fill l (both .1))
+
+pub fill-all : (n : ℕ) → allFill (replicate n fillByte) ≡ true
+unfolding allFill
+fill-all zero = refl
+fill-all (suc n) = fill-all n
+
+pub not-all-fill : (l : List ℕ) → 0 < length l → (byteAt l 0 ≡ fillByte → ⊥) → allFill l ≡ false
+unfolding allFill
+not-all-fill [] some h = absurd (let z : ⊥ = omega arith in z)
+not-all-fill (x ∷ l) some h = rw (ne-eqb x fillByte h) refl
 
 -- The null packet.
 same-fill : (l : List ℕ) (n : ℕ) → length l ≡ n → same l (replicate n fillByte) ≡ allFill l
