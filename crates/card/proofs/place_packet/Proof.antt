@@ -132,10 +132,14 @@ same-length-6 c = search needs
 same-length-7 : tie.Need-same-length-7
 same-length-7 c = search needs
 
+-- from the end of the call back to the walk, and from there to where the packet has a number
+abbrev walked : tie.After-slice-known10 → tie.After-walk3
+walked c = c .before .before .before .before .before .before
+
 returns-3 : tie.Need-returns-3
 returns-3 c =
-    let w = c .before .before .before .before .before .before .walk3 .ensures in
-    let t = c .before .before .before .before .before .before .before .before .before .before in
+    let w = walked c .walk3 .ensures in
+    let t = walked c .before .before .before .before in
     let n = t .before in
     let a = startOf n .args in
     let set : sSet (a .sub .now) ≡ true = sym (n .s-set .ensures) ∙ not-false _ (t .if2 .left) in

@@ -121,7 +121,10 @@ same-length-2 c = search needs
 same-length-3 : tie.Need-same-length-3
 same-length-3 c = search needs
 
--- from where the flow has heard the packet back to where its number was read
+-- from where the flow has judged the packet back to where it has heard it, and from there to where its number was read
+abbrev heard : tie.After-judged → tie.After-hear
+heard j = j .before .before .before .before .before .before .before
+
 abbrev flow-of : tie.After-hear → tie.After-flow-id
 flow-of h = h .before .before .before .before .before .before
 
@@ -131,7 +134,7 @@ flow-is k = k .flow-id .ensures .0 ∙ ap flowId (read k .sub-of .ensures)
 
 returns-3 : tie.Need-returns-3
 returns-3 c =
-    let h = c .before .before .before .before .before .before .before .before .before in
+    let h = heard (c .before .before) in
     let k = flow-of h in
     let p = k .before .before in
     let b = read k in
@@ -142,7 +145,7 @@ returns-3 c =
 
 answer-requires : tie.Need-answer-requires
 answer-requires c κs =
-    let h = c .before .before .before .before .before .before .before .before .before in
+    let h = heard (c .before .before) in
     (in-row (flow-of h), h .hear .ensures .within)
 
 same-length-4 : tie.Need-same-length-4
@@ -156,7 +159,7 @@ same-length-6 c = search needs
 
 returns-4 : tie.Need-returns-4
 returns-4 c =
-    let h = c .before .before .before .before .before .before .before .before .before .before in
+    let h = heard (c .before .before .before) in
     let k = flow-of h in
     let p = k .before .before in
     let b = read k in

@@ -92,15 +92,25 @@ same-length-2 c = search needs
 same-length-3 : tie.Need-same-length-3
 same-length-3 c = search needs
 
+-- from the end of a delivery back to where what is held was copied, from there to where the frame is whole, and to the start
+abbrev start : tie.Then2 → tie.Start
+start whole = whole .before .before .before .before .before .before
+
+abbrev whole : tie.After-copy → tie.Then2
+whole copied = copied .before .before .before
+
+abbrev copied : tie.After-slice-known5 → tie.After-copy
+copied c = c .before .before .before .before .before .before
+
 returns-2 : tie.Need-returns-2
 returns-2 c =
-    let t = c .before .before .before .before .before .before .before .before .before in
-    let s = t .before .before .before .before .before .before in
+    let t = whole (copied c) in
+    let s = start t in
     let a = s .args in
     let n = joined-length s in
     rw (settled-whole (a .most) (a .ends) (joined s) (omega arith) (t .if2 .taken))
     (placed-delivering (a .place) (a .tally) (lent s) (joined s) _ _ refl
-    (two-copies s (c .before .before .before .before .before .before .copy .ensures) (c .before .before .copy2 .ensures))
+    (two-copies s (copied c .copy .ensures) (c .before .before .copy2 .ensures))
     (rw n (set-put (a .lengths .now) (a .tally .frames) (a .tally .held + a .count) (omega arith)))
     refl refl (omega arith) refl)
 

@@ -9,6 +9,13 @@ use borrow.Author.Needs.{needs}
 use Rattle.octets.proofs.copy_block.Statement.{statement}
 use Rattle.octets.proofs.copy_block.Tie as tie
 
+-- from the end of the call back to where the block was filled, and from there to the start
+abbrev start : tie.After-copy-bytes → tie.Start
+start filled = filled .before .before .before .before
+
+abbrev filled : tie.After-slice-known2 → tie.After-copy-bytes
+filled c = c .before .before .before .before .before .before
+
 slice-aggregate-copy-bytes : tie.Need-slice-aggregate-copy-bytes
 slice-aggregate-copy-bytes c = search needs
 
@@ -27,8 +34,8 @@ same-length c = search needs
 returns : tie.Need-returns
 returns c =
     let written = c .before .before .copy-bytes2 .ensures in
-    let read = c .before .before .before .before .before .before .copy-bytes .ensures in
-    let a = c .before .before .before .before .before .before .before .before .before .before .args in
+    let read = filled c .copy-bytes .ensures in
+    let a = start (filled c) .args in
     written
     ∙ ap (λ (block : List ℕ). put (a .target .now) (a .at) (part block 0 (a .size))) read
     ∙ ap (put (a .target .now) (a .at)) (part-put-part _ (a .source .now) 0 (a .from) (a .size) (omega arith) (omega arith))

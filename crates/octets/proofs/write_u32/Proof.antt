@@ -9,6 +9,13 @@ use borrow.Author.Needs.{needs}
 use Rattle.octets.proofs.write_u32.Statement.{statement}
 use Rattle.octets.proofs.write_u32.Tie as tie
 
+-- from the end of the call back to where the high half was written, and from there to the start
+abbrev start : tie.After-write-u16 → tie.Start
+start half = half .before .before .before
+
+abbrev half : tie.After-slice-known3 → tie.After-write-u16
+half c = c .before .before .before .before .before .before
+
 cast-write-u16 : tie.Need-cast-write-u16
 cast-write-u16 c = search needs
 
@@ -30,8 +37,8 @@ same-length c = search needs
 returns : tie.Need-returns
 returns c =
     let second = c .before .before .write-u162 .ensures in
-    let first = c .before .before .before .before .before .before .write-u16 .ensures in
-    let s = c .before .before .before .before .before .before .before .before .before in
+    let first = half c .write-u16 .ensures in
+    let s = start (half c) in
     let a = s .args in
     second
     ∙ ap (λ (l : List ℕ). put l (a .at + 2) (two (a .number % 65536))) first

@@ -6,6 +6,13 @@ use borrow.Author.Needs.{needs}
 use Rattle.packet.proofs.psp.refuse_segments.Statement.{statement}
 use Rattle.packet.proofs.psp.refuse_segments.Tie as tie
 
+-- from the survey back to where there are segments, and from there to the start
+abbrev start : tie.Else1 → tie.Start
+start some = some .before .before .before
+
+abbrev some : tie.After-survey → tie.Else1
+some table = table .before .before
+
 segment-count-requires : tie.Need-segment-count-requires
 segment-count-requires c κs = search needs
 
@@ -16,12 +23,12 @@ returns c =
 
 mul-bodies : tie.Need-mul-bodies
 mul-bodies c =
-    let s = c .before .before .before in
+    let s = start c in
     omega (arith, table-small (s .args .width) (c .before .segment-count .result) (s .pre .1) (c .before .segment-count .ensures .1))
 
 add-bodies : tie.Need-add-bodies
 add-bodies c =
-    let s = c .before .before .before in
+    let s = start c in
     omega (arith, table-small (s .args .width) (c .before .segment-count .result) (s .pre .1) (c .before .segment-count .ensures .1))
 
 returns-2 : tie.Need-returns-2
@@ -37,20 +44,28 @@ add-if3 c = search needs
 
 returns-3 : tie.Need-returns-3
 returns-3 c =
-    let a = c .before .before .before .before .before .before .before .args in
-    segments-misfit (a .width) (a .sub .now) _ (c .before .before .before .before .before .segment-count .ensures .0) (c .before .before .before .before .if1 .left) _ (c .before .before .survey .ensures .0) (c .if3 .taken)
+    let t = c .before .before in
+    let s = some t in
+    let a = start s .args in
+    segments-misfit (a .width) (a .sub .now) _ (s .before .segment-count .ensures .0) (s .if1 .left) _ (t .survey .ensures .0) (c .if3 .taken)
 
 returns-4 : tie.Need-returns-4
 returns-4 c =
-    let a = c .before .before .before .before .before .before .before .before .args in
-    let table = c .before .before .before .survey .ensures in
-    segments-spoilt (a .width) (a .sub .now) _ (c .before .before .before .before .before .before .segment-count .ensures .0) (c .before .before .before .before .before .if1 .left) _ (table .0) (c .before .if3 .left) _ (table .1 .0) (c .if4 .taken)
+    let t = c .before .before .before in
+    let s = some t in
+    let a = start s .args in
+    let table = t .survey .ensures in
+    segments-spoilt (a .width) (a .sub .now) _ (s .before .segment-count .ensures .0) (s .if1 .left) _ (table .0) (c .before .if3 .left) _
+    (table .1 .0) (c .if4 .taken)
 
 returns-5 : tie.Need-returns-5
 returns-5 c =
-    let a = c .before .before .before .before .before .before .before .before .args in
-    let table = c .before .before .before .survey .ensures in
-    segments-passed (a .width) (a .sub .now) _ (c .before .before .before .before .before .before .segment-count .ensures .0) (c .before .before .before .before .before .if1 .left) _ (table .0) (c .before .if3 .left) _ (table .1 .0) (c .if4 .left)
+    let t = c .before .before .before in
+    let s = some t in
+    let a = start s .args in
+    let table = t .survey .ensures in
+    segments-passed (a .width) (a .sub .now) _ (s .before .segment-count .ensures .0) (s .if1 .left) _ (table .0) (c .before .if3 .left) _
+    (table .1 .0) (c .if4 .left)
 
 pub refuse-segments-spec : {M : Type 1} → statement M
 refuse-segments-spec =

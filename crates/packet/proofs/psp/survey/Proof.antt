@@ -71,9 +71,13 @@ returns c =
     let s = survey-end (c .before .before .loop .inv .1) (c .if1 .taken) in
     (s .summed .sum, (s .faults, s .summed .small))
 
+-- from where there is a last entry beside the first back to the start
+abbrev start : tie.Else1 Inv-loop μ-loop → tie.Start Inv-loop μ-loop
+start last = last .before .before .before .before .before .before
+
 entry-requires-3 : tie.Need-entry-requires-3 Inv-loop μ-loop
 entry-requires-3 c κs =
-    let s = c .before .before .before .before .before .before in
+    let s = start c in
     entry-within (s .args .width) (c .before .before .loop .k) (s .args .count) _ (s .pre .0) (omega (arith, c .if1 .left)) (s .pre .3)
 
 cast-total-3 : tie.Need-cast-total-3 Inv-loop μ-loop
@@ -90,9 +94,10 @@ cast-t18 c = search needs
 
 returns-2 : tie.Need-returns-2 Inv-loop μ-loop
 returns-2 c =
-    let s = c .before .before .before .before .before .before .before .before in
-    let l = c .before .before .before .before .loop in
-    let t = survey-end (survey-turn (l .inv .1) (omega (arith, c .before .before .if1 .left)) (s .pre .2) (c .before .entry3 .ensures) refl (c .bad-entry2 .ensures)) (omega (arith, c .before .before .before .loop-test .left)) in
+    let e = c .before .before in
+    let all = survey-turn (e .before .before .loop .inv .1) (omega (arith, e .if1 .left)) (start e .pre .2) (c .before .entry3 .ensures) refl
+    (c .bad-entry2 .ensures) in
+    let t = survey-end all (omega (arith, e .before .loop-test .left)) in
     (t .summed .sum, (t .faults, t .summed .small))
 
 pub survey-spec : {M : Type 1} → statement M
