@@ -11,7 +11,7 @@ import subprocess
 import sys
 
 ROOT = pathlib.Path(__file__).resolve().parent.parent
-USAGE = "usage: pspmpeg SESSION < CAPTURE > FILE.ts   (SESSION in decimal, to 4294967295)\n"
+USAGE = "usage: pspmpeg SESSION < CAPTURE > FILE.ts   (SESSION in decimal, or in hexadecimal behind 0x, to 4294967295)\n"
 TOO_LONG = "mpegframes: more than 65536 bytes on standard input, and that is all that it has room for\n"
 NULL = b"\x47\x1f\xff\x10" + b"\xff" * 184
 
@@ -178,9 +178,10 @@ def main():
         file = capture([(1, bodies(5))] + cut(5, 1, 0, 100, [frame(rng, 90), bad, frame(rng, 50)]))
         tally.hold("refused 52", "pspmpeg", ["5"], file, b"refused 52\n")
         tally.hold("other session", "pspmpeg", ["6"], file, b"")
-    for words in ([], ["5", "5"], ["x"], [""], ["-5"], ["4294967296"], ["99999999999"]):
+    for words in ([], ["5", "5"], ["x"], [""], ["-5"], ["4294967296"], ["99999999999"], ["0x"], ["0xg"], ["0x100000000"]):
         tally.hold("usage", "pspmpeg", words, sound, b"", USAGE)
-    tally.hold("zeros in front", "pspmpeg", ["0005"], sound, run("pspmpeg", ["5"], sound)[0])
+    for word in ("0005", "0x5", "0X00000005"):
+        tally.hold("the same number", "pspmpeg", [word], sound, run("pspmpeg", ["5"], sound)[0])
     # mpegframes: any first count, null packets, an unfinished last frame, and packets of no run
     for turn in range(40):
         frames = [frame(rng, rng.choice(sizes)) for _ in range(rng.randint(1, 6))]

@@ -10,7 +10,10 @@ import subprocess
 import sys
 
 ROOT = pathlib.Path(__file__).resolve().parent.parent
-USAGE = "usage: pspsend SESSION FLOW NUMBER L < FRAMES > CAPTURE   (numbers in decimal; SESSION to 4294967295, NUMBER to 65535)\n"
+USAGE = (
+    "usage: pspsend SESSION FLOW NUMBER L < FRAMES > CAPTURE   "
+    "(numbers in decimal, or in hexadecimal behind 0x; SESSION to 4294967295, NUMBER to 65535)\n"
+)
 
 
 class Refused(Exception):
@@ -67,13 +70,18 @@ def capture(session, flow, number, limit, file):
     return made
 
 
+def number_of(word):
+    """The number that a word says: in decimal, or in hexadecimal behind 0x; None where it says none."""
+    base, digits, most = (16, word[2:], 0xFFFFFFFF) if word[:2] in ("0x", "0X") else (10, word, 9999999999)
+    good = digits and set(digits) <= set("0123456789abcdefABCDEF" if base == 16 else "0123456789")
+    return int(digits, base) if good and len(word) <= 32 and int(digits, base) <= most else None
+
+
 def wanted(words, file):
     """What the program is to write: standard output and standard error."""
-    numbers = []
-    for word in words:
-        if not word or not set(word) <= set("0123456789") or len(word) > 32 or int(word) > 9999999999:
-            return b"", USAGE
-        numbers.append(int(word))
+    numbers = [number_of(word) for word in words]
+    if None in numbers:
+        return b"", USAGE
     if len(numbers) != 4 or numbers[0] > 0xFFFFFFFF or numbers[2] > 0xFFFF:
         return b"", USAGE
     try:
@@ -99,6 +107,17 @@ def cases():
         ["-1", "1", "1", "16"],
         ["1", "+1", "1", "16"],
         ["1", "1", "0x1", "16"],
+        ["0x101", "0X1", "0xffFF", "0x10"],
+        ["0xFFFFFFFF", "3", "0x0", "0x1000"],
+        ["0x00000000aBcDeF01", "0x3", "09", "16"],
+        ["0x100000000", "3", "0", "16"],
+        ["1", "3", "0x10000", "16"],
+        ["0x", "1", "1", "16"],
+        ["0x1g", "1", "1", "16"],
+        ["0x1", "1", "1", "1a"],
+        ["x1", "1", "1", "16"],
+        ["00x1", "1", "1", "16"],
+        ["0x0x1", "1", "1", "16"],
         ["1", "1", "1 ", "16"],
         ["4294967295", "3", "0", "16"],
         ["4294967296", "3", "0", "16"],

@@ -24,7 +24,8 @@ use Rattle.text.specs.Text.{ascii, digits, decimal, column, hex}
 use Rattle.capture.specs.File.{bodyStart, fileRefusal, Entry, nthEntry, fileOf}
 use Rattle.capture.proofs.Examples.{capture}
 use Rattle.replay.specs.Run.{begin, runOne, standing, answerAt}
-use Rattle.listing.specs.Listing.{columns, line, lineAt, refusedLine, listingBy, listing}
+use Rattle.tool.specs.Refused.{refusedLine}
+use Rattle.listing.specs.Listing.{columns, line, lineAt, listingBy, listing}
 use Rattle.trace.specs.Trace.{frameLine, framesText, flowLine, flowText, rowLine, rowText, rowsText, tracedAt, traceBy, trace}
 
 pub listed : listing capture

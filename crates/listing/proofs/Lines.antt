@@ -10,15 +10,10 @@ use Rattle.card.specs.History.{Answer}
 use Rattle.text.specs.Text.{ascii, decimal, column, space, newline, Wrote}
 use Rattle.text.proofs.Writing.{wrote-as, wrote-then}
 use Rattle.capture.specs.File.{openPsp, openDmpt, closing, headLength, entryLength, kindAt}
-use Rattle.listing.specs.Listing.{wordFor, columns, line, lineAt, refusedLine}
+use Rattle.listing.specs.Listing.{wordFor, columns, line, lineAt}
 use Rattle.replay.specs.Run.{answerAt}
 use Rattle.replay.specs.Inside.{Counts}
 use Rattle.listing.specs.Inside.{numbersOf}
-
-pub refused-written : {a b c d : List ℕ} {at i j next : ℕ} (number : ℕ) → Wrote a b at i (ascii "refused") → Wrote b c i j (column number) → Wrote c d j next newline →
-    Wrote a d at next (refusedLine number)
-unfolding refusedLine
-refused-written number u v w = wrote-then (wrote-then u v) w
 
 -- the word for each kind
 module _ (kind : ℕ) where

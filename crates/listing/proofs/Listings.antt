@@ -11,7 +11,8 @@ use Rattle.capture.specs.File.{headLength, entryCount, fileRefusal}
 use Rattle.capture.proofs.Checking.{is-sound}
 use Rattle.replay.specs.declared.Walk.{Walk}
 use Rattle.replay.specs.Inside.{Stands}
-use Rattle.listing.specs.Listing.{heading, lineAt, refusedLine, listingBy, listing}
+use Rattle.tool.specs.Refused.{refusedLine}
+use Rattle.listing.specs.Listing.{heading, lineAt, listingBy, listing}
 use Rattle.listing.specs.Inside.{headingRoom, lineRoom, listingRoom}
 
 -- The lines of a sound file, one after another, from the place behind the heading on.

@@ -10,6 +10,7 @@ use Rattle.octets.specs.Count.{upTo}
 use Rattle.card.specs.History.{Answer}
 use Rattle.text.specs.Text.{ascii, decimal, column, space, newline}
 use Rattle.capture.specs.File.{openPsp, openDmpt, closing, headLength, entryLength, entryCount, kindAt, fileRefusal}
+use Rattle.tool.specs.Refused.{refusedLine}
 use Rattle.replay.specs.Run.{answerAt}
 
 abbrev pub heading : List ℕ
@@ -29,9 +30,6 @@ line index kind a = decimal index ++ space ++ wordFor kind ++ columns a ++ newli
 -- the line of entry k
 unfoldable pub lineAt : List ℕ → ℕ → List ℕ
 lineAt file k = line k (kindAt headLength entryLength file k) (answerAt file k)
-
-unfoldable pub refusedLine : ℕ → List ℕ
-refusedLine number = ascii "refused" ++ column number ++ newline
 
 -- by the number of the first refusal that applies
 unfoldable pub listingBy : ℕ → List ℕ → List ℕ

@@ -82,7 +82,7 @@ pub fn list(file: &[u8], text: &mut [u8]) -> usize
 {
     let refused = reader::check(file);
     if refused != refusal::NONE {
-        return line::write_refused(text, 0, refused);
+        return tool::write_refused(text, 0, refused);
     }
     let mut holding = replay::holding_room();
     let mut output = replay::output_room();

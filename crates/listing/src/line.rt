@@ -2,7 +2,7 @@
 ghost use Prim.Native.Nat.{_+_, _≤_};
 ghost use lib.ListN.{length};
 ghost use Rattle.text.specs.Text.{Wrote};
-ghost use Rattle.listing.specs.Listing.{heading, wordFor, columns, line, refusedLine};
+ghost use Rattle.listing.specs.Listing.{heading, wordFor, columns, line};
 ghost use Rattle.listing.specs.Inside.{wordRoom, columnsRoom, lineRoom, headingRoom, numbersOf};
 use card::Received;
 
@@ -12,16 +12,6 @@ pub fn write_heading(text: &mut [u8], at: usize) -> usize
     ensures { λ r. ⌜ Wrote (now (text .entry)) (now (text .exit)) at r heading ⌝ }
 {
     text::write_words(text, at, b"n what code frames bytes dropped gap\n")
-}
-
-// Writes the one line of a refused file.
-pub fn write_refused(text: &mut [u8], at: usize, number: u32) -> usize
-    requires { ⌜ at + headingRoom ≤ length (now text) ⌝ }
-    ensures { λ r. ⌜ Wrote (now (text .entry)) (now (text .exit)) at r (refusedLine number) ⌝ }
-{
-    let behind_word = text::write_words(text, at, b"refused");
-    let behind_number = text::write_column(text, behind_word, number);
-    text::write_byte(text, behind_number, b'\n')
 }
 
 // Writes what an entry of this kind is.

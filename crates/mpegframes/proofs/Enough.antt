@@ -14,7 +14,7 @@ use Rattle.octets.specs.Stretch.{part, put, joined, lengthsOf, cutBy}
 use Rattle.octets.proofs.Counts.{true-or-false}
 use Rattle.octets.proofs.Stretches.{part-put, length-lengthsOf, cut-joined, total, total-lengthsOf, total-part, part-all}
 use Rattle.text.specs.Text.{Wrote}
-use Rattle.listing.specs.Listing.{refusedLine}
+use Rattle.tool.specs.Refused.{refusedLine}
 use Rattle.mpeg.specs.declared.reader.ReadBack.{ReadBack}
 use Rattle.mpeg.specs.Read.{reading, AskedRead, ReadOutcome, notRead, readBy, read}
 use Rattle.mpeg.specs.Read.{gotBack as got-back}

@@ -1,10 +1,10 @@
--- What mpegframes writes: the frames that MPEG packets bring back (W3), as a frames file; or one line, where no run of the writer gives the
--- packets (53).
+-- What mpegframes writes: the frames that MPEG packets bring back (W3), as a frames file; or one line, where no run of the writer gives
+-- the packets (53).
 use Prim.Native.Nat.{ℕ, _+_, _*_}
 use mathlib.Core.Bool.{cond}
 use mathlib.Core.List.{List}
 use Rattle.frames.specs.Frames.{lengthBytes, framesFile}
-use Rattle.listing.specs.Listing.{refusedLine}
+use Rattle.tool.specs.Refused.{refusedLine}
 use Rattle.mpeg.specs.Read.{reading}
 
 unfoldable pub gotBack : List ℕ → List ℕ

@@ -34,7 +34,7 @@ pub fn get_back(packets: &[u8], text: &mut [u8]) -> usize
     let mut lengths = lengths_room();
     let back = reader::read(packets, &mut output, &mut lengths);
     if back.code != refusal::NONE {
-        return listing::line::write_refused(text, 0, back.code);
+        return tool::write_refused(text, 0, back.code);
     }
     let total = back.bytes;
     let count = back.frames;

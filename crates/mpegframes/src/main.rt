@@ -11,27 +11,23 @@ ghost use mathlib.Core.Path.{_≡_};
 ghost use Prim.Native.Nat.{_+_};
 ghost use lib.ListN.{length};
 ghost use Rattle.mpegframes.specs.Back.{mostRead, textRoom};
-use libc::STDERR_FILENO;
-use libc::STDIN_FILENO;
-use libc::STDOUT_FILENO;
 
 fn too_long() {
-    io::write_all(
-        STDERR_FILENO,
+    tool::write_error(
         b"mpegframes: more than 65536 bytes on standard input, and that is all that it has room for\n",
     );
 }
 
 fn main() {
     let mut file = file_room();
-    let read = io::read_full(STDIN_FILENO, &mut file);
+    let read = tool::read_input(&mut file);
     if back::MOST_READ < read {
         too_long();
         return;
     }
     let mut text = text_room();
     let length = back::get_back(&file[..read], &mut text);
-    io::write_all(STDOUT_FILENO, &text[..length]);
+    tool::write_output(&text[..length]);
 }
 
 // Rooms of zeros. The contracts say how long they are, which lending one as a slice needs. That for the file has one byte more than is

@@ -19,7 +19,7 @@ use Rattle.ts.specs.Packet.{mpegLength, payloadLength, header, fillByte}
 use Rattle.text.specs.Text.{Wrote}
 use Rattle.text.proofs.Writing.{wrote-as}
 use Rattle.capture.specs.File.{longestFile}
-use Rattle.listing.specs.Listing.{refusedLine}
+use Rattle.tool.specs.Refused.{refusedLine}
 use Rattle.mpeg.specs.declared.writer.Written.{Written}
 use Rattle.mpeg.specs.Packet.{pointedLength, framesPid, filledTo}
 use Rattle.mpeg.specs.Frame.{good}

@@ -9,7 +9,7 @@ use Rattle.octets.proofs.Stretches.{part-put, length-lengthsOf}
 use Rattle.text.specs.Text.{Wrote}
 use Rattle.text.proofs.Writing.{wrote-as}
 use Rattle.capture.specs.File.{fileRefusal}
-use Rattle.listing.specs.Listing.{refusedLine}
+use Rattle.tool.specs.Refused.{refusedLine}
 use Rattle.pspmpeg.specs.declared.gather.Gathered.{Gathered}
 use Rattle.pspmpeg.specs.Stream.{delivered, streamBy, stream}
 use Rattle.pspmpeg.specs.Inside.{Gathers, streamFrom}

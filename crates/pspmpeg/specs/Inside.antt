@@ -12,7 +12,7 @@ use Rattle.octets.specs.Tests.{none}
 use Rattle.ts.specs.Packet.{mpegLength}
 use Rattle.join.specs.Slices.{mostFrames}
 use Rattle.capture.specs.File.{longestFile, mostEntries}
-use Rattle.listing.specs.Listing.{refusedLine}
+use Rattle.tool.specs.Refused.{refusedLine}
 use Rattle.mpeg.specs.Packet.{pointedLength}
 use Rattle.mpeg.specs.Write.{badFrames, leftAt, packetOf, carried, countAfter}
 use Rattle.pspmpeg.specs.declared.gather.Gathered.{Gathered}

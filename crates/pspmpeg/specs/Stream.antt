@@ -17,7 +17,7 @@ use Rattle.table.specs.Calls.{isOpen}
 use Rattle.card.specs.History.{framesOf}
 use Rattle.capture.specs.File.{Entry, dataEntry, dataOverUdp, headLength, entryCount, fileRefusal, nthEntry}
 use Rattle.replay.specs.Run.{packetOf, standing, answerAt}
-use Rattle.listing.specs.Listing.{refusedLine}
+use Rattle.tool.specs.Refused.{refusedLine}
 use Rattle.mpeg.specs.Frame.{good}
 use Rattle.mpeg.specs.Run.{Backlog, waitingIn, packetNext, afterNext}
 

@@ -1,37 +1,34 @@
 // pspmpeg SESSION < CAPTURE > FILE.ts
 //
-// Runs a capture on a card with an empty table and writes, for the modulator, the MPEG packets of the frames that are delivered on the session, in
-// the order delivered (W3). SESSION is its ID, in decimal. All frames wait before the first packet is written, and the first count is 0: so only
-// the last packet is filled up, and there is no null packet. A session that is open as D-MPT delivers no frames, and nothing of it is written.
+// Runs a capture on a card with an empty table and writes, for the modulator, the MPEG packets of the frames that are delivered on the
+// session, in the order delivered (W3). SESSION is its ID, in decimal or in hexadecimal behind 0x. All frames wait before the first packet
+// is written, and the first count is 0: so only the last packet is filled up, and there is no null packet. A session that is open as D-MPT
+// delivers no frames, and nothing of it is written.
 //
 // A capture that is refused (41 to 45), and a frame that W3 does not let travel (52), come to one line, `refused` and the number.
 mod gather;
 mod packets;
 
 ghost use mathlib.Core.Path.{_≡_};
-ghost use Prim.Native.Nat.{_+_, _≤_};
+ghost use Prim.Native.Nat.{_≤_};
 ghost use lib.ListN.{length};
 ghost use Rattle.text.specs.Text.{Wrote};
 ghost use Rattle.capture.specs.File.{longestFile};
 ghost use Rattle.pspmpeg.specs.Stream.{stream};
 ghost use Rattle.pspmpeg.specs.Inside.{mostGathered, streamRoom};
 use capture::reader;
-use libc::STDERR_FILENO;
-use libc::STDIN_FILENO;
-use libc::STDOUT_FILENO;
 
 // The greatest session ID.
 const GREATEST_ID: usize = 4294967295;
 
 fn usage() {
-    io::write_all(
-        STDERR_FILENO,
-        b"usage: pspmpeg SESSION < CAPTURE > FILE.ts   (SESSION in decimal, to 4294967295)\n",
+    tool::write_error(
+        b"usage: pspmpeg SESSION < CAPTURE > FILE.ts   (SESSION in decimal, or in hexadecimal behind 0x, to 4294967295)\n",
     );
 }
 
 fn main() {
-    let session = arguments::argument(1);
+    let session = tool::argument(1);
     if (os::arg_count() != 2) | !session.good {
         usage();
         return;
@@ -43,14 +40,7 @@ fn main() {
     run(session.value as u32);
 }
 
-// Rooms of zeros. The contracts say how long they are, which lending one as a slice needs. That for the file has one byte more than a capture
-// may have, so that a longer one is seen to be too long.
-fn file_room() -> [u8; capture::LONGEST_FILE + 1]
-    ensures { λ r. ⌜ longestFile + 1 ≡ length r ⌝ }
-{
-    [0; capture::LONGEST_FILE + 1]
-}
-
+// Rooms of zeros. The contracts say how long they are, which lending one as a slice needs.
 fn stream_room() -> [u8; packets::STREAM_ROOM]
     ensures { λ r. ⌜ streamRoom ≡ length r ⌝ }
 {
@@ -71,11 +61,11 @@ fn sizes_room() -> [u16; gather::MOST_GATHERED]
 
 // Reads the capture and writes the packets.
 fn run(session: u32) {
-    let mut file = file_room();
-    let read = io::read_full(STDIN_FILENO, &mut file);
+    let mut file = tool::capture_room();
+    let read = tool::read_input(&mut file);
     let mut text = stream_room();
     let length = write_stream(&file[..read], session, &mut text);
-    io::write_all(STDOUT_FILENO, &text[..length]);
+    tool::write_output(&text[..length]);
 }
 
 // Writes the packets of a capture's frames, or the line of a refusal, and answers how long that is.
@@ -85,7 +75,7 @@ fn write_stream(file: &[u8], session: u32, text: &mut [u8]) -> usize
 {
     let refused = reader::check(file);
     if refused != refusal::NONE {
-        return listing::line::write_refused(text, 0, refused);
+        return tool::write_refused(text, 0, refused);
     }
     let mut holding = replay::holding_room();
     let mut output = replay::output_room();

@@ -19,7 +19,7 @@ pub fn write_packets(bytes: &[u8], sizes: &[u16], text: &mut [u8]) -> usize
     let packet: &mut [u8] = &mut room;
     let first = writer::write(bytes, sizes, 0, 0, packet);
     if first.code != refusal::NONE {
-        return listing::line::write_refused(text, 0, first.code);
+        return tool::write_refused(text, 0, first.code);
     }
     let mut place: usize = 0;
     let mut count: u8 = 0;

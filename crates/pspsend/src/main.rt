@@ -2,8 +2,8 @@
 //
 // Makes a capture for a person: reads frames on standard input, sends them by `sender::send` again and again, and writes a capture file
 // with one entry that opens the session as PSP and a data entry for each packet. SESSION is the session ID, FLOW the flow, NUMBER the
-// first sequence number and L the limit on everything behind the session ID, all in decimal. A frames file has for each frame its length, in two
-// bytes, most significant first, and then its bytes.
+// first sequence number and L the limit on everything behind the session ID, all in decimal or in hexadecimal behind 0x. A frames file has
+// for each frame its length, in two bytes, most significant first, and then its bytes.
 //
 // What it cannot do it refuses by one line on standard error, `refused` and document 01's number, and writes nothing on standard output:
 // 31 to 33 and 35 are the sender's (a frames file that is cut short has lengths that do not add up to its bytes, 33; an empty one leaves
@@ -17,9 +17,6 @@ ghost use lib.ListN.{length};
 ghost use Rattle.capture.specs.File.{headLength, entryLength, longestFile, mostEntries};
 ghost use Rattle.pspsend.specs.Input.{most};
 ghost use Rattle.pspsend.specs.Inside.{mostBytes};
-use libc::STDERR_FILENO;
-use libc::STDIN_FILENO;
-use libc::STDOUT_FILENO;
 
 // Room for the longest frames file that is not refused, 127 frames of 2,048 bytes with their lengths, and more: a longer one is refused.
 const FILE_ROOM: usize = 262144;
@@ -30,23 +27,17 @@ const GREATEST_ID: usize = 4294967295;
 const GREATEST_NUMBER: usize = 65535;
 
 fn usage() {
-    io::write_all(
-        STDERR_FILENO,
-        b"usage: pspsend SESSION FLOW NUMBER L < FRAMES > CAPTURE   (numbers in decimal; SESSION to 4294967295, NUMBER to 65535)\n",
+    tool::write_error(b"usage: pspsend SESSION FLOW NUMBER L < FRAMES > CAPTURE   ");
+    tool::write_error(
+        b"(numbers in decimal, or in hexadecimal behind 0x; SESSION to 4294967295, NUMBER to 65535)\n",
     );
 }
 
-fn refused(code: u32) {
-    io::write_all(STDERR_FILENO, b"refused ");
-    io::print_decimal(STDERR_FILENO, code as u64);
-    io::write_all(STDERR_FILENO, b"\n");
-}
-
 fn main() {
-    let session = arguments::argument(1);
-    let flow = arguments::argument(2);
-    let number = arguments::argument(3);
-    let limit = arguments::argument(4);
+    let session = tool::argument(1);
+    let flow = tool::argument(2);
+    let number = tool::argument(3);
+    let limit = tool::argument(4);
     let all_good = session.good & flow.good & number.good & limit.good;
     if (os::arg_count() != 5) | !all_good {
         usage();
@@ -92,7 +83,7 @@ fn bodies_room() -> [u8; capture::LONGEST_FILE]
 // Reads the frames and sends them.
 fn run(session: u32, flow: usize, number: u16, limit: usize) {
     let mut file = file_room();
-    let read = io::read_full(STDIN_FILENO, &mut file);
+    let read = tool::read_input(&mut file);
     let mut bytes = file_room();
     let mut lengths = lengths_room();
     let taken = input::take_frames(&file[..read], &mut bytes, &mut lengths);
@@ -125,11 +116,11 @@ fn send(session: u32, flow: usize, number: u16, limit: usize, bytes: &[u8], leng
         &mut bodies,
     );
     if made.code != refusal::NONE {
-        refused(made.code);
+        tool::refuse(made.code);
         return;
     }
     let front = made.contents;
     let behind = made.bodies;
-    io::write_all(STDOUT_FILENO, &contents[..front]);
-    io::write_all(STDOUT_FILENO, &bodies[..behind]);
+    tool::write_output(&contents[..front]);
+    tool::write_output(&bodies[..behind]);
 }

@@ -1,33 +1,23 @@
 // psptrace < CAPTURE
 //
 // Lists a capture as psplist does, and behind each entry's line shows what the card did: the frames that the entry delivered, and how the
-// open rows and their flows stand afterwards, with the bytes that they hold. A trace may be long, so it is written entry by entry; the text
-// of each is what `trace::trace_entry` made.
+// open rows and their flows stand afterwards, with the bytes that they hold. A trace may be long, so it is written entry by entry; the
+// text of each is what `trace::trace_entry` made.
 ghost use mathlib.Core.Path.{_≡_};
-ghost use Prim.Native.Nat.{_+_, _≤_};
+ghost use Prim.Native.Nat.{_≤_};
 ghost use lib.ListN.{length};
-ghost use Rattle.capture.specs.File.{longestFile};
 ghost use Rattle.replay.specs.Inside.{Unused};
 ghost use Rattle.trace.specs.Inside.{entryRoom};
 use capture::reader;
-use libc::STDIN_FILENO;
-use libc::STDOUT_FILENO;
 
 fn main() {
-    let mut file = file_room();
-    let read = io::read_full(STDIN_FILENO, &mut file);
+    let mut file = tool::capture_room();
+    let read = tool::read_input(&mut file);
     let mut text = text_room();
     trace(&file[..read], &mut text);
 }
 
-// One byte more than a capture may have, so that a longer one is seen to be too long. The contracts say how long the rooms are, which
-// lending one as a slice needs.
-fn file_room() -> [u8; capture::LONGEST_FILE + 1]
-    ensures { λ r. ⌜ longestFile + 1 ≡ length r ⌝ }
-{
-    [0; capture::LONGEST_FILE + 1]
-}
-
+// Room for the text of an entry. The contract says how long it is, which lending it as a slice needs.
 fn text_room() -> [u8; trace::ENTRY_ROOM]
     ensures { λ r. ⌜ entryRoom ≡ length r ⌝ }
 {
@@ -40,12 +30,12 @@ fn trace(file: &[u8], text: &mut [u8])
 {
     let refused = reader::check(file);
     if refused != refusal::NONE {
-        let length = listing::line::write_refused(text, 0, refused);
-        io::write_all(STDOUT_FILENO, &text[..length]);
+        let length = tool::write_refused(text, 0, refused);
+        tool::write_output(&text[..length]);
         return;
     }
     let length = listing::line::write_heading(text, 0);
-    io::write_all(STDOUT_FILENO, &text[..length]);
+    tool::write_output(&text[..length]);
     let mut holding = replay::holding_room();
     let mut output = replay::output_room();
     let mut lengths = replay::lengths_room();
@@ -67,7 +57,7 @@ fn trace_entries(
     while walk.index < count {
         let traced = trace::trace_entry(file, walk, holding, output, lengths, text);
         let length = traced.next;
-        io::write_all(STDOUT_FILENO, &text[..length]);
+        tool::write_output(&text[..length]);
         walk = traced.walk;
     }
 }

@@ -16,7 +16,8 @@ use Rattle.card.specs.History.{Card, Answer, framesOf}
 use Rattle.text.specs.Text.{ascii, decimal, column, hex, space, newline}
 use Rattle.capture.specs.File.{headLength, entryCount, fileRefusal}
 use Rattle.replay.specs.Run.{standing, answerAt}
-use Rattle.listing.specs.Listing.{heading, lineAt, refusedLine}
+use Rattle.tool.specs.Refused.{refusedLine}
+use Rattle.listing.specs.Listing.{heading, lineAt}
 
 -- the frames that a call delivered
 unfoldable pub frameLine : List ℕ → List ℕ

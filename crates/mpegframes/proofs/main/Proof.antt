@@ -10,11 +10,11 @@ use Rattle.mpegframes.proofs.main.Tie as tie
 file-room-requires : tie.Need-file-room-requires
 file-room-requires c κs = search needs
 
-slice-aggregate-read-full : tie.Need-slice-aggregate-read-full
-slice-aggregate-read-full c = search needs
+slice-aggregate-read-input : tie.Need-slice-aggregate-read-input
+slice-aggregate-read-input c = search needs
 
-read-full-requires : tie.Need-read-full-requires
-read-full-requires c κs = search needs
+read-input-requires : tie.Need-read-input-requires
+read-input-requires c κs = search needs
 
 too-long-requires : tie.Need-too-long-requires
 too-long-requires c κs = search needs
@@ -40,11 +40,13 @@ get-back-requires c κs = search needs
 array-share-prefix-text : tie.Need-array-share-prefix-text
 array-share-prefix-text c = search needs
 
-slice-aggregate-write-all : tie.Need-slice-aggregate-write-all
-slice-aggregate-write-all c = let w = c .before .before .get-back .ensures in sym (length-take-le _ _ (omega (arith, w .next-place, w .inside, wrote-length w)))
+slice-aggregate-write-output : tie.Need-slice-aggregate-write-output
+slice-aggregate-write-output c =
+    let w = c .before .before .get-back .ensures in
+    sym (length-take-le _ _ (omega (arith, w .next-place, w .inside, wrote-length w)))
 
-write-all-requires : tie.Need-write-all-requires
-write-all-requires c κs = search needs
+write-output-requires : tie.Need-write-output-requires
+write-output-requires c κs = search needs
 
 returns-2 : tie.Need-returns-2
 returns-2 c = search needs
@@ -54,8 +56,8 @@ main-spec =
     tie.close
     (tie.spec
     file-room-requires
-    slice-aggregate-read-full
-    read-full-requires
+    slice-aggregate-read-input
+    read-input-requires
     too-long-requires
     returns
     text-room-requires
@@ -64,6 +66,6 @@ main-spec =
     slice-aggregate-get-back-2
     get-back-requires
     array-share-prefix-text
-    slice-aggregate-write-all
-    write-all-requires
+    slice-aggregate-write-output
+    write-output-requires
     returns-2)

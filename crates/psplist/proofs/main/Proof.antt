@@ -5,14 +5,14 @@ use borrow.Author.Needs.{needs}
 use Rattle.psplist.proofs.main.Statement.{statement}
 use Rattle.psplist.proofs.main.Tie as tie
 
-file-room-requires : tie.Need-file-room-requires
-file-room-requires c κs = search needs
+capture-room-requires : tie.Need-capture-room-requires
+capture-room-requires c κs = search needs
 
-slice-aggregate-read-full : tie.Need-slice-aggregate-read-full
-slice-aggregate-read-full c = search needs
+slice-aggregate-read-input : tie.Need-slice-aggregate-read-input
+slice-aggregate-read-input c = search needs
 
-read-full-requires : tie.Need-read-full-requires
-read-full-requires c κs = search needs
+read-input-requires : tie.Need-read-input-requires
+read-input-requires c κs = search needs
 
 text-room-requires : tie.Need-text-room-requires
 text-room-requires c κs = search needs
@@ -32,11 +32,11 @@ list-requires c κs = search needs
 array-share-prefix-text : tie.Need-array-share-prefix-text
 array-share-prefix-text c = search needs
 
-slice-aggregate-write-all : tie.Need-slice-aggregate-write-all
-slice-aggregate-write-all c = sym (length-take-le _ _ (array-share-prefix-text (c .before)))
+slice-aggregate-write-output : tie.Need-slice-aggregate-write-output
+slice-aggregate-write-output c = sym (length-take-le _ _ (array-share-prefix-text (c .before)))
 
-write-all-requires : tie.Need-write-all-requires
-write-all-requires c κs = search needs
+write-output-requires : tie.Need-write-output-requires
+write-output-requires c κs = search needs
 
 returns : tie.Need-returns
 returns c = search needs
@@ -45,15 +45,15 @@ pub main-spec : {M : Type 1} → statement M
 main-spec =
     tie.close
     (tie.spec
-    file-room-requires
-    slice-aggregate-read-full
-    read-full-requires
+    capture-room-requires
+    slice-aggregate-read-input
+    read-input-requires
     text-room-requires
     array-share-prefix-file
     slice-aggregate-list
     slice-aggregate-list-2
     list-requires
     array-share-prefix-text
-    slice-aggregate-write-all
-    write-all-requires
+    slice-aggregate-write-output
+    write-output-requires
     returns)

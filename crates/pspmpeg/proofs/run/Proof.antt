@@ -7,14 +7,14 @@ use borrow.Author.Needs.{needs}
 use Rattle.pspmpeg.proofs.run.Statement.{statement}
 use Rattle.pspmpeg.proofs.run.Tie as tie
 
-file-room-requires : tie.Need-file-room-requires
-file-room-requires c κs = search needs
+capture-room-requires : tie.Need-capture-room-requires
+capture-room-requires c κs = search needs
 
-slice-aggregate-read-full : tie.Need-slice-aggregate-read-full
-slice-aggregate-read-full c = search needs
+slice-aggregate-read-input : tie.Need-slice-aggregate-read-input
+slice-aggregate-read-input c = search needs
 
-read-full-requires : tie.Need-read-full-requires
-read-full-requires c κs = search needs
+read-input-requires : tie.Need-read-input-requires
+read-input-requires c κs = search needs
 
 stream-room-requires : tie.Need-stream-room-requires
 stream-room-requires c κs = search needs
@@ -34,11 +34,11 @@ write-stream-requires c κs = search needs
 array-share-prefix-text : tie.Need-array-share-prefix-text
 array-share-prefix-text c = search needs
 
-slice-aggregate-write-all : tie.Need-slice-aggregate-write-all
-slice-aggregate-write-all c = let w = c .before .before .write-stream .ensures in sym (length-take-le _ _ (omega (arith, w .next-place, w .inside, wrote-length w)))
+slice-aggregate-write-output : tie.Need-slice-aggregate-write-output
+slice-aggregate-write-output c = let w = c .before .before .write-stream .ensures in sym (length-take-le _ _ (omega (arith, w .next-place, w .inside, wrote-length w)))
 
-write-all-requires : tie.Need-write-all-requires
-write-all-requires c κs = search needs
+write-output-requires : tie.Need-write-output-requires
+write-output-requires c κs = search needs
 
 returns : tie.Need-returns
 returns c = search needs
@@ -47,15 +47,15 @@ pub run-spec : {M : Type 1} → statement M
 run-spec =
     tie.close
     (tie.spec
-    file-room-requires
-    slice-aggregate-read-full
-    read-full-requires
+    capture-room-requires
+    slice-aggregate-read-input
+    read-input-requires
     stream-room-requires
     array-share-prefix-file
     slice-aggregate-write-stream
     slice-aggregate-write-stream-2
     write-stream-requires
     array-share-prefix-text
-    slice-aggregate-write-all
-    write-all-requires
+    slice-aggregate-write-output
+    write-output-requires
     returns)

@@ -10,11 +10,11 @@ use Rattle.pspsend.proofs.run.Tie as tie
 file-room-requires : tie.Need-file-room-requires
 file-room-requires c κs = search needs
 
-slice-aggregate-read-full : tie.Need-slice-aggregate-read-full
-slice-aggregate-read-full c = search needs
+slice-aggregate-read-input : tie.Need-slice-aggregate-read-input
+slice-aggregate-read-input c = search needs
 
-read-full-requires : tie.Need-read-full-requires
-read-full-requires c κs = search needs
+read-input-requires : tie.Need-read-input-requires
+read-input-requires c κs = search needs
 
 file-room-requires-2 : tie.Need-file-room-requires-2
 file-room-requires-2 c κs = search needs
@@ -64,8 +64,8 @@ run-spec =
     tie.close
     (tie.spec
     file-room-requires
-    slice-aggregate-read-full
-    read-full-requires
+    slice-aggregate-read-input
+    read-input-requires
     file-room-requires-2
     lengths-room-requires
     array-share-prefix-file

@@ -20,8 +20,8 @@ slice-aggregate-make-2 c = search needs
 make-requires : tie.Need-make-requires
 make-requires c κs = search needs
 
-refused-requires : tie.Need-refused-requires
-refused-requires c κs = search needs
+refuse-requires : tie.Need-refuse-requires
+refuse-requires c κs = search needs
 
 returns : tie.Need-returns
 returns c = search needs
@@ -29,20 +29,20 @@ returns c = search needs
 array-share-prefix-contents : tie.Need-array-share-prefix-contents
 array-share-prefix-contents c = search needs
 
-slice-aggregate-write-all : tie.Need-slice-aggregate-write-all
-slice-aggregate-write-all c = sym (length-take-le _ _ (array-share-prefix-contents (c .before)))
+slice-aggregate-write-output : tie.Need-slice-aggregate-write-output
+slice-aggregate-write-output c = sym (length-take-le _ _ (array-share-prefix-contents (c .before)))
 
-write-all-requires : tie.Need-write-all-requires
-write-all-requires c κs = search needs
+write-output-requires : tie.Need-write-output-requires
+write-output-requires c κs = search needs
 
 array-share-prefix-bodies : tie.Need-array-share-prefix-bodies
 array-share-prefix-bodies c = search needs
 
-slice-aggregate-write-all-2 : tie.Need-slice-aggregate-write-all-2
-slice-aggregate-write-all-2 c = sym (length-take-le _ _ (array-share-prefix-bodies (c .before)))
+slice-aggregate-write-output-2 : tie.Need-slice-aggregate-write-output-2
+slice-aggregate-write-output-2 c = sym (length-take-le _ _ (array-share-prefix-bodies (c .before)))
 
-write-all-requires-2 : tie.Need-write-all-requires-2
-write-all-requires-2 c κs = search needs
+write-output-requires-2 : tie.Need-write-output-requires-2
+write-output-requires-2 c κs = search needs
 
 returns-2 : tie.Need-returns-2
 returns-2 c = search needs
@@ -56,12 +56,12 @@ send-spec =
     slice-aggregate-make
     slice-aggregate-make-2
     make-requires
-    refused-requires
+    refuse-requires
     returns
     array-share-prefix-contents
-    slice-aggregate-write-all
-    write-all-requires
+    slice-aggregate-write-output
+    write-output-requires
     array-share-prefix-bodies
-    slice-aggregate-write-all-2
-    write-all-requires-2
+    slice-aggregate-write-output-2
+    write-output-requires-2
     returns-2)

@@ -13,15 +13,16 @@ check-requires c κs = search needs
 write-refused-requires : tie.Need-write-refused-requires
 write-refused-requires c κs = search needs
 
-slice-reshare-prefix-write-all : tie.Need-slice-reshare-prefix-write-all
-slice-reshare-prefix-write-all c = search needs
+slice-reshare-prefix-write-output : tie.Need-slice-reshare-prefix-write-output
+slice-reshare-prefix-write-output c = search needs
 
-slice-aggregate-write-all : tie.Need-slice-aggregate-write-all
-slice-aggregate-write-all c =
-    let w = c .before .before .before .write-refused .ensures in sym (length-take-le _ _ (omega (arith, w .next-place, w .inside, wrote-length w)))
+slice-aggregate-write-output : tie.Need-slice-aggregate-write-output
+slice-aggregate-write-output c =
+    let w = c .before .before .before .write-refused .ensures in
+    sym (length-take-le _ _ (omega (arith, w .next-place, w .inside, wrote-length w)))
 
-write-all-requires : tie.Need-write-all-requires
-write-all-requires c κs = search needs
+write-output-requires : tie.Need-write-output-requires
+write-output-requires c κs = search needs
 
 same-length : tie.Need-same-length
 same-length c = search needs
@@ -32,15 +33,16 @@ returns c = search needs
 write-heading-requires : tie.Need-write-heading-requires
 write-heading-requires c κs = search needs
 
-slice-reshare-prefix-write-all-2 : tie.Need-slice-reshare-prefix-write-all-2
-slice-reshare-prefix-write-all-2 c = search needs
+slice-reshare-prefix-write-output-2 : tie.Need-slice-reshare-prefix-write-output-2
+slice-reshare-prefix-write-output-2 c = search needs
 
-slice-aggregate-write-all-2 : tie.Need-slice-aggregate-write-all-2
-slice-aggregate-write-all-2 c =
-    let w = c .before .before .before .write-heading .ensures in sym (length-take-le _ _ (omega (arith, w .next-place, w .inside, wrote-length w)))
+slice-aggregate-write-output-2 : tie.Need-slice-aggregate-write-output-2
+slice-aggregate-write-output-2 c =
+    let w = c .before .before .before .write-heading .ensures in
+    sym (length-take-le _ _ (omega (arith, w .next-place, w .inside, wrote-length w)))
 
-write-all-requires-2 : tie.Need-write-all-requires-2
-write-all-requires-2 c κs = search needs
+write-output-requires-2 : tie.Need-write-output-requires-2
+write-output-requires-2 c κs = search needs
 
 holding-room-requires : tie.Need-holding-room-requires
 holding-room-requires c κs = search needs
@@ -75,15 +77,15 @@ trace-spec =
     (tie.spec
     check-requires
     write-refused-requires
-    slice-reshare-prefix-write-all
-    slice-aggregate-write-all
-    write-all-requires
+    slice-reshare-prefix-write-output
+    slice-aggregate-write-output
+    write-output-requires
     same-length
     returns
     write-heading-requires
-    slice-reshare-prefix-write-all-2
-    slice-aggregate-write-all-2
-    write-all-requires-2
+    slice-reshare-prefix-write-output-2
+    slice-aggregate-write-output-2
+    write-output-requires-2
     holding-room-requires
     output-room-requires
     lengths-room-requires

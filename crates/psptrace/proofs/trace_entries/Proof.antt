@@ -63,14 +63,14 @@ trace-entry-requires c κs =
     omega (arith, asked .if1 .taken, counted t .entry-count .ensures) in
     ((t .loop .inv .0, not-past), omega (arith, given .pre .1, t .loop .inv .1))
 
-slice-reshare-prefix-write-all : tie.Need-slice-reshare-prefix-write-all Inv-loop μ-loop
-slice-reshare-prefix-write-all c = inside (c .before)
+slice-reshare-prefix-write-output : tie.Need-slice-reshare-prefix-write-output Inv-loop μ-loop
+slice-reshare-prefix-write-output c = inside (c .before)
 
-slice-aggregate-write-all : tie.Need-slice-aggregate-write-all Inv-loop μ-loop
-slice-aggregate-write-all c = sym (length-take-le _ _ (inside (c .before .before)))
+slice-aggregate-write-output : tie.Need-slice-aggregate-write-output Inv-loop μ-loop
+slice-aggregate-write-output c = sym (length-take-le _ _ (inside (c .before .before)))
 
-write-all-requires : tie.Need-write-all-requires Inv-loop μ-loop
-write-all-requires c κs = search needs
+write-output-requires : tie.Need-write-output-requires Inv-loop μ-loop
+write-output-requires c κs = search needs
 
 loop-less : tie.Need-loop-less Inv-loop μ-loop
 loop-less c =
@@ -107,9 +107,9 @@ trace-entries-spec =
     begin-requires
     loop-holds
     trace-entry-requires
-    slice-reshare-prefix-write-all
-    slice-aggregate-write-all
-    write-all-requires
+    slice-reshare-prefix-write-output
+    slice-aggregate-write-output
+    write-output-requires
     loop-less
     loop-again
     same-length

@@ -1,8 +1,8 @@
--- `listing::line::write_refused` writes the parts of the line one behind the other.
-use Rattle.listing.proofs.Lines.{refused-written}
+-- `tool::write_refused` writes the parts of the line one behind the other.
+use Rattle.tool.proofs.Line.{refused-written}
 use borrow.Author.Needs.{needs}
-use Rattle.listing.proofs.line.write_refused.Statement.{statement}
-use Rattle.listing.proofs.line.write_refused.Tie as tie
+use Rattle.tool.proofs.write_refused.Statement.{statement}
+use Rattle.tool.proofs.write_refused.Tie as tie
 
 slice-aggregate-write-words : tie.Need-slice-aggregate-write-words
 slice-aggregate-write-words c = search needs
@@ -21,7 +21,11 @@ same-length c = search needs
 
 returns : tie.Need-returns
 returns c =
-    refused-written (c .before .before .before .before .before .before .before .before .before .before .before .before .before .before .args .number) (c .before .before .before .before .before .before .before .before .before .before .write-words .ensures) (c .before .before .before .before .before .before .write-column .ensures .0) (c .before .before .write-byte .ensures)
+    let ended = c .before .before in
+    let numbered = ended .before .before .before .before in
+    let worded = numbered .before .before .before .before in
+    let start = worded .before .before .before .before in
+    refused-written (start .args .number) (worded .write-words .ensures) (numbered .write-column .ensures .0) (ended .write-byte .ensures)
 
 pub write-refused-spec : {M : Type 1} → statement M
 write-refused-spec =
