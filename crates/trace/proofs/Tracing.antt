@@ -152,51 +152,67 @@ numbersRoom = 6 + mostDigits + 3 * columnRoom
 
 -- a word and the four numbers
 pub numbers-written : {a b c d e g : List ℕ} {at behind-word behind-row behind-flow behind-expected next : ℕ} (r k : ℕ) (f : Flow) →
-    Wrote a b at behind-word (ascii " flow ") → Wrote b c behind-word behind-row (decimal r) → behind-row ≤ behind-word + mostDigits →
-    Wrote c d behind-row behind-flow (column k) → behind-flow ≤ behind-row + 1 + mostDigits →
-    Wrote d e behind-flow behind-expected (column (f .expected)) → behind-expected ≤ behind-flow + 1 + mostDigits →
-    Wrote e g behind-expected next (column (f .held)) → next ≤ behind-expected + 1 + mostDigits →
+    Wrote a b at behind-word (ascii " flow ") →
+    Wrote b c behind-word behind-row (decimal r) × (behind-row ≤ behind-word + mostDigits) →
+    Wrote c d behind-row behind-flow (column k) × (behind-flow ≤ behind-row + 1 + mostDigits) →
+    Wrote d e behind-flow behind-expected (column (f .expected)) × (behind-expected ≤ behind-flow + 1 + mostDigits) →
+    Wrote e g behind-expected next (column (f .held)) × (next ≤ behind-expected + 1 + mostDigits) →
     Wrote a g at next (flowNumbers r k f) × (next ≤ at + numbersRoom)
-numbers-written {at = at} {behind-word = behind-word} r k f v w w-short x x-short y y-short z z-short =
+numbers-written {at = at} {behind-word = behind-word} r k f v w x y z =
     let word : behind-word ≡ at + 6 = v .next-place in
-    (wrote-then (wrote-then (wrote-then (wrote-then v w) x) y) z, omega (arith, word, w-short, x-short, y-short, z-short))
+    (wrote-then (wrote-then (wrote-then (wrote-then v (w .0)) (x .0)) (y .0)) (z .0), omega (arith, word, w .1, x .1, y .1, z .1))
+
+-- What is known of a flow's line: behind its numbers, behind the space after them, and behind the bytes that the flow holds.
+pub record Numbered (a b : List ℕ) (at behind-held r k : ℕ) (f : Flow) : Type 0 where
+  pub few : f .held ≤ longest
+  pub long : at + flowRoom ≤ length a
+  pub numbers : Wrote a b at behind-held (flowNumbers r k f) × (behind-held ≤ at + numbersRoom)
+
+pub record Spaced (b c : List ℕ) (behind-held behind-space held : ℕ) (f : Flow) : Type 0 where
+  pub gap : Wrote b c behind-held behind-space space
+  pub same : held ≡ f .held
+
+pub record Shown (c d holding : List ℕ) (behind-space behind-bytes held place r k : ℕ) : Type 0 where
+  pub there : place ≡ placeOf r k
+  pub bytes : Wrote c d behind-space behind-bytes (hexOrDash (part holding place held)) × (behind-bytes ≤ behind-space + 1 + 2 * held)
 
 -- Behind the numbers there is room for a space; behind that for the bytes; behind those for the end of the line.
-module _ {a b : List ℕ} {at behind-held : ℕ} (r k : ℕ) (f : Flow) (few : f .held ≤ longest) (long : at + flowRoom ≤ length a)
-    (numbers : Wrote a b at behind-held (flowNumbers r k f) × (behind-held ≤ at + numbersRoom)) where
+module _ {a b : List ℕ} {at behind-held r k : ℕ} {f : Flow} (n : Numbered a b at behind-held r k f) where
   pub space-room : behind-held < length b
-  space-room = omega (arith, numbers .1, wrote-length (numbers .0), long)
+  space-room = omega (arith, n .numbers .1, wrote-length (n .numbers .0), n .long)
 
-  module _ {c : List ℕ} {behind-space : ℕ} (gap : Wrote b c behind-held behind-space space) (held : ℕ) (same : held ≡ f .held) where
+  module _ {c : List ℕ} {behind-space held : ℕ} (s : Spaced b c behind-held behind-space held f) where
     pub held-room : behind-space + 1 + 2 * held ≤ length c
     held-room =
-        let one : behind-space ≡ behind-held + 1 = gap .next-place in
-        omega (arith, one, numbers .1, wrote-length (numbers .0), wrote-length gap, same, few, long)
+        let one : behind-space ≡ behind-held + 1 = s .gap .next-place in
+        omega (arith, one, n .numbers .1, wrote-length (n .numbers .0), wrote-length (s .gap), s .same, n .few, n .long)
 
-    module _ {d : List ℕ} {behind-bytes : ℕ} (holding : List ℕ) (place : ℕ) (there : place ≡ placeOf r k)
-        (bytes : Wrote c d behind-space behind-bytes (hexOrDash (part holding place held))) (bytes-short : behind-bytes ≤ behind-space + 1 + 2 * held) where
+    module _ {d holding : List ℕ} {behind-bytes place : ℕ} (h : Shown c d holding behind-space behind-bytes held place r k) where
       pub end-room : behind-bytes < length d
       end-room =
-          let one : behind-space ≡ behind-held + 1 = gap .next-place in
-          omega (arith, one, bytes-short, numbers .1, wrote-length (numbers .0), wrote-length gap, wrote-length bytes, same, few, long)
+          let one : behind-space ≡ behind-held + 1 = s .gap .next-place in
+          let shown = wrote-length (h .bytes .0) in
+          omega (arith, one, h .bytes .1, n .numbers .1, wrote-length (n .numbers .0), wrote-length (s .gap), shown, s .same, n .few, n .long)
 
       -- the whole line
-      line-written : {e : List ℕ} {next : ℕ} → Wrote d e behind-bytes next newline → Wrote a e at next (flowLine r k f (part holding (placeOf r k) (f .held)))
+      line-written : {e : List ℕ} {next : ℕ} → Wrote d e behind-bytes next newline →
+          Wrote a e at next (flowLine r k f (part holding (placeOf r k) (f .held)))
       unfolding flowLine
       line-written end =
           let stretch : part holding place held ≡ part holding (placeOf r k) (f .held) =
-          ap (λ (n : ℕ). part holding n held) there ∙ ap (λ (n : ℕ). part holding (placeOf r k) n) same in
-          wrote-then (wrote-then (wrote-then (numbers .0) gap) (wrote-as (ap hexOrDash stretch) bytes)) end
+          ap (λ (n : ℕ). part holding n held) (h .there) ∙ ap (λ (n : ℕ). part holding (placeOf r k) n) (s .same) in
+          wrote-then (wrote-then (wrote-then (n .numbers .0) (s .gap)) (wrote-as (ap hexOrDash stretch) (h .bytes .0))) end
 
       -- .. which is the text of a flow that is not fresh
       pub flow-written : {e : List ℕ} {next : ℕ} → (f .heard ≡ 0 → ⊥) → Wrote d e behind-bytes next newline →
           Wrote a e at next (flowText holding r k f) × (next ≤ at + flowRoom)
       unfolding flowText
       flow-written {e} {next} heard end =
-          let one : behind-space ≡ behind-held + 1 = gap .next-place in
-          let last : next ≡ behind-bytes + 1 = end .next-place in (
-            wrote-as (ap (λ (b : Bool). cond b [] (flowLine r k f (part holding (placeOf r k) (f .held)))) (sym (ne-eqb (f .heard) 0 heard))) (line-written end),
-            omega (arith, one, last, bytes-short, numbers .1, same, few),
+          let one : behind-space ≡ behind-held + 1 = s .gap .next-place in
+          let last : next ≡ behind-bytes + 1 = end .next-place in
+          let line = flowLine r k f (part holding (placeOf r k) (f .held)) in (
+            wrote-as (ap (λ (b : Bool). cond b [] line) (sym (ne-eqb (f .heard) 0 heard))) (line-written end),
+            omega (arith, one, last, h .bytes .1, n .numbers .1, s .same, n .few),
           )
 
 -- The line of a row: a word, the row's number, its ID and the number of its kind.

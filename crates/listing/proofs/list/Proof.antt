@@ -5,6 +5,13 @@ use borrow.Author.Needs.{needs}
 use Rattle.listing.proofs.list.Statement.{statement}
 use Rattle.listing.proofs.list.Tie as tie
 
+-- from the end of a refused call back to where the file was refused, and from there to the start
+abbrev start : tie.Then1 → tie.Start
+start refused = refused .before .before .before .before
+
+abbrev refused : tie.After-slice-known2 → tie.Then1
+refused c = c .before .before .before .before
+
 check-requires : tie.Need-check-requires
 check-requires c κs = search needs
 
@@ -16,7 +23,8 @@ same-length c = search needs
 
 returns : tie.Need-returns
 returns c =
-    wrote-as (listing-refused (c .before .before .before .before .before .before .before .before .args .file .now) _ (c .before .before .before .before .before .check .ensures) (c .before .before .before .before .if1 .taken)) (c .before .before .write-refused .ensures)
+    let r = refused c in
+    wrote-as (listing-refused (start r .args .file .now) _ (r .before .check .ensures) (r .if1 .taken)) (c .before .before .write-refused .ensures)
 
 holding-room-requires : tie.Need-holding-room-requires
 holding-room-requires c κs = search needs

@@ -4,6 +4,16 @@ use borrow.Author.Needs.{needs}
 use Rattle.tool.proofs.write_refused.Statement.{statement}
 use Rattle.tool.proofs.write_refused.Tie as tie
 
+-- from the end of the call back to where the number was written, from there to the word before it, and to the start
+abbrev start : tie.After-write-words → tie.Start
+start word = word .before .before .before .before
+
+abbrev word : tie.After-write-column → tie.After-write-words
+word number = number .before .before .before .before
+
+abbrev number : tie.After-slice-known4 → tie.After-write-column
+number c = c .before .before .before .before .before .before
+
 slice-aggregate-write-words : tie.Need-slice-aggregate-write-words
 slice-aggregate-write-words c = search needs
 
@@ -21,11 +31,9 @@ same-length c = search needs
 
 returns : tie.Need-returns
 returns c =
-    let ended = c .before .before in
-    let numbered = ended .before .before .before .before in
-    let worded = numbered .before .before .before .before in
-    let start = worded .before .before .before .before in
-    refused-written (start .args .number) (worded .write-words .ensures) (numbered .write-column .ensures .0) (ended .write-byte .ensures)
+    let n = number c in
+    let w = word n in
+    refused-written (start w .args .number) (w .write-words .ensures) (n .write-column .ensures .0) (c .before .before .write-byte .ensures)
 
 pub write-refused-spec : {M : Type 1} → statement M
 write-refused-spec =

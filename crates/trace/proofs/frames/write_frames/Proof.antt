@@ -13,6 +13,16 @@ Inv-loop text₀ at output lengths count next₀ from₀ i₀ text next from i =
 abbrev μ-loop : tie.MeasureT-loop
 μ-loop text₀ at output lengths count next₀ from₀ i₀ text next from i = count - i
 
+-- from the end of a turn back to where the frame's length was read, from there to the turn's start, and to the call's
+abbrev start : tie.At-loop Inv-loop μ-loop → tie.Start Inv-loop μ-loop
+start at = at .before .before .before .before
+
+abbrev turn : tie.After-wide Inv-loop μ-loop → tie.In-loop Inv-loop μ-loop
+turn sized = sized .before .before
+
+abbrev sized : tie.After-slice-known2 Inv-loop μ-loop → tie.After-wide Inv-loop μ-loop
+sized c = c .before .before .before .before
+
 loop-holds : tie.Need-loop-holds Inv-loop μ-loop
 loop-holds c = framing-begin _ _ _ _ _ (omega (arith, c .before .before .before .pre .1))
 
@@ -27,11 +37,16 @@ wide-requires c κs = search needs
 
 write-frame-requires : tie.Need-write-frame-requires Inv-loop μ-loop
 write-frame-requires c κs =
-    frame-room (c .before .before .before .before .loop .inv) (c .before .before .before .before .before .before .before .before .pre .0) _ (c .before .wide .ensures .0) (c .before .before .before .loop-test .taken) (c .before .before .before .before .before .before .before .before .pre .1)
+    let z = c .before in
+    let t = turn z in
+    let given = start (t .before) .pre in
+    frame-room (t .before .loop .inv) (given .0) _ (z .wide .ensures .0) (t .loop-test .taken) (given .1)
 
 add-from : tie.Need-add-from Inv-loop μ-loop
 add-from c =
-    omega (arith, frame-within (c .before .before .before .before .before .before .before .loop .inv) (c .before .before .before .before .before .before .before .before .before .before .before .pre .0) _ (c .before .before .before .before .wide .ensures .0) (c .before .before .before .before .before .before .loop-test .taken))
+    let z = sized c in
+    let t = turn z in
+    omega (arith, frame-within (t .before .loop .inv) (start (t .before) .pre .0) _ (z .wide .ensures .0) (t .loop-test .taken))
 
 add-i : tie.Need-add-i Inv-loop μ-loop
 add-i c = search needs
@@ -41,7 +56,10 @@ loop-less c = search needs
 
 loop-again : tie.Need-loop-again Inv-loop μ-loop
 loop-again c =
-    framing-turn (c .before .before .before .before .before .before .before .loop .inv) (c .before .before .before .before .before .before .before .before .before .before .before .pre .0) _ (c .before .before .before .before .wide .ensures .0) (c .before .before .before .before .before .before .loop-test .taken) (c .before .before .write-frame .ensures .0) (c .before .before .write-frame .ensures .1)
+    let z = sized c in
+    let t = turn z in
+    let wrote = c .before .before .write-frame .ensures in
+    framing-turn (t .before .loop .inv) (start (t .before) .pre .0) _ (z .wide .ensures .0) (t .loop-test .taken) (wrote .0) (wrote .1)
 
 same-length : tie.Need-same-length Inv-loop μ-loop
 same-length c = wrote-length (c .before .loop .inv .wrote)
