@@ -30,13 +30,6 @@ const SHORTEST_PACKET: usize = 8;
 
 const LONGEST_PACKET: usize = 4100;
 
-// A byte as a number to count with. The contract says its bound, which a sum needs.
-pub fn wide(byte: u8) -> usize
-    ensures { λ r. ⌜ (r ≡ byte) × (r < 256) ⌝ }
-{
-    byte as usize
-}
-
 // How many bytes stand before the session ID.
 pub fn lead_of(transport: u32) -> usize
     ensures { λ r. ⌜ (r ≡ leadOf transport) × (r ≤ udpLead) ⌝ }
@@ -90,14 +83,14 @@ pub fn flow_id(sub: &[u8]) -> usize
     requires { ⌜ headerLength ≤ length (now sub) ⌝ }
     ensures { λ r. ⌜ (r ≡ flowId (now (sub .entry))) × (r < 8) ⌝ }
 {
-    wide(sub[0] % 8)
+    octets::wide_u8(sub[0] % 8)
 }
 
 pub fn segment_count(sub: &[u8]) -> usize
     requires { ⌜ headerLength ≤ length (now sub) ⌝ }
     ensures { λ r. ⌜ (r ≡ segmentCount (now (sub .entry))) × (r < 128) ⌝ }
 {
-    wide(sub[1] % 128)
+    octets::wide_u8(sub[1] % 128)
 }
 
 // The sequence number.
