@@ -10,14 +10,27 @@ use borrow.Author.Needs.{needs}
 use Rattle.sender.proofs.place.Statement.{statement}
 use Rattle.sender.proofs.place.Tie as tie
 
-mul-wide : tie.Need-mul-wide
-mul-wide c = search needs
+-- from the end back to where the entry is written, its size is known, and the length of its frame; and from there to the start
+abbrev entered : tie.After-struct-known7 → tie.After-write-u16
+entered c = c .before .before .before .before .before .before
 
-shared-slice-read-wide : tie.Need-shared-slice-read-wide
-shared-slice-read-wide c = search needs
+abbrev sized : tie.After-write-u16 → tie.After-least
+sized entry = entry .before .before .before .before .before
 
-wide-requires : tie.Need-wide-requires
-wide-requires c κs = search needs
+abbrev measured : tie.After-least → tie.After-wide-u16
+measured size = size .before .before .before
+
+abbrev start : tie.After-wide-u16 → tie.Start
+start long = long .before .before .before .before .before
+
+mul-wide-u16 : tie.Need-mul-wide-u16
+mul-wide-u16 c = search needs
+
+shared-slice-read-wide-u16 : tie.Need-shared-slice-read-wide-u16
+shared-slice-read-wide-u16 c = search needs
+
+wide-u16-requires : tie.Need-wide-u16-requires
+wide-u16-requires c κs = search needs
 
 sub-left : tie.Need-sub-left
 sub-left c = search needs
@@ -53,30 +66,37 @@ add-count : tie.Need-add-count
 add-count c = search needs
 
 add-bytes : tie.Need-add-bytes
-add-bytes c = let s = c .before .before .before .before .before .before .before .before .before .before .before .before .before .before .before .before .before .before .before in omega (arith, c .before .before .before .before .before .before .before .before .before .before .before .least .ensures, s .pre .few-bytes)
+add-bytes c =
+    let size = sized (entered c) in
+    omega (arith, size .least .ensures, start (measured size) .pre .few-bytes)
 
 same-length : tie.Need-same-length
 same-length c = search needs
 
 returns : tie.Need-returns
 returns c =
-    let s = c .before .before .before .before .before .before .before .before .before .before .before .before .before .before .before .before .before .before .before in
-    let a = s .args in
-    let long = c .before .before .before .before .before .before .before .before .before .before .before .before .before .before .wide in
-    let size = c .before .before .before .before .before .before .before .before .before .before .before .least in
+    let entry = entered c in
+    let number = entry .before .entry-number in
+    let size = sized entry .least in
+    let long = measured (sized entry) .wide-u16 in
+    let next = c .before .before .position-after in
+    let a = start (measured (sized entry)) .args in
     let at = entriesAt + entryWidth * a .progress .count in (
-      placed-next (a .lengths .now) (a .progress) (long .result) (size .result) (c .before .before .position-after .result) (long .ensures .0) (size .ensures) (c .before .before .position-after .ensures),
-      c .before .before .before .before .before .before .write-u16 .ensures
-          ∙ ap (put (a .output .now) at) (placed-entry (a .lengths .now) (a .progress) (long .result) (size .result) (c .before .before .before .before .before .before .before .entry-number .result) (long .ensures .0) (size .ensures) (c .before .before .before .before .before .before .before .entry-number .ensures)),
+      placed-next (a .lengths .now) (a .progress) (long .result) (size .result) (next .result) (long .ensures .0) (size .ensures)
+          (next .ensures),
+      entry .write-u16 .ensures
+          ∙ ap (put (a .output .now) at)
+          (placed-entry (a .lengths .now) (a .progress) (long .result) (size .result) (number .result) (long .ensures .0) (size .ensures)
+          (number .ensures)),
     )
 
 pub place-spec : {M : Type 1} → statement M
 place-spec =
     tie.close
     (tie.spec
-    mul-wide
-    shared-slice-read-wide
-    wide-requires
+    mul-wide-u16
+    shared-slice-read-wide-u16
+    wide-u16-requires
     sub-left
     sub-least
     least-requires
