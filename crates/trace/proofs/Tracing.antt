@@ -8,9 +8,9 @@ use borrow.Author.Tests.{eq-eqb, ne-eqb}
 use lib.ListN.{length}
 use Rattle.octets.specs.Bytes.{byteAt}
 use Rattle.octets.specs.Count.{sumTo, upTo}
-use Rattle.octets.specs.Stretch.{part, joined, cutBy}
+use Rattle.octets.specs.Stretch.{part, joined}
 use Rattle.octets.proofs.Counts.{sum-none, sum-more, sum-within}
-use Rattle.octets.proofs.Stretches.{length-part, part-none, part-more, cut-more, total-part, joined-map-more}
+use Rattle.octets.proofs.Stretches.{length-part, part-none, cut-part-none, cut-part-more, joined-none, joined-map-more}
 use Rattle.flow.specs.declared.Flow.{Flow}
 use Rattle.flow.specs.Flow.{flows, longest}
 use Rattle.table.specs.declared.Row.{Row}
@@ -29,7 +29,8 @@ use Rattle.trace.specs.Inside.{frameRoom, framesRoom, flowRoom, rowLineR
 
 -- The line of a frame: a word, its bytes, the end of the line.
 pub frame-written : {a b c d : List ℕ} {at behind-word behind-bytes next : ℕ} (bytes : List ℕ) (from size : ℕ) →
-    Wrote a b at behind-word (ascii " frame ") → Wrote b c behind-word behind-bytes (hex (part bytes from size)) → behind-bytes ≡ behind-word + 2 * size →
+    Wrote a b at behind-word (ascii " frame ") → Wrote b c behind-word behind-bytes (hex (part bytes from size)) →
+    behind-bytes ≡ behind-word + 2 * size →
     Wrote c d behind-bytes next newline → Wrote a d at next (frameLine (part bytes from size)) × (next ≡ at + frameRoom + 2 * size)
 unfolding frameLine
 frame-written {at = at} {behind-word = behind-word} {behind-bytes = behind-bytes} {next = next} bytes from size v w e x =
@@ -46,19 +47,11 @@ pub record Framing (before : List ℕ) (at : ℕ) (output lengths : List ℕ) (c
 
 -- no frames, no lines
 no-frames : (output lengths : List ℕ) → joined (map frameLine (framesFound 0 lengths output)) ≡ []
-unfolding cutBy joined
-no-frames output lengths = ap (λ (l : List ℕ). joined (map frameLine (cutBy l output))) (part-none lengths 0)
-
--- one frame more: it starts behind the bytes of those before it
-frames-more : (output lengths : List ℕ) (i : ℕ) → i < length lengths →
-    framesFound (i + 1) lengths output ≡ framesFound i lengths output ++ (part output (sumTo (byteAt lengths) i) (byteAt lengths i) ∷ [])
-frames-more output lengths i h =
-    ap (λ (l : List ℕ). cutBy l output) (part-more lengths i h)
-    ∙ cut-more (part lengths 0 i) (byteAt lengths i) output
-    ∙ ap (λ (n : ℕ). framesFound i lengths output ++ (part output n (byteAt lengths i) ∷ [])) (total-part lengths i (omega (arith, h)))
+no-frames output lengths = ap (λ (l : List (List ℕ)). joined (map frameLine l)) (cut-part-none lengths output) ∙ joined-none
 
 -- nothing is written yet
-pub framing-begin : (before : List ℕ) (at : ℕ) (output lengths : List ℕ) (count : ℕ) → at ≤ length before → Framing before at output lengths count before at 0 0
+pub framing-begin : (before : List ℕ) (at : ℕ) (output lengths : List ℕ) (count : ℕ) → at ≤ length before →
+    Framing before at output lengths count before at 0 0
 framing-begin before at output lengths count h =
     record {
       within = omega arith;
@@ -67,7 +60,8 @@ framing-begin before at output lengths count h =
       next-is = omega arith;
     }
 
-module _ {before : List ℕ} {at : ℕ} {output lengths : List ℕ} {count : ℕ} {text : List ℕ} {next from i : ℕ} (f : Framing before at output lengths count text next from i)
+module _ {before : List ℕ} {at : ℕ} {output lengths : List ℕ} {count : ℕ} {text : List ℕ} {next from i : ℕ}
+    (f : Framing before at output lengths count text next from i)
     (found : Findable output lengths count) where
   -- one more frame ends within what a call delivers
   pub frame-within : (size : ℕ) → size ≡ byteAt lengths i → i < count → from + size ≤ mostBytes
@@ -81,13 +75,14 @@ module _ {before : List ℕ} {at : ℕ} {output lengths : List ℕ} {count : ℕ
       (omega (arith, inside, more, long, f .next-is, found .few, wrote-length (f .wrote)), omega (arith, inside, found .output-long))
 
   -- its line behind the others
-  pub framing-turn : {text′ : List ℕ} {next′ : ℕ} (size : ℕ) → size ≡ byteAt lengths i → i < count → Wrote text text′ next next′ (frameLine (part output from size)) →
+  pub framing-turn : {text′ : List ℕ} {next′ : ℕ} (size : ℕ) → size ≡ byteAt lengths i → i < count →
+      Wrote text text′ next next′ (frameLine (part output from size)) →
       next′ ≡ next + frameRoom + 2 * size → Framing before at output lengths count text′ next′ (from + size) (i + 1)
   framing-turn {text′} {next′} size e more w n =
       let start : part output from size ≡ part output (sumTo (byteAt lengths) i) (byteAt lengths i) =
       ap (λ (s : ℕ). part output from s) e ∙ ap (λ (s : ℕ). part output s (byteAt lengths i)) (f .from-is) in
       let last = part output (sumTo (byteAt lengths) i) (byteAt lengths i) in
-      let longer = frames-more output lengths i (omega (arith, more, found .few, found .lengths-long)) in
+      let longer = cut-part-more lengths output i (omega (arith, more, found .few, found .lengths-long)) in
       record {
         within = omega (arith, more);
         wrote =
@@ -101,7 +96,8 @@ module _ {before : List ℕ} {at : ℕ} {output lengths : List ℕ} {count : ℕ
       }
 
   -- all frames
-  pub framing-end : count ≤ i → Wrote before text at next (joined (map frameLine (framesFound count lengths output))) × (next ≤ at + framesRoom)
+  pub framing-end : count ≤ i → Wrote before text at next (joined (map frameLine (framesFound count lengths output)))
+      × (next ≤ at + framesRoom)
   framing-end past =
       let all : i ≡ count = omega (arith, f .within, past) in
       let sum : from ≡ sumTo (byteAt lengths) count = f .from-is ∙ ap (sumTo (byteAt lengths)) all in (
@@ -174,14 +170,16 @@ module _ {a b : List ℕ} {at behind-held : ℕ} (r k : ℕ) (f : Flow) (few : f
         omega (arith, one, numbers .1, wrote-length (numbers .0), wrote-length gap, same, few, long)
 
     module _ {d : List ℕ} {behind-bytes : ℕ} (holding : List ℕ) (place : ℕ) (there : place ≡ placeOf r k)
-        (bytes : Wrote c d behind-space behind-bytes (hexOrDash (part holding place held))) (bytes-short : behind-bytes ≤ behind-space + 1 + 2 * held) where
+        (bytes : Wrote c d behind-space behind-bytes (hexOrDash (part holding place held)))
+        (bytes-short : behind-bytes ≤ behind-space + 1 + 2 * held) where
       pub end-room : behind-bytes < length d
       end-room =
           let one : behind-space ≡ behind-held + 1 = gap .next-place in
           omega (arith, one, bytes-short, numbers .1, wrote-length (numbers .0), wrote-length gap, wrote-length bytes, same, few, long)
 
       -- the whole line
-      line-written : {e : List ℕ} {next : ℕ} → Wrote d e behind-bytes next newline → Wrote a e at next (flowLine r k f (part holding (placeOf r k) (f .held)))
+      line-written : {e : List ℕ} {next : ℕ} → Wrote d e behind-bytes next newline →
+          Wrote a e at next (flowLine r k f (part holding (placeOf r k) (f .held)))
       unfolding flowLine
       line-written end =
           let stretch : part holding place held ≡ part holding (placeOf r k) (f .held) =
@@ -195,7 +193,8 @@ module _ {a b : List ℕ} {at behind-held : ℕ} (r k : ℕ) (f : Flow) (few : f
       flow-written {e} {next} heard end =
           let one : behind-space ≡ behind-held + 1 = gap .next-place in
           let last : next ≡ behind-bytes + 1 = end .next-place in (
-            wrote-as (ap (λ (b : Bool). cond b [] (flowLine r k f (part holding (placeOf r k) (f .held)))) (sym (ne-eqb (f .heard) 0 heard))) (line-written end),
+            wrote-as (ap (λ (b : Bool). cond b [] (flowLine r k f (part holding (placeOf r k) (f .held))))
+                (sym (ne-eqb (f .heard) 0 heard))) (line-written end),
             omega (arith, one, last, bytes-short, numbers .1, same, few),
           )
 
@@ -220,7 +219,8 @@ pub row-closed : (a : List ℕ) (at : ℕ) (holding : List ℕ) (r : ℕ) (row :
     Wrote a a at at (rowText holding r row) × (at ≤ at + rowRoom)
 unfolding rowText
 row-closed a at holding r row closed long = (
-  wrote-as (ap (λ (b : Bool). cond b [] (rowLine r row ++ joined (upTo (flowsOf holding r row) flows))) (sym closed)) (wrote-none a at (omega (arith, long))),
+  wrote-as (ap (λ (b : Bool). cond b [] (rowLine r row ++ joined (upTo (flowsOf holding r row) flows))) (sym closed))
+      (wrote-none a at (omega (arith, long))),
   omega arith,
 )
 
@@ -231,7 +231,8 @@ pub row-written : {a b c : List ℕ} {at behind-line next : ℕ} (holding : List
     Wrote a c at next (rowText holding r row) × (next ≤ at + rowRoom)
 unfolding rowText
 row-written holding r row unclosed v v-short all = (
-  wrote-as (ap (λ (b : Bool). cond b [] (rowLine r row ++ joined (upTo (flowsOf holding r row) flows))) (sym unclosed)) (wrote-then v (all .0)),
+  wrote-as (ap (λ (b : Bool). cond b [] (rowLine r row ++ joined (upTo (flowsOf holding r row) flows))) (sym unclosed))
+      (wrote-then v (all .0)),
   omega (arith, v-short, all .1),
 )
 

@@ -3,25 +3,54 @@ use Prim.Native.Nat.{_+_, _≤_}
 use native.Mathlib.Omega.{arith}
 use Rattle.text.specs.Text.{Wrote}
 use Rattle.text.proofs.Writing.{wrote-length}
-use Rattle.trace.proofs.Tracing.{flow-fresh, place-inside, flowNumbers, numbersRoom, numbers-written, space-room, held-room, end-room, flow-written}
+use Rattle.trace.proofs.Tracing.{flow-fresh, place-inside, flowNumbers, numbersRoom, numbers-written}
+use Rattle.trace.proofs.Tracing.{space-room, held-room, end-room, flow-written}
 use borrow.Author.Needs.{needs}
 use Rattle.trace.proofs.rows.write_flow.Statement.{statement}
 use Rattle.trace.proofs.rows.write_flow.Tie as tie
 
--- the place where the function starts, seen from behind the numbers
+-- from behind the numbers back to each of them, to the word, and to the start
+abbrev expected : tie.After-write-column3 → tie.After-write-column2
+expected c = c .before .before .before .before .before
+
+abbrev heard : tie.After-write-column2 → tie.After-write-column
+heard c = c .before .before .before .before .before
+
+abbrev rowed : tie.After-write-column → tie.After-write-decimal
+rowed c = c .before .before .before .before
+
+abbrev worded : tie.After-write-decimal → tie.After-write-words
+worded c = c .before .before .before .before
+
+abbrev word : tie.After-write-column3 → tie.After-write-words
+word c = worded (rowed (heard (expected c)))
+
 abbrev start : tie.After-write-column3 → tie.Start
-start c = c .before .before .before .before .before .before .before .before .before .before .before .before .before .before .before .before .before .before .before .before .before .before .before .before .before
+start c = word c .before .before .before .before .before .before .before
+
+-- from where the held bytes are counted back to their place, to the space before them, and to the numbers
+abbrev placed : tie.After-wide-u16 → tie.After-place-of
+placed counted = counted .before .before
+
+abbrev spaced : tie.After-wide-u16 → tie.After-write-byte
+spaced counted = placed counted .before .before .before
+
+abbrev numbered : tie.After-wide-u16 → tie.After-write-column3
+numbered counted = spaced counted .before .before .before .before
 
 -- the numbers of the flow are written
 numbers : (c : tie.After-write-column3) →
-    Wrote (start c .args .text .now) (c .write-column3 .last .0) (start c .args .at) (c .write-column3 .result) (flowNumbers (start c .args .r) (start c .args .k) (start c .args .flow))
-    × (c .write-column3 .result ≤ start c .args .at + numbersRoom)
+    let a = start c .args in
+    Wrote (a .text .now) (c .write-column3 .last .0) (a .at) (c .write-column3 .result) (flowNumbers (a .r) (a .k) (a .flow))
+    × (c .write-column3 .result ≤ a .at + numbersRoom)
 numbers c =
-    numbers-written (start c .args .r) (start c .args .k) (start c .args .flow) (c .before .before .before .before .before .before .before .before .before .before .before .before .before .before .before .before .before .before .write-words .ensures)
-    (c .before .before .before .before .before .before .before .before .before .before .before .before .before .before .write-decimal .ensures .0) (c .before .before .before .before .before .before .before .before .before .before .before .before .before .before .write-decimal .ensures .1)
-    (c .before .before .before .before .before .before .before .before .before .before .write-column .ensures .0) (c .before .before .before .before .before .before .before .before .before .before .write-column .ensures .1)
-    (c .before .before .before .before .before .write-column2 .ensures .0) (c .before .before .before .before .before .write-column2 .ensures .1)
-    (c .write-column3 .ensures .0) (c .write-column3 .ensures .1)
+    let a = start c .args in
+    let row = rowed (heard (expected c)) .write-decimal .ensures in
+    let first = heard (expected c) .write-column .ensures in
+    let second = expected c .write-column2 .ensures in
+    let third = c .write-column3 .ensures in
+    numbers-written (a .r) (a .k) (a .flow) (word c .write-words .ensures) (row .0) (row .1) (first .0) (first .1) (second .0) (second .1)
+    (third .0) (third .1)
 
 returns : tie.Need-returns
 returns c =
@@ -68,42 +97,56 @@ write-byte-requires c κs =
 place-of-requires : tie.Need-place-of-requires
 place-of-requires c κs = let p = start (c .before .before .before .before .before .before) .pre in (p .0 .0, p .0 .1)
 
-wide-requires : tie.Need-wide-requires
-wide-requires c κs = search needs
+wide-u16-requires : tie.Need-wide-u16-requires
+wide-u16-requires c κs = search needs
 
 write-held-requires : tie.Need-write-held-requires
 write-held-requires c κs =
-    let behind = c .before .before .before .before .before .before .before .before .before in
+    let behind = numbered c in
     let a = start behind .args in
     let p = start behind .pre in
-    let inside = place-inside (a .r) (a .k) (a .flow .held) _ (p .0 .0) (p .0 .1) (p .0 .2) (p .1 .0) in
-    (held-room (a .r) (a .k) (a .flow) (p .0 .2) (p .1 .1) (numbers behind) (c .before .before .before .before .before .write-byte .ensures) _ (c .wide .ensures .0), omega (arith, c .before .before .place-of .ensures, c .wide .ensures .0, inside))
+    let inside = place-inside (a .r) (a .k) (a .flow .held) _ (p .0 .0) (p .0 .1) (p .0 .2) (p .1 .0) in (
+      held-room (a .r) (a .k) (a .flow) (p .0 .2) (p .1 .1) (numbers behind) (spaced c .write-byte .ensures) _ (c .wide-u16 .ensures .0),
+      omega (arith, placed c .place-of .ensures, c .wide-u16 .ensures .0, inside),
+    )
 
 write-byte-requires-2 : tie.Need-write-byte-requires-2
 write-byte-requires-2 c κs =
-    let behind = c .before .before .before .before .before .before .before .before .before .before .before .before .before in
+    let held = c .before .before .before .write-held .ensures in
+    let counted = c .before .before .before .before in
+    let behind = numbered counted in
     let a = start behind .args in
     let p = start behind .pre in
-    end-room (a .r) (a .k) (a .flow) (p .0 .2) (p .1 .1) (numbers behind) (c .before .before .before .before .before .before .before .before .before .write-byte .ensures) _ (c .before .before .before .before .wide .ensures .0)
-    (a .holding .now) _ (c .before .before .before .before .before .before .place-of .ensures) (c .before .before .before .write-held .ensures .0) (c .before .before .before .write-held .ensures .1)
+    end-room (a .r) (a .k) (a .flow) (p .0 .2) (p .1 .1) (numbers behind) (spaced counted .write-byte .ensures) _
+    (counted .wide-u16 .ensures .0)
+    (a .holding .now) _ (placed counted .place-of .ensures) (held .0) (held .1)
 
 same-length : tie.Need-same-length
 same-length c =
-    let behind = c .before .before .before .before .before .before .before .before .before .before .before .before .before .before .before .before in
+    let ended = c .before .before in
+    let held = ended .before .before .before .before .write-held .ensures in
+    let counted = ended .before .before .before .before .before in
+    let behind = numbered counted in
     let a = start behind .args in
     let p = start behind .pre in
-    wrote-length (flow-written (a .r) (a .k) (a .flow) (p .0 .2) (p .1 .1) (numbers behind) (c .before .before .before .before .before .before .before .before .before .before .before .before .write-byte .ensures) _ (c .before .before .before .before .before .before .before .wide .ensures .0)
-    (a .holding .now) _ (c .before .before .before .before .before .before .before .before .before .place-of .ensures) (c .before .before .before .before .before .before .write-held .ensures .0) (c .before .before .before .before .before .before .write-held .ensures .1)
-    (behind .before .before .before .before .before .before .before .before .before .before .before .before .before .before .before .before .before .before .before .before .before .if1 .left) (c .before .before .write-byte2 .ensures) .0)
+    wrote-length
+    (flow-written (a .r) (a .k) (a .flow) (p .0 .2) (p .1 .1) (numbers behind) (spaced counted .write-byte .ensures) _
+    (counted .wide-u16 .ensures .0)
+    (a .holding .now) _ (placed counted .place-of .ensures) (held .0) (held .1) (word behind .before .before .before .if1 .left)
+    (ended .write-byte2 .ensures) .0)
 
 returns-2 : tie.Need-returns-2
 returns-2 c =
-    let behind = c .before .before .before .before .before .before .before .before .before .before .before .before .before .before .before .before in
+    let ended = c .before .before in
+    let held = ended .before .before .before .before .write-held .ensures in
+    let counted = ended .before .before .before .before .before in
+    let behind = numbered counted in
     let a = start behind .args in
     let p = start behind .pre in
-    flow-written (a .r) (a .k) (a .flow) (p .0 .2) (p .1 .1) (numbers behind) (c .before .before .before .before .before .before .before .before .before .before .before .before .write-byte .ensures) _ (c .before .before .before .before .before .before .before .wide .ensures .0)
-    (a .holding .now) _ (c .before .before .before .before .before .before .before .before .before .place-of .ensures) (c .before .before .before .before .before .before .write-held .ensures .0) (c .before .before .before .before .before .before .write-held .ensures .1)
-    (behind .before .before .before .before .before .before .before .before .before .before .before .before .before .before .before .before .before .before .before .before .before .if1 .left) (c .before .before .write-byte2 .ensures)
+    flow-written (a .r) (a .k) (a .flow) (p .0 .2) (p .1 .1) (numbers behind) (spaced counted .write-byte .ensures) _
+    (counted .wide-u16 .ensures .0)
+    (a .holding .now) _ (placed counted .place-of .ensures) (held .0) (held .1) (word behind .before .before .before .if1 .left)
+    (ended .write-byte2 .ensures)
 
 pub write-flow-spec : {M : Type 1} → statement M
 write-flow-spec =
@@ -122,7 +165,7 @@ write-flow-spec =
     write-column-requires-3
     write-byte-requires
     place-of-requires
-    wide-requires
+    wide-u16-requires
     write-held-requires
     write-byte-requires-2
     same-length
