@@ -2,4 +2,5 @@ pub mod Stretches
 pub mod Counts
 pub mod Elements
 pub mod Numbers
+pub mod Distinct
 pub mod Examples
