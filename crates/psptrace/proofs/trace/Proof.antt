@@ -1,7 +1,6 @@
 -- `psptrace::trace` is safe since what is written out lies in the room for it, and the slices begin as zeros.
-use mathlib.Core.Path.{sym}
 use native.Mathlib.Omega.{arith}
-use lib.Seq.{length-take-le}
+use Rattle.octets.proofs.Stretches.{length-sliced}
 use Rattle.text.proofs.Writing.{wrote-length}
 use borrow.Author.Needs.{needs}
 use Rattle.psptrace.proofs.trace.Statement.{statement}
@@ -18,7 +17,7 @@ slice-reshare-prefix-write-all c = search needs
 
 slice-aggregate-write-all : tie.Need-slice-aggregate-write-all
 slice-aggregate-write-all c =
-    let w = c .before .before .before .write-refused .ensures in sym (length-take-le _ _ (omega (arith, w .next-place, w .inside, wrote-length w)))
+    let w = c .before .before .before .write-refused .ensures in length-sliced _ _ (omega (arith, w .next-place, w .inside, wrote-length w))
 
 write-all-requires : tie.Need-write-all-requires
 write-all-requires c κs = search needs
@@ -37,7 +36,7 @@ slice-reshare-prefix-write-all-2 c = search needs
 
 slice-aggregate-write-all-2 : tie.Need-slice-aggregate-write-all-2
 slice-aggregate-write-all-2 c =
-    let w = c .before .before .before .write-heading .ensures in sym (length-take-le _ _ (omega (arith, w .next-place, w .inside, wrote-length w)))
+    let w = c .before .before .before .write-heading .ensures in length-sliced _ _ (omega (arith, w .next-place, w .inside, wrote-length w))
 
 write-all-requires-2 : tie.Need-write-all-requires-2
 write-all-requires-2 c κs = search needs
