@@ -13,18 +13,16 @@ use Rattle.octets.specs.Bytes.{byteAt, two, AllBytes}
 use Rattle.octets.specs.Each.{Each}
 use Rattle.octets.specs.Stretch.{part, joined}
 use Rattle.octets.specs.Count.{any, sumTo, upTo}
-use Rattle.octets.proofs.Stretches.{length-part, byte-part, part-none, part-part, part-part-front, part-two, part-all, joined-map-more, joined-apart, part-joined}
+use Rattle.octets.proofs.Stretches.{length-part, byte-part, part-none, part-part, part-part-front, part-two, part-all, append-same}
+use Rattle.octets.proofs.Stretches.{joined-none, joined-map-more, joined-apart, part-joined, length-joined-none}
 use Rattle.octets.proofs.Numbers.{two-read}
 use Rattle.octets.proofs.Counts.{or-false-left, or-false-right, none-at, sum-within, length-up-to, up-to-more, none-more, sum-more}
 use Rattle.capture.specs.Write.{Right, Writable}
 use Rattle.capture.proofs.Writing.{contents-length, file-length}
 use Rattle.capture.proofs.Checking.{Sound, is-sound, sound-passes}
-use Rattle.capture.specs.File.{headLength, entryLength, bodyIn, kinds, isKind, takesLength, entryCount, kindAt, secondAt, bodyLength, bodyStart}
+use Rattle.capture.specs.File.{headLength, entryLength, bodyIn, kinds, isKind, takesLength, entryCount, kindAt, secondAt, bodyLength}
+use Rattle.capture.specs.File.{bodyStart}
 use Rattle.capture.specs.File.{wrongParts, wrongEntry, fileRefusal, Entry, nthEntry, entries, contentOf, bodyOf, fileOf}
-
--- three stretches back to back, each of which is as it was
-pub three-same : {a b c x y z : List ℕ} → a ≡ x → b ≡ y → c ≡ z → a ++ b ++ c ≡ x ++ y ++ z
-three-same p q r = rw (p, q, r) refl
 
 -- A file read with its head and width: how many entries there are, where each stands in the contents, and what is read of each.
 abbrev count : List ℕ → ℕ
@@ -75,7 +73,8 @@ module _ (file : List ℕ) (bytes : AllBytes file) (sound : Sound file) where
     -- the kind and the zero byte are written again as they stood, and so is the length of the body
     marks-same : kindOf file k ∷ 0 ∷ [] ≡ part file (entryAt k) 2
     marks-same =
-        let zero-byte = second-zero (kindOf file k) (secondOf file k) (sizeOf file k) (none-at (wrong file) (count file) k (sound .none-wrong) not-past) in
+        let zero-byte =
+        second-zero (kindOf file k) (secondOf file k) (sizeOf file k) (none-at (wrong file) (count file) k (sound .none-wrong) not-past) in
         ap (λ (second : ℕ). kindOf file k ∷ second ∷ []) (sym zero-byte) ∙ sym (part-two file (entryAt k) (omega (arith, entry-inside)))
 
     size-same : two (length (nthEntry file k .body)) ≡ part file (entryAt k + 2) 2
@@ -85,13 +84,14 @@ module _ (file : List ℕ) (bytes : AllBytes file) (sound : Sound file) where
     content-same : contentOf (nthEntry file k) ≡ part file (entryAt k) entryLength
     unfolding nthEntry
     content-same =
-        ap (λ (size : List ℕ). kindOf file k ∷ 0 ∷ size) size-same ∙ ap (λ (marks : List ℕ). marks ++ part file (entryAt k + 2) 2) marks-same
+        ap (λ (size : List ℕ). kindOf file k ∷ 0 ∷ size) size-same
+        ∙ ap (λ (marks : List ℕ). marks ++ part file (entryAt k + 2) 2) marks-same
         ∙ part-part file (entryAt k) 2 2
 
   -- the first k entries are written again as their part of the contents
   contents-same : (k : ℕ) → k ≤ count file → joined (map contentOf (upTo (nthEntry file) k)) ≡ part file headLength (entryLength * k)
-  unfolding upTo joined
-  contents-same zero h = sym (part-none file headLength)
+  unfolding upTo
+  contents-same zero h = joined-none ∙ sym (part-none file headLength)
   contents-same (suc k) h =
       let more : entryLength * k + entryLength ≡ entryLength * suc k = omega arith in
       joined-map-more contentOf (upTo (nthEntry file) k) (nthEntry file k)
@@ -99,9 +99,10 @@ module _ (file : List ℕ) (bytes : AllBytes file) (sound : Sound file) where
       ∙ ap (part file headLength) more
 
   -- .. and their bodies as they stood behind the contents
-  bodies-same : (k : ℕ) → k ≤ count file → joined (map bodyOf (upTo (nthEntry file) k)) ≡ part file (entryAt (count file)) (sumTo (sizeOf file) k)
-  unfolding upTo joined sumTo nthEntry bodyStart
-  bodies-same zero h = sym (part-none file (entryAt (count file)))
+  bodies-same : (k : ℕ) → k ≤ count file →
+      joined (map bodyOf (upTo (nthEntry file) k)) ≡ part file (entryAt (count file)) (sumTo (sizeOf file) k)
+  unfolding upTo sumTo nthEntry bodyStart
+  bodies-same zero h = joined-none ∙ sym (part-none file (entryAt (count file)))
   bodies-same (suc k) h =
       joined-map-more bodyOf (upTo (nthEntry file) k) (nthEntry file k)
       ∙ rw (bodies-same k (omega arith)) (part-part file (entryAt (count file)) (sumTo (sizeOf file) k) (sizeOf file k))
@@ -117,7 +118,7 @@ module _ (file : List ℕ) (bytes : AllBytes file) (sound : Sound file) where
   all-same =
       let n = count file in
       let all = sumTo (sizeOf file) n in
-      three-same head-same (contents-same n (omega arith)) (bodies-same n (omega arith))
+      append-same (append-same head-same (contents-same n (omega arith))) (bodies-same n (omega arith))
       ∙ ap (λ (front : List ℕ). front ++ part file (entryAt n) all) (part-part-front file headLength (entryLength * n))
       ∙ part-part-front file (entryAt n) all
       ∙ ap (part file 0) (sound .ends)
@@ -217,7 +218,8 @@ module _ (es : List Entry) (writable : Writable es) where
       body-read =
           let head = two (length es) ++ contents es in
           let all = bodies (before ++ e ∷ behind) in
-          let none-behind : fileOf es ≡ head ++ all ++ [] = ap (λ (l : List Entry). head ++ bodies l) split ∙ sym (append-nil (head ++ all)) in
+          let none-behind : fileOf es ≡ head ++ all ++ [] =
+          ap (λ (l : List Entry). head ++ bodies l) split ∙ sym (append-nil (head ++ all)) in
           rw (start-read, size-read) (ap (λ (l : List ℕ). part l (length head + length (bodies before)) (length (e .body))) none-behind
           ∙ part-joined bodyOf head [] before e behind)
 
@@ -243,14 +245,15 @@ module _ (es : List Entry) (writable : Writable es) where
 
   -- before the first there is nothing to read
   read-none : HasRead (fileOf es) []
-  unfolding upTo joined any sumTo
-  read-none = record { these = refl; none-wrong = refl; bodies-counted = refl }
+  unfolding upTo any sumTo
+  read-none = record { these = refl; none-wrong = refl; bodies-counted = sym length-joined-none }
 
   -- the entries behind are read one after the other
   read-on : (before behind : List Entry) → es ≡ before ++ behind → Each Right behind → HasRead (fileOf es) before → HasRead (fileOf es) es
   read-on before [] split right read = subst (HasRead (fileOf es)) (sym (split ∙ append-nil before)) read
   read-on before (e ∷ behind) split right read =
-      read-on (before ++ (e ∷ [])) behind (split ∙ sym (append-snoc before e behind)) (right .1) (read-more before e behind split read (right .0))
+      read-on (before ++ (e ∷ [])) behind (split ∙ sym (append-snoc before e behind)) (right .1)
+      (read-more before e behind split read (right .0))
 
   -- so all are
   read-all : HasRead (fileOf es) es

@@ -1,7 +1,7 @@
 -- How a capture grows, and that the fronts of its two slices are the file of its entries.
 use Prim.Native.Nat.{ℕ, _+_, _*_, _<_, _≤_}
 use mathlib.Core.Path.{_≡_, refl, sym, ap, _∙_}
-use mathlib.Core.Bool.{Bool, true, false, cond}
+use mathlib.Core.Bool.{true}
 use mathlib.Core.List.{List, [], _∷_, _++_, map}
 use native.Mathlib.Omega.{arith}
 use lib.Dec.{leb}
@@ -11,7 +11,8 @@ use Rattle.refusal.proofs.Laws.{and-left, and-right, none-applies}
 use lib.ListN.{length, set, length-append, length-set}
 use Rattle.octets.specs.Bytes.{two}
 use Rattle.octets.specs.Stretch.{part, put, joined}
-use Rattle.octets.proofs.Stretches.{length-put, part-put, put-nil, put-put, put-put-front, put-before, set-set-put, joined-map-more, part-all}
+use Rattle.octets.proofs.Stretches.{length-put, part-put, put-nil, put-put, put-more, put-before, set-set-put}
+use Rattle.octets.proofs.Stretches.{joined-none, joined-map-more, length-joined-none, length-joined-map}
 use Rattle.capture.specs.declared.Writer.{Writer}
 use Rattle.capture.specs.File.{headLength, entryLength, longestFile, mostEntries, Entry, contentOf, bodyOf, fileOf}
 use Rattle.capture.specs.Write.{Fits, added, fileLength, within, writeRefusals, Roomy, Countable, Holds}
@@ -38,10 +39,6 @@ module _ (d : List ℕ) (at kind size : ℕ) (inside : at + entryLength ≤ leng
     pub entry-long : length last ≡ length d
     entry-long = ap length entry-put ∙ length-put d at (kind ∷ 0 ∷ two size) (omega arith)
 
--- the copied body is the body
-pub body-put : (d : List ℕ) (at : ℕ) (body last : List ℕ) → last ≡ put d at (part body 0 (length body)) → last ≡ put d at body
-body-put d at body last e = e ∙ ap (put d at) (part-all body)
-
 -- The limits.
 pub within-facts : (w : Writer) → within w ≡ true → (w .entries ≤ mostEntries) × (fileLength w ≤ longestFile)
 within-facts w e = (
@@ -49,7 +46,8 @@ within-facts w e = (
   leb-true (fileLength w) longestFile (and-right (leb (w .entries) mostEntries) (leb (fileLength w) longestFile) e),
 )
 
-pub within-fits : (contents bodies : List ℕ) (w : Writer) (body : List ℕ) → Roomy contents bodies → Countable w body → within (added w body) ≡ true → Fits contents bodies w body
+pub within-fits : (contents bodies : List ℕ) (w : Writer) (body : List ℕ) → Roomy contents bodies → Countable w body →
+    within (added w body) ≡ true → Fits contents bodies w body
 within-fits contents bodies w body r c e =
     let f = within-facts (added w body) e in
     record {
@@ -57,13 +55,6 @@ within-fits contents bodies w body r c e =
       body-inside = omega (arith, f .1, r .bodies-long);
       body-short = c .body-short;
     }
-
--- what is stored where there is room, and left where there is none
-pub stored : (t : Bool) (x y last : List ℕ) → t ≡ true → last ≡ x → last ≡ cond t x y
-stored t x y last e l = l ∙ sym (ap (λ (b : Bool). cond b x y) e)
-
-pub kept : (t : Bool) (x y : List ℕ) → t ≡ false → y ≡ cond t x y
-kept t x y e = sym (ap (λ (b : Bool). cond b x y) e)
 
 module _ (w : Writer) (long : ℕ) (e : long ≡ fileLength w) where
   pub too-long : longestFile < long → 41 ≡ first (writeRefusals w)
@@ -86,9 +77,7 @@ not-refused w z =
 
 -- Entries, one more each time.
 pub contents-length : (es : List Entry) → length (joined (map contentOf es)) ≡ entryLength * length es
-unfolding joined
-contents-length [] = refl
-contents-length (e ∷ es) = let r = contents-length es in omega arith
+contents-length es = length-joined-map contentOf entryLength (λ e. refl) es
 
 -- how long the file of these entries is
 pub file-length : (es : List Entry) → length (fileOf es) ≡ headLength + entryLength * length es + length (joined (map bodyOf es))
@@ -99,16 +88,21 @@ file-length es =
     omega arith
 
 pub holds-none : (contents bodies : List ℕ) → Holds [] contents bodies contents bodies (record { entries = 0; bytes = 0 })
-unfolding joined
 holds-none contents bodies =
-    record { entries-counted = refl; bytes-counted = refl; contents-now = sym (put-nil contents headLength); bodies-now = sym (put-nil bodies 0) }
+    record {
+      entries-counted = refl;
+      bytes-counted = sym length-joined-none;
+      contents-now = sym (ap (put contents headLength) joined-none ∙ put-nil contents headLength);
+      bodies-now = sym (ap (put bodies 0) joined-none ∙ put-nil bodies 0);
+    }
 
 module _ {es : List Entry} {contents₀ bodies₀ contents bodies : List ℕ} {w : Writer} (h : Holds es contents₀ bodies₀ contents bodies w)
     (contents-room : headLength + entryLength * w .entries ≤ length contents₀) (bodies-room : w .bytes ≤ length bodies₀) where
   front : length (joined (map contentOf es)) ≡ entryLength * w .entries
   front = contents-length es ∙ ap (λ (n : ℕ). entryLength * n) (sym (h .entries-counted))
 
-  pub holds-more : (e : Entry) (contents′ bodies′ : List ℕ) → contents′ ≡ put contents (headLength + entryLength * w .entries) (contentOf e) →
+  pub holds-more : (e : Entry) (contents′ bodies′ : List ℕ) →
+      contents′ ≡ put contents (headLength + entryLength * w .entries) (contentOf e) →
       bodies′ ≡ put bodies (w .bytes) (e .body) → Holds (es ++ (e ∷ [])) contents₀ bodies₀ contents′ bodies′ (added w (e .body))
   holds-more e contents′ bodies′ c b =
       let C = joined (map contentOf es) in
@@ -118,16 +112,11 @@ module _ {es : List Entry} {contents₀ bodies₀ contents bodies : List ℕ} {w
         entries-counted = omega (arith, h .entries-counted, length-append es (e ∷ []));
         bytes-counted = omega (arith, h .bytes-counted, ap length more-bodies, length-append B (e .body));
         contents-now =
-            c
-            ∙ ap (λ (l : List ℕ). put l (headLength + entryLength * w .entries) (contentOf e)) (h .contents-now)
-            ∙ ap (λ (n : ℕ). put (put contents₀ headLength C) (headLength + n) (contentOf e)) (sym front)
-            ∙ put-put contents₀ headLength C (contentOf e) (omega (arith, front))
+            put-more contents₀ headLength C (contentOf e) (headLength + entryLength * w .entries) (omega (arith, front)) (h .contents-now)
+            (omega (arith, front)) c
             ∙ ap (put contents₀ headLength) (sym (joined-map-more contentOf es e));
         bodies-now =
-            b
-            ∙ ap (λ (l : List ℕ). put l (w .bytes) (e .body)) (h .bodies-now)
-            ∙ ap (λ (n : ℕ). put (put bodies₀ 0 B) n (e .body)) (h .bytes-counted)
-            ∙ put-put-front bodies₀ B (e .body) (omega (arith, h .bytes-counted))
+            put-more bodies₀ 0 B (e .body) (w .bytes) (omega (arith, h .bytes-counted)) (h .bodies-now) (omega (arith, h .bytes-counted)) b
             ∙ ap (put bodies₀ 0) (sym more-bodies);
       }
 

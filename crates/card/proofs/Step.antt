@@ -1,19 +1,19 @@
 -- An accepted data call is the step of one flow, on its row and in its place, and no other row, flow, place or byte changes. Everything
 -- that is said of histories rests on this. (That a refused call changes nothing at all is `received-refused`.)
 use Prim.Native.Nat.{ℕ, _+_, _*_, _<_, _≤_}
-use mathlib.Core.Path.{_≡_, refl, sym, ap, _∙_}
+use mathlib.Core.Path.{_≡_, refl, _∙_}
 use mathlib.Core.Logic.{_⊎_, inl, inr, ⊎-elim}
 use mathlib.Core.Bool.{true, false}
-use mathlib.Core.List.{List, []}
+use mathlib.Core.List.{List}
 use native.Mathlib.Omega.{arith}
 use lib.Dec.{eqb, ltb}
-use lib.ListN.{length, set, length-set}
+use lib.ListN.{length, length-set}
 use lib.Seq.{getD-set-same, getD-set-other}
 use borrow.Author.Tests.{eqb-true, eqb-false, ltb-true, ltb-false}
 use Rattle.octets.specs.Bytes.{byteAt}
-use Rattle.octets.specs.Stretch.{part, rest, put, joined, lengthsOf, cutBy}
+use Rattle.octets.specs.Stretch.{part, joined, lengthsOf}
 use Rattle.octets.proofs.Counts.{true-or-false}
-use Rattle.octets.proofs.Stretches.{length-put, length-lengthsOf, byte-put, part-put, part-put-apart, put-front, cut-joined}
+use Rattle.octets.proofs.Stretches.{length-put, length-lengthsOf, byte-put, part-put, part-put-apart, cut-put}
 use Rattle.flow.specs.Flow.{longest, flows}
 use Rattle.packet.specs.Header.{Packet, sub}
 use Rattle.table.specs.declared.Table.{Table}
@@ -34,11 +34,6 @@ pub record Shaped (t : Table) : Type 0 where
 abbrev pub framesIn : Outcome → List (List ℕ)
 framesIn o = framesFound (o .answer .frames) (o .slices .lengths) (o .slices .output)
 
--- where no frame is counted, none is found
-pub none-found : (lengths output : List ℕ) → framesFound 0 lengths output ≡ []
-unfolding part cutBy
-none-found lengths output = refl
-
 -- The outcome o of a call is the step h of flow k in row r.
 pub record StepOf (r k : ℕ) (h : Heard) (t : Table) (s : Slices) (o : Outcome) : Type 0 where
   -- the answer
@@ -56,21 +51,24 @@ pub record StepOf (r k : ℕ) (h : Heard) (t : Table) (s : Slices) (o : Outcome)
   pub same-shape : Shaped (o .answer .table)
   -- the holding slice
   pub its-place : part (o .slices .holding) (placeOf r k) (length (h .fate .held)) ≡ h .fate .held
-  pub other-bytes : (i : ℕ) → (i < placeOf r k) ⊎ (placeOf r k + length (h .fate .held) ≤ i) → byteAt (o .slices .holding) i ≡ byteAt (s .holding) i
+  pub other-bytes : (i : ℕ) → (i < placeOf r k) ⊎ (placeOf r k + length (h .fate .held) ≤ i) →
+      byteAt (o .slices .holding) i ≡ byteAt (s .holding) i
   pub other-places : (r′ j n : ℕ) → r′ < rows → j < flows → (r′ ≡ r → j ≡ k → ⊥) → n ≤ longest →
       part (o .slices .holding) (placeOf r′ j) n ≡ part (s .holding) (placeOf r′ j) n
   -- what comes out
   pub frames-found : framesIn o ≡ h .fate .delivered
   pub output-behind : (i : ℕ) → length (joined (h .fate .delivered)) ≤ i → byteAt (o .slices .output) i ≡ byteAt (s .output) i
   pub lengths-behind : (i : ℕ) → length (h .fate .delivered) ≤ i → byteAt (o .slices .lengths) i ≡ byteAt (s .lengths) i
-  pub same-lengths : (length (o .slices .holding) ≡ length (s .holding)) × (length (o .slices .output) ≡ length (s .output)) × (length (o .slices .lengths) ≡ length (s .lengths))
+  pub same-lengths : (length (o .slices .holding) ≡ length (s .holding)) × (length (o .slices .output) ≡ length (s .output))
+      × (length (o .slices .lengths) ≡ length (s .lengths))
 
 -- two places apart
 places-apart : (a b n m : ℕ) → (a ≡ b → ⊥) → n ≤ longest → m ≤ longest → (a * longest + n ≤ b * longest) ⊎ (b * longest + m ≤ a * longest)
 places-apart a b n m other l o =
     ⊎-elim
     (λ (h : ltb a b ≡ true). inl (let g = ltb-true a b h in let e : a * longest + n ≤ b * longest = omega arith in e))
-    (λ (h : ltb a b ≡ false). inr (let g = ltb-false a b h in let d : (a ≡ b → ⊥) = other in let e : b * longest + m ≤ a * longest = omega arith in e))
+    (λ (h : ltb a b ≡ false).
+    inr (let g = ltb-false a b h in let d : (a ≡ b → ⊥) = other in let e : b * longest + m ≤ a * longest = omega arith in e))
     (true-or-false (ltb a b))
 
 module _ (r k : ℕ) (h : Heard) (t : Table) (s : Slices) (shaped : Shaped t) (there : r < rows) (inside : k < flows)
@@ -112,11 +110,7 @@ module _ (r k : ℕ) (h : Heard) (t : Table) (s : Slices) (shaped : Shaped t) (t
 
   found : framesIn done ≡ h .fate .delivered
   unfolding carriedOut
-  found =
-      let n = length-lengthsOf (h .fate .delivered) in
-      let read : part (put (s .lengths) 0 (lengthsOf (h .fate .delivered))) 0 (length (h .fate .delivered)) ≡ lengthsOf (h .fate .delivered) =
-      ap (part (put (s .lengths) 0 (lengthsOf (h .fate .delivered))) 0) (sym n) ∙ part-put (s .lengths) 0 (lengthsOf (h .fate .delivered)) lengths-room in
-      rw (read, put-front (s .output) (joined (h .fate .delivered))) (cut-joined (h .fate .delivered) (rest (s .output) (0 + length (joined (h .fate .delivered)))))
+  found = cut-put (h .fate .delivered) (s .lengths) (s .output) (omega (arith, large .lengths-enough))
 
   pub carried-step : StepOf r k h t s done
   unfolding carriedOut

@@ -1,16 +1,16 @@
 -- The byte account of one packet: each rule gives every byte one fate, so what is held, delivered and dropped afterwards is what was held
 -- before and what came. All bounds of the data call follow from it.
 use Prim.Native.Nat.{ℕ, zero, suc, _+_, _<_, _≤_}
-use mathlib.Core.Path.{_≡_, refl}
+use mathlib.Core.Path.{_≡_, refl, ap}
 use mathlib.Core.Bool.{Bool, true, false}
-use mathlib.Core.List.{List, [], _∷_, _++_, append-nil}
+use mathlib.Core.List.{List, [], _∷_, _++_}
 use native.Mathlib.Omega.{arith}
 use lib.Dec.{eqb, ltb}
 use lib.ListN.{length, length-append}
 use borrow.Author.Tests.{ltb-false, eqb-true}
 use Rattle.octets.specs.Stretch.{joined}
 use Rattle.octets.specs.Count.{sumTo, upTo}
-use Rattle.octets.proofs.Stretches.{joined-append}
+use Rattle.octets.proofs.Stretches.{joined-append, joined-one, length-joined-none}
 use Rattle.packet.specs.Segments.{Segment}
 use Rattle.join.specs.Join.{Fate, andThen, settledBy, settled, fateBy, fate, atGap, inOrder}
 
@@ -26,10 +26,13 @@ pub record Accounts (bytes frames most : ℕ) (f : Fate) : Type 0 where
 -- Each rule accounts for the bytes it is given, and delivers one frame at most.
 settled-by : (long ends : Bool) (longest : ℕ) (bytes : List ℕ) → ltb longest (length bytes) ≡ long →
     Accounts (length bytes) 1 longest (settledBy long ends bytes)
-unfolding settledBy joined
-settled-by true ends longest bytes h = record { all = omega arith; frames-few = omega arith; held-few = omega arith }
-settled-by false true longest bytes h = record { all = rw (append-nil bytes) (omega arith); frames-few = omega arith; held-few = omega arith }
-settled-by false false longest bytes h = record { all = omega arith; frames-few = omega arith; held-few = ltb-false longest (length bytes) h }
+unfolding settledBy
+settled-by true ends longest bytes h =
+    record { all = omega (arith, length-joined-none); frames-few = omega arith; held-few = omega arith }
+settled-by false true longest bytes h =
+    record { all = omega (arith, ap length (joined-one bytes)); frames-few = omega arith; held-few = omega arith }
+settled-by false false longest bytes h =
+    record { all = omega (arith, length-joined-none); frames-few = omega arith; held-few = ltb-false longest (length bytes) h }
 
 pub settled-accounts : (longest : ℕ) (ends : Bool) (bytes : List ℕ) → Accounts (length bytes) 1 longest (settled longest ends bytes)
 unfolding settled
@@ -37,7 +40,7 @@ settled-accounts longest ends bytes = settled-by (ltb longest (length bytes)) en
 
 fate-by : (begins none : Bool) (longest : ℕ) (held : List ℕ) (s : Segment) → eqb (length held) 0 ≡ none →
     Accounts (length held + length (s .body)) 1 longest (fateBy begins none longest held s)
-unfolding fateBy joined
+unfolding fateBy
 fate-by true none longest held s h =
     let a = settled-accounts longest (s .ends) (s .body) in
     record {
@@ -46,7 +49,7 @@ fate-by true none longest held s h =
       held-few = a .held-few;
     }
 fate-by false true longest held s h =
-    record { all = omega (arith, eqb-true (length held) 0 h); frames-few = omega arith; held-few = omega arith }
+    record { all = omega (arith, eqb-true (length held) 0 h, length-joined-none); frames-few = omega arith; held-few = omega arith }
 fate-by false false longest held s h = rw (← length-append held (s .body)) (settled-accounts longest (s .ends) (held ++ s .body))
 
 pub fate-accounts : (longest : ℕ) (held : List ℕ) (s : Segment) → Accounts (length held + length (s .body)) 1 longest (fate longest held s)
@@ -54,9 +57,10 @@ unfolding fate
 fate-accounts longest held s = fate-by (s .begins) (eqb (length held) 0) longest held s refl
 
 pub gap-accounts : (longest gap : ℕ) (held : List ℕ) → length held ≤ longest → Accounts (length held) 0 longest (atGap gap held)
-unfolding atGap joined
-gap-accounts longest zero held h = record { all = omega arith; frames-few = omega arith; held-few = h }
-gap-accounts longest (suc gap) held h = record { all = omega arith; frames-few = omega arith; held-few = omega arith }
+unfolding atGap
+gap-accounts longest zero held h = record { all = omega (arith, length-joined-none); frames-few = omega arith; held-few = h }
+gap-accounts longest (suc gap) held h =
+    record { all = omega (arith, length-joined-none); frames-few = omega arith; held-few = omega arith }
 
 -- a segment with E leaves nothing held
 settled-ends : (long : Bool) (bytes : List ℕ) → settledBy long true bytes .held ≡ []
@@ -81,7 +85,13 @@ then-accounts f g bytes frames most more most′ a b =
     record {
       all =
           rw (joined-append (f .delivered) (g .delivered))
-          (omega (arith, a .all, b .all, length-append (joined (f .delivered)) (joined (g .delivered)), length-append (f .dropped) (g .dropped)));
+          (omega (
+            arith,
+            a .all,
+            b .all,
+            length-append (joined (f .delivered)) (joined (g .delivered)),
+            length-append (f .dropped) (g .dropped),
+          ));
       frames-few = omega (arith, a .frames-few, b .frames-few, length-append (f .delivered) (g .delivered));
       held-few = b .held-few;
     }

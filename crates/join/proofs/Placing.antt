@@ -3,7 +3,7 @@
 use Prim.Native.Nat.{ℕ, zero, suc, _+_, _<_, _≤_}
 use mathlib.Core.Path.{_≡_, refl, sym, ap, _∙_}
 use mathlib.Core.Bool.{Bool, true, false, not, cond, _&&_, true≢false}
-use mathlib.Core.List.{List, [], _∷_, _++_, append-nil}
+use mathlib.Core.List.{List, [], _∷_, _++_}
 use native.Mathlib.Numerals.{add-one}
 use native.Mathlib.Omega.{arith}
 use lib.Dec.{eqb}
@@ -11,7 +11,9 @@ use lib.ListN.{length, length-append}
 use borrow.Author.Tests.{lt-ltb, le-ltb, eq-eqb, ne-eqb, eqb-true}
 use Rattle.octets.specs.Stretch.{part, put, joined, lengthsOf}
 use Rattle.octets.specs.Count.{upTo}
-use Rattle.octets.proofs.Stretches.{length-part, length-put, length-lengthsOf, put-nil, put-put, put-same, part-put, part-none, joined-append, lengthsOf-append}
+use Rattle.octets.proofs.Stretches.{length-part, length-put, length-lengthsOf, put-nil, put-more, put-same, part-put, part-none}
+use Rattle.octets.proofs.Stretches.{joined-none, joined-one, joined-append, length-joined-none, lengthsOf-none, lengthsOf-one}
+use Rattle.octets.proofs.Stretches.{lengthsOf-append}
 use Rattle.packet.specs.Segments.{beginsIn, endsIn, lengthIn, Segment}
 use Rattle.join.specs.declared.Tally.{Tally}
 use Rattle.join.specs.Join.{Fate, delivering, dropping, keeping, andThen, settledBy, settled, fateBy, fate, atGap, inOrder}
@@ -23,47 +25,44 @@ use Rattle.join.proofs.Account.{Accounts, in-order-next}
 module _ (place : ℕ) (a : Tally) (s : Slices) (bytes : List ℕ) (r : Tally) where
   pub placed-dropping : r .held ≡ 0 → r .frames ≡ a .frames → r .bytes ≡ a .bytes → r .dropped ≡ a .dropped + length bytes →
       Placed (dropping bytes) place a s r s
-  unfolding joined lengthsOf
   placed-dropping h f b d =
       record {
         held-now = h;
         frames-more = omega arith;
-        bytes-more = omega arith;
+        bytes-more = omega (arith, length-joined-none);
         dropped-more = d;
         holding-now = sym (put-nil (s .holding) place);
-        output-now = sym (put-nil (s .output) (a .bytes));
-        lengths-now = sym (put-nil (s .lengths) (a .frames));
+        output-now = rw joined-none (sym (put-nil (s .output) (a .bytes)));
+        lengths-now = rw lengthsOf-none (sym (put-nil (s .lengths) (a .frames)));
       }
 
   pub placed-delivering : (s′ : Slices) → s′ .holding ≡ s .holding → s′ .output ≡ put (s .output) (a .bytes) bytes →
       s′ .lengths ≡ put (s .lengths) (a .frames) (length bytes ∷ []) →
       r .held ≡ 0 → r .frames ≡ a .frames + 1 → r .bytes ≡ a .bytes + length bytes → r .dropped ≡ a .dropped →
       Placed (delivering bytes) place a s r s′
-  unfolding joined lengthsOf
   placed-delivering s′ same out lengths h f b d =
       record {
         held-now = h;
         frames-more = f;
-        bytes-more = rw (append-nil bytes) b;
+        bytes-more = rw (joined-one bytes) b;
         dropped-more = omega arith;
         holding-now = same ∙ sym (put-nil (s .holding) place);
-        output-now = rw (append-nil bytes) out;
-        lengths-now = lengths;
+        output-now = rw (joined-one bytes) out;
+        lengths-now = rw (lengthsOf-one bytes) lengths;
       }
 
   pub placed-keeping : (s′ : Slices) → s′ .holding ≡ put (s .holding) place bytes → s′ .output ≡ s .output → s′ .lengths ≡ s .lengths →
       r .held ≡ length bytes → r .frames ≡ a .frames → r .bytes ≡ a .bytes → r .dropped ≡ a .dropped →
       Placed (keeping bytes) place a s r s′
-  unfolding joined lengthsOf
   placed-keeping s′ hold out lengths h f b d =
       record {
         held-now = h;
         frames-more = omega arith;
-        bytes-more = omega arith;
+        bytes-more = omega (arith, length-joined-none);
         dropped-more = omega arith;
         holding-now = hold;
-        output-now = out ∙ sym (put-nil (s .output) (a .bytes));
-        lengths-now = lengths ∙ sym (put-nil (s .lengths) (a .frames));
+        output-now = out ∙ rw joined-none (sym (put-nil (s .output) (a .bytes)));
+        lengths-now = lengths ∙ rw lengthsOf-none (sym (put-nil (s .lengths) (a .frames)));
       }
 
 -- Joined bytes, by the two tests.
@@ -97,11 +96,6 @@ pub fate-joins : (longest : ℕ) (held : List ℕ) (s : Segment) → s .begins �
 unfolding fate fateBy
 fate-joins longest held s b z = rw (b, ne-eqb (length held) 0 z) refl
 
--- What was put grows by what is put behind it.
-grown : (d : List ℕ) (at : ℕ) (x y d′ d″ : List ℕ) (n : ℕ) → at + length x ≤ length d → d′ ≡ put d at x → n ≡ at + length x →
-    d″ ≡ put d′ n y → d″ ≡ put d at (x ++ y)
-grown d at x y d′ d″ n h e m g = g ∙ rw (e, m) (put-put d at x y h)
-
 -- One fate, and then another, where the first has left the holding slice as it was.
 pub placed-then : {f g : Fate} {place : ℕ} {a b c : Tally} {s s′ s″ : Slices} →
     b .bytes ≤ length (s .output) → b .frames ≤ length (s .lengths) →
@@ -117,11 +111,11 @@ placed-then {f} {g} {place} {a} {b} {c} {s} {s′} {s″} room places p same q =
       holding-now = rw (← same) (q .holding-now);
       output-now =
           rw (joined-append (f .delivered) (g .delivered))
-          (grown (s .output) (a .bytes) (joined (f .delivered)) (joined (g .delivered)) (s′ .output) (s″ .output) (b .bytes)
+          (put-more (s .output) (a .bytes) (joined (f .delivered)) (joined (g .delivered)) (b .bytes)
           (omega (arith, p .bytes-more)) (p .output-now) (p .bytes-more) (q .output-now));
       lengths-now =
           rw (lengthsOf-append (f .delivered) (g .delivered))
-          (grown (s .lengths) (a .frames) (lengthsOf (f .delivered)) (lengthsOf (g .delivered)) (s′ .lengths) (s″ .lengths) (b .frames)
+          (put-more (s .lengths) (a .frames) (lengthsOf (f .delivered)) (lengthsOf (g .delivered)) (b .frames)
           (omega (arith, p .frames-more, length-lengthsOf (f .delivered))) (p .lengths-now)
           (omega (arith, p .frames-more, length-lengthsOf (f .delivered))) (q .lengths-now));
     }
@@ -155,7 +149,8 @@ way-fits true size a b e f =
 way-fits false size a b e f = rw e f
 
 -- The three ways of a segment whose entry the code has read: `count` and `ends` are what it found there.
-module _ (most place : ℕ) (a : Tally) (s : Slices) (sub : List ℕ) (from entry count : ℕ) (ends : Bool) (sized : count ≡ lengthIn entry) (marked : ends ≡ endsIn entry)
+module _ (most place : ℕ) (a : Tally) (s : Slices) (sub : List ℕ) (from entry count : ℕ) (ends : Bool) (sized : count ≡ lengthIn entry)
+    (marked : ends ≡ endsIn entry)
     (r : Tally) (s′ : Slices) (inside : place + a .held ≤ length (s .holding)) where
   abbrev heldNow : List ℕ
   heldNow = part (s .holding) place (a .held)
@@ -201,7 +196,8 @@ module _ (most place : ℕ) (a : Tally) (s : Slices) (sub : List ℕ) (from entr
   segment-lost false b mark e t whole h f n d =
       segment-orphan (sym mark) (rw e at (eqb-true (b .held) 0 t)) whole h (rw e at f) (rw e at n) (rw e at d)
 
-  pub segment-settles : (begins : Bool) (b : Tally) → begins ≡ beginsIn entry → b ≡ madeWay begins a → (not begins && eqb (b .held) 0) ≡ false →
+  pub segment-settles : (begins : Bool) (b : Tally) → begins ≡ beginsIn entry → b ≡ madeWay begins a →
+      (not begins && eqb (b .held) 0) ≡ false →
       a .bytes ≤ length (s .output) → a .frames ≤ length (s .lengths) →
       Placed (settled most ends (part (s .holding) place (b .held) ++ part sub from count)) place b s r s′ →
       Placed (fate most heldNow read) place a s r s′
@@ -234,14 +230,17 @@ module _ {f : Fate} {place : ℕ} {s s′ : Slices} {b : Tally} {bytes frames mo
   output-long h = rw (p .output-now) (length-put (s .output) 0 (joined (f .delivered)) (omega (arith, a .all)))
 
   pub lengths-long : frames ≤ length (s .lengths) → length (s′ .lengths) ≡ length (s .lengths)
-  lengths-long h = rw (p .lengths-now) (length-put (s .lengths) 0 (lengthsOf (f .delivered)) (omega (arith, a .frames-few, length-lengthsOf (f .delivered))))
+  lengths-long h =
+      rw (p .lengths-now) (length-put (s .lengths) 0 (lengthsOf (f .delivered))
+      (omega (arith, a .frames-few, length-lengthsOf (f .delivered))))
 
   -- the held bytes are read back
   pub held-there : place + most ≤ length (s .holding) → part (s′ .holding) place (b .held) ≡ f .held
   held-there h = rw (p .holding-now, p .held-now) (part-put (s .holding) place (f .held) (omega (arith, a .held-few)))
 
 -- One piece more.
-pub placed-next : {X : Type 0} (rule : List ℕ → X → Fate) (start : Fate) (piece : ℕ → X) (k : ℕ) {place : ℕ} {b c : Tally} {s s′ s″ : Slices} →
+pub placed-next : {X : Type 0} (rule : List ℕ → X → Fate) (start : Fate) (piece : ℕ → X)
+    (k : ℕ) {place : ℕ} {b c : Tally} {s s′ s″ : Slices} →
     b .bytes ≤ length (s .output) → b .frames ≤ length (s .lengths) →
     Placed (inOrder rule start (upTo piece k)) place nothingYet s b s′ → s′ .holding ≡ s .holding →
     Placed (rule (inOrder rule start (upTo piece k) .held) (piece k)) place b s′ c s″ →

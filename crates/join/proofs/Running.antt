@@ -10,8 +10,8 @@ use lib.ListN.{length, set}
 use borrow.Author.Tests.{eq-eqb}
 use Rattle.octets.specs.Stretch.{part, put}
 use Rattle.octets.specs.Count.{upTo}
-use Rattle.octets.proofs.Counts.{sum-none, sum-more, up-to-more, length-up-to}
-use Rattle.octets.proofs.Stretches.{length-part, length-put, put-nil, put-put, part-none, set-put}
+use Rattle.octets.proofs.Counts.{sum-none, sum-more, length-up-to}
+use Rattle.octets.proofs.Stretches.{length-part, length-put, put-nil, put-up-to-more, part-none, set-put}
 use Rattle.flow.specs.Flow.{longest}
 use Rattle.packet.specs.Segments.{bBit, eBit, entryAt, beginsIn, endsIn, lengthIn, lengthAt}
 use Rattle.join.specs.declared.Tally.{Tally}
@@ -33,22 +33,14 @@ whole-entry most entry size small e short =
 pub whole-size : (most entry size : ℕ) → most ≤ longest → (size + (bBit + eBit)) % 65536 ≡ entry → size ≤ most → size ≡ lengthIn entry
 whole-size most entry size small e short = omega arith
 
--- one length more behind those that are written
-pub written-more : (lengths lengths′ : List ℕ) (at : ℕ) (f : ℕ → ℕ) (n : ℕ) → at + n < length lengths → lengths′ ≡ put lengths at (upTo f n) →
-    put lengths′ (at + n) (f n ∷ []) ≡ put lengths at (upTo f (n + 1))
-written-more lengths lengths′ at f n room e =
-    let m = length-up-to f n in
-    rw (e, up-to-more f n)
-    (ap (λ (i : ℕ). put (put lengths at (upTo f n)) (at + i) (f n ∷ [])) (sym m)
-    ∙ put-put lengths at (upTo f n) (f n ∷ []) (omega arith))
-
 -- The loop's invariant.
 pub record Running (most width : ℕ) (sub : List ℕ) (k count at : ℕ) (lengths lengths′ : List ℕ) (frames bytes : ℕ) : Type 0 where
   pub within : k + frames ≤ count
   pub ran : Ran most width sub k at lengths lengths′ frames bytes
   pub small : bytes ≤ longest * frames
 
-pub run-begin : (most width : ℕ) (sub : List ℕ) (k count at : ℕ) (lengths : List ℕ) → k ≤ count → Running most width sub k count at lengths lengths 0 0
+pub run-begin : (most width : ℕ) (sub : List ℕ) (k count at : ℕ) (lengths : List ℕ) → k ≤ count →
+    Running most width sub k count at lengths lengths 0 0
 unfolding upTo
 run-begin most width sub k count at lengths l =
     record {
@@ -63,7 +55,8 @@ run-begin most width sub k count at lengths l =
     }
 
 module _ {most width : ℕ} {sub : List ℕ} {k count at : ℕ} {lengths lengths′ : List ℕ} {frames bytes : ℕ}
-    (r : Running most width sub k count at lengths lengths′ frames bytes) (small : most ≤ longest) (room : at + count ≤ length lengths + k) where
+    (r : Running most width sub k count at lengths lengths′ frames bytes) (small : most ≤ longest)
+    (room : at + count ≤ length lengths + k) where
   pub run-length : length lengths′ ≡ length lengths
   run-length =
       let f : ℕ → ℕ = λ i. lengthAt width sub (k + i) in
@@ -90,21 +83,27 @@ module _ {most width : ℕ} {sub : List ℕ} {k count at : ℕ} {lengths lengths
               written =
                   set-put lengths′ (at + frames) size (omega (arith, run-length, r .within))
                   ∙ ap (λ (n : ℕ). put lengths′ (at + frames) (n ∷ [])) size-is
-                  ∙ written-more lengths lengths′ at f frames (omega (arith, r .within)) (r .ran .written);
+                  ∙ put-up-to-more lengths at f frames (omega (arith, r .within)) (r .ran .written);
             };
         small = omega (arith, r .small);
       }
 
 -- One whole frame, where nothing is held.
-pub whole-placed : (most place : ℕ) (a : Tally) (s : Slices) (sub : List ℕ) (from entry : ℕ) → Whole most entry → a .held ≡ 0 → from + lengthIn entry ≤ length sub →
+pub whole-placed : (most place : ℕ) (a : Tally) (s : Slices) (sub : List ℕ) (from entry : ℕ) → Whole most entry → a .held ≡ 0 →
+    from + lengthIn entry ≤ length sub →
     (r : Tally) (s′ : Slices) → s′ .holding ≡ s .holding → s′ .output ≡ put (s .output) (a .bytes) (part sub from (lengthIn entry)) →
     s′ .lengths ≡ put (s .lengths) (a .frames) (lengthIn entry ∷ []) →
     r .held ≡ 0 → r .frames ≡ a .frames + 1 → r .bytes ≡ a .bytes + lengthIn entry → r .dropped ≡ a .dropped →
-    Placed (fate most (part (s .holding) place (a .held)) (record { begins = beginsIn entry; ends = endsIn entry; body = part sub from (lengthIn entry) }))
+    Placed (fate most (part (s .holding) place (a .held))
+    (record { begins = beginsIn entry; ends = endsIn entry; body = part sub from (lengthIn entry) }))
     place a s r s′
 whole-placed most place a s sub from entry w none inside r s′ same out lengths h f b d =
     let body = part sub from (lengthIn entry) in
     let n : length body ≡ lengthIn entry = length-part sub from (lengthIn entry) inside in
     let empty : part (s .holding) place (a .held) ≡ [] = rw none (part-none (s .holding) place) in
-    rw (empty, fate-begins most [] (record { begins = beginsIn entry; ends = endsIn entry; body = body }) (w .begins), settled-whole most (endsIn entry) body (rw n (w .short)) (w .ends))
+    rw (
+      empty,
+      fate-begins most [] (record { begins = beginsIn entry; ends = endsIn entry; body = body }) (w .begins),
+      settled-whole most (endsIn entry) body (rw n (w .short)) (w .ends),
+    )
     (placed-delivering place a s body r s′ same out (rw n lengths) h f (rw n b) d)

@@ -11,7 +11,7 @@ use lib.ListN.{length}
 use Rattle.octets.specs.Stretch.{part, put}
 use Rattle.octets.specs.Count.{sumTo, upTo}
 use Rattle.octets.proofs.Counts.{sum-none, sum-more, sum-below}
-use Rattle.octets.proofs.Stretches.{length-part, put-nil, put-put, part-none, part-part}
+use Rattle.octets.proofs.Stretches.{length-part, put-nil, put-put, put-up-to-more, part-none, part-part}
 use Rattle.flow.specs.Flow.{longest}
 use Rattle.packet.specs.Header.{idLength, headerLength, segmentCount, longestPacket}
 use Rattle.packet.specs.Segments.{entryAt, beginsIn, endsIn, lengthIn, lengthAt, bodyAt, segmentAt, segments}
@@ -23,7 +23,7 @@ use Rattle.join.specs.Slices.{Slices, asSlices, mostBytes, mostFrames}
 use Rattle.join.specs.Inside.{nothingYet, begun, Placed, Roomy, Fits, Within, Whole, Ran}
 use Rattle.join.proofs.Account.{Accounts, fate-accounts, fate-ends, gap-accounts, in-order-next, in-order-accounts}
 use Rattle.join.proofs.Placing.{placed-begun, placed-counted, holding-long, output-long, lengths-long, held-there, placed-next}
-use Rattle.join.proofs.Running.{written-more, whole-placed}
+use Rattle.join.proofs.Running.{whole-placed}
 
 -- the segment count has 7 bits
 count-few : (sub : List ℕ) → segmentCount sub ≤ mostFrames
@@ -249,7 +249,8 @@ module _ (t : Task) (ready : Ready t) where
         let b : from + 0 ≡ from = omega arith in
         let c : tally .frames + 0 ≡ tally .frames = omega arith in
         let d : tally .bytes + 0 ≡ tally .bytes = omega arith in
-        rw (sum-none behindAt, part-none (t .sub) from, put-nil (s′ .output) (tally .bytes)) (rw (put-nil (s′ .lengths) (tally .frames), a, b, c, d) w)
+        rw (sum-none behindAt, part-none (t .sub) from, put-nil (s′ .output) (tally .bytes))
+        (rw (put-nil (s′ .lengths) (tally .frames), a, b, c, d) w)
 
     run-more : (n bytes : ℕ) → After n bytes → k + n < segmentCount (t .sub) → Whole (t .most) (entryAt (t .width) (t .sub) (k + n)) →
         After (n + 1) (bytes + behindAt n)
@@ -268,7 +269,7 @@ module _ (t : Task) (ready : Ready t) where
         rw (← part-part (t .sub) from bytes size)
         (sym (ap (λ (i : ℕ). put (runOutput bytes) (tally .bytes + i) more) (sym body)
         ∙ put-put (s′ .output) (tally .bytes) (part (t .sub) from bytes) more (rw body room))) in
-        let lengths = sym (written-more (s′ .lengths) (put (s′ .lengths) (tally .frames) (upTo behindAt n)) (tally .frames) behindAt n places refl) in
+        let lengths = sym (put-up-to-more (s′ .lengths) (tally .frames) behindAt n places refl) in
         let entry = entryAt (t .width) (t .sub) (k + n) in
         let q = whole-placed (t .most) (t .place) (runTally n bytes) (runSlices n bytes) (t .sub) (from + bytes) entry whole none inside
         (runTally (n + 1) (bytes + size)) (runSlices (n + 1) (bytes + size)) refl out lengths none (omega arith) (omega arith) refl in

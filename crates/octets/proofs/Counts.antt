@@ -5,12 +5,12 @@ use Prim.Native.Nat.{ℕ, zero, suc, _+_, _*_, _<_, _≤_}
 use mathlib.Core.Path.{_≡_, refl, ap, _∙_, sym}
 use mathlib.Core.Bool.{Bool, true, false, not, _||_, or-true, or-false, or-assoc, true≢false}
 use mathlib.Core.Logic.{_⊎_, inl, inr, ⊎-elim}
-use mathlib.Core.List.{[], _∷_, _++_}
+use mathlib.Core.List.{List, [], _∷_, _++_}
 use native.Mathlib.Numerals.{add-one}
 use native.Mathlib.Omega.{arith}
 use native.Mathlib.Nat.{mul-zero, mul-suc, not-suc-le-zero, eq-or-lt-of-le, le-of-suc-le-suc, le-refl, le-trans, le-add-right}
 use lib.Dec.{ltb, leb}
-use lib.ListN.{length, length-append}
+use lib.ListN.{length, getD, length-append}
 use borrow.Author.Tests.{lt-ltb, le-ltb, lt-leb, le-leb}
 use Rattle.octets.specs.Count.{any, least, sumTo, upTo}
 
@@ -166,7 +166,8 @@ pub sum-within : (f : ℕ → ℕ) (k n : ℕ) → k < n → sumTo f k + f k ≤
 unfolding sumTo
 sum-within f k zero h = absurd (not-suc-le-zero h)
 sum-within f k (suc n) h =
-    ⊎-elim (λ e. rw e (le-refl (sumTo f n + f n))) (λ l. le-trans (sum-within f k n l) (le-add-right (sumTo f n) (f n))) (eq-or-lt-of-le (le-of-suc-le-suc h))
+    ⊎-elim (λ e. rw e (le-refl (sumTo f n + f n))) (λ l. le-trans (sum-within f k n l) (le-add-right (sumTo f n) (f n)))
+    (eq-or-lt-of-le (le-of-suc-le-suc h))
 
 -- a part of the sum is no more than all of it
 pub sum-below : (f : ℕ → ℕ) (k n : ℕ) → k ≤ n → sumTo f k ≤ sumTo f n
@@ -216,6 +217,13 @@ pub up-to-front : {A : Type 0} (f : ℕ → A) (n : ℕ) → upTo f (suc n) ≡ 
 unfolding upTo
 up-to-front f zero = refl
 up-to-front f (suc n) = ap (λ l. l ++ (f (suc n) ∷ [])) (up-to-front f n)
+
+-- all elements of a list are the list
+pub up-to-elements : {A : Type 0} (f : ℕ → A) (l : List A) (d : A) → ((k : ℕ) → k < length l → f k ≡ getD l k d) → upTo f (length l) ≡ l
+up-to-elements f [] d same = up-to-none f
+up-to-elements f (x ∷ l) d same =
+    up-to-front f (length l)
+    ∙ rw (same 0 (omega arith)) (ap (λ m. x ∷ m) (up-to-elements (λ k. f (suc k)) l d (λ k there. same (suc k) (omega arith))))
 
 -- elements that agree
 pub up-to-agree : {A : Type 0} (f g : ℕ → A) (n : ℕ) → ((k : ℕ) → k < n → f k ≡ g k) → upTo f n ≡ upTo g n

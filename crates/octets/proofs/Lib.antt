@@ -4,4 +4,5 @@ pub mod Elements
 pub mod Tests
 pub mod Bytes
 pub mod Numbers
+pub mod Distinct
 pub mod Examples

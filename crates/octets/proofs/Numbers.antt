@@ -1,11 +1,17 @@
--- What is written as two bytes reads back as the number, and as four.
+-- What is written as two bytes reads back as the number, and as four; the test whether two numbers are the same; and places in a table.
 use mathlib.Core.Path.{_≡_, refl, sym, ap, _∙_}
-use Prim.Native.Nat.{ℕ, _+_, _*_, _/_, _%_, _<_, _≤_}
+use mathlib.Core.Bool.{true, false}
+use mathlib.Core.Logic.{⊎-elim}
+use Prim.Native.Nat.{ℕ, suc, _+_, _*_, _/_, _%_, _<_, _≤_}
 use mathlib.Core.List.{List, [], _∷_}
 use native.Mathlib.Omega.{arith}
+use native.Mathlib.Nat.{mul-suc, mul-le-mul-left}
+use lib.Dec.{eqb}
 use lib.ListN.{length}
+use borrow.Author.Tests.{eq-eqb, ne-eqb, eqb-true, eqb-false}
 use Rattle.octets.specs.Stretch.{part, put}
 use Rattle.octets.proofs.Stretches.{put-put, part-two}
+use Rattle.octets.proofs.Counts.{true-or-false}
 use Rattle.octets.specs.Bytes.{byteAt, be16At, be32At, two, four, AllBytes}
 
 pub two-reads-back : (n : ℕ) → n < 65536 → be16At (two n) 0 ≡ n
@@ -37,3 +43,17 @@ pub four-put : (d : List ℕ) (at n : ℕ) → at + 3 < length d → put (put d 
 four-put d at n h =
     let room : at + 2 ≤ length d = omega arith in
     ap (put (put d at (two (n / 65536))) (at + 2)) (two-cut n) ∙ put-put d at (two (n / 65536)) (two n) room
+
+-- the test of two numbers, either way round
+pub eqb-sym : (a b : ℕ) → eqb a b ≡ eqb b a
+eqb-sym a b =
+    ⊎-elim
+    (λ (h : eqb a b ≡ true). h ∙ sym (eq-eqb b a (sym (eqb-true a b h))))
+    (λ (h : eqb a b ≡ false). h ∙ sym (ne-eqb b a (λ e. eqb-false a b h (sym e))))
+    (true-or-false (eqb a b))
+
+-- of entries that are all as wide, entry k ends before entry n begins
+pub mul-before : (width k n : ℕ) → k < n → width * k + width ≤ width * n
+mul-before width k n h =
+    let e : width * suc k ≤ width * n = mul-le-mul-left width h in
+    omega (arith, mul-suc width k)

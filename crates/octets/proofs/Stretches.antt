@@ -1,23 +1,26 @@
--- The laws of cutting and pasting lists, proved once. Every proof above cites these and opens neither `take`, `drop` nor `++`.
+-- The laws of cutting and pasting lists, proved once. No proof above opens `part`, `rest`, `put`, `joined`, `lengthsOf` or `cutBy`, and
+-- none cites a law of the kit on `take` or `drop`: each cites these laws. (Computed examples open what they compute; `tests/laws` holds
+-- the others to it.)
 use mathlib.Core.Path.{_≡_, refl, sym, ap, _∙_}
 use mathlib.Core.Bool.{true, false}
 use Prim.Native.Nat.{ℕ, zero, suc, _+_, _-_, _*_, _≤_, _<_, min}
-use native.Mathlib.Nat.{add-zero, add-assoc, mul-zero, mul-suc, min-eq-left, min-eq-right, min-le-right}
+use native.Mathlib.Nat.{add-zero, add-assoc, mul-zero, mul-suc, not-suc-le-zero, min-eq-left, min-eq-right, min-le-right}
 use native.Mathlib.Numerals.{add-one}
 use native.Mathlib.Omega.{arith}
 use mathlib.Core.Logic.{_⊎_, inl, inr, ⊎-elim}
 use mathlib.Core.List.{List, [], _∷_, _++_, map, append-assoc, append-nil}
 use lib.Dec.{leb}
-use lib.ListN.{length, take, drop, set, length-append, length-take, length-drop, take-append-drop, drop-of-length-le, List·getD-append}
-use lib.Seq.{length-take-le, take-length, take-take, take-append-le, take-at, take-all, take-add, take-append-seam}
-use lib.Seq.{drop-at, drop-cons, drop-drop, drop-append-le, drop-append-add, drop-append-seam, set-split, append-snoc}
+use lib.ListN.{length, take, drop, set, getD, length-append, length-take, length-drop, take-append-drop, drop-of-length-le}
+use lib.ListN.{List·getD-append}
+use lib.Seq.{length-take-le, take-length, take-take, take-append-le, take-at, take-all, take-suc, take-add, take-append-seam}
+use lib.Seq.{drop-at, drop-cons, drop-drop, drop-nil, drop-append-le, drop-append-add, drop-append-seam, split-at, set-split, append-snoc}
 use lib.Seq.{getD-drop, getD-take, getD-append-add, ext-getD}
 use borrow.Author.Tests.{leb-true, leb-false}
 use Rattle.octets.specs.Bytes.{byteAt}
 use Rattle.octets.specs.Stretch.{part, rest, put, joined, lengthsOf, cutBy}
 use Rattle.octets.specs.Count.{sumTo, upTo}
 use Rattle.octets.specs.Each.{Each}
-use Rattle.octets.proofs.Counts.{true-or-false, up-to-none, up-to-more, up-to-front, up-to-agree}
+use Rattle.octets.proofs.Counts.{true-or-false, length-up-to, up-to-none, up-to-more, up-to-front, up-to-agree}
 
 -- Stretches read out.
 pub length-part : (l : List ℕ) (from n : ℕ) → from + n ≤ length l → length (part l from n) ≡ n
@@ -93,6 +96,111 @@ pub sliced-part : (l : List ℕ) (from to n : ℕ) → to - from ≡ n → take 
 unfolding part
 sliced-part l from to n e = ap (λ (k : ℕ). take k (drop from l)) e
 
+-- .. and how long one is that is taken from the front, `&l[..n]`
+pub length-sliced : (l : List ℕ) (n : ℕ) → n ≤ length l → n ≡ length (take n l)
+length-sliced l n h = sym (length-take-le n l h)
+
+pub sliced-front : (l : List ℕ) (n : ℕ) → take n l ≡ part l 0 n
+unfolding part
+sliced-front l n = refl
+
+-- a stretch from the front, and the rest behind it
+pub part-and-rest : (l : List ℕ) (n : ℕ) → part l 0 n ++ rest l n ≡ l
+unfolding part rest
+part-and-rest l n = take-append-drop n l
+
+-- a stretch from the front that is asked to be longer than the list is the list
+pub part-past : (l : List ℕ) (n : ℕ) → length l ≤ n → part l 0 n ≡ l
+unfolding part
+part-past l n h = take-all n l h
+
+-- a stretch of the rest, from its front
+pub part-rest-front : (l : List ℕ) (from n : ℕ) → part (rest l from) 0 n ≡ part l from n
+part-rest-front l from n = part-rest l from 0 n ∙ ap (λ (at : ℕ). part l at n) (add-zero from)
+
+-- one element before the list
+pub part-cons : (x : ℕ) (l : List ℕ) (from n : ℕ) → part (x ∷ l) (suc from) n ≡ part l from n
+unfolding part
+part-cons x l from n = refl
+
+pub part-front : (x : ℕ) (l : List ℕ) (n : ℕ) → part (x ∷ l) 0 (suc n) ≡ x ∷ part l 0 n
+unfolding part
+part-front x l n = refl
+
+-- stretches of two lists, one behind the other: the first, a stretch within it, and one behind it
+pub part-append : (a b : List ℕ) → part (a ++ b) 0 (length a) ≡ a
+unfolding part
+part-append a b = take-append-seam a b
+
+pub part-append-within : (a b : List ℕ) (from n : ℕ) → from + n ≤ length a → part (a ++ b) from n ≡ part a from n
+unfolding part
+part-append-within a b from n h =
+    let begins : from ≤ length a = omega arith in
+    let ends : n ≤ length (drop from a) = omega (arith, length-drop from a) in
+    ap (take n) (drop-append-le from a b begins) ∙ take-append-le n (drop from a) b ends
+
+pub part-append-behind : (a b : List ℕ) (at n : ℕ) → part (a ++ b) (length a + at) n ≡ part b at n
+unfolding part
+part-append-behind a b at n = ap (take n) (drop-append-add a b at)
+
+-- The rest, and the rest of that.
+pub rest-none : (l : List ℕ) → rest l 0 ≡ l
+unfolding rest
+rest-none l = refl
+
+pub rest-nil : (from : ℕ) → rest [] from ≡ []
+unfolding rest
+rest-nil from = drop-nil from
+
+pub rest-cons : (x : ℕ) (l : List ℕ) (from : ℕ) → rest (x ∷ l) (suc from) ≡ rest l from
+unfolding rest
+rest-cons x l from = refl
+
+pub rest-rest : (l : List ℕ) (from n : ℕ) → rest (rest l from) n ≡ rest l (from + n)
+unfolding rest
+rest-rest l from n = drop-drop n from l
+
+-- behind the end nothing is left
+pub rest-past : (l : List ℕ) (from : ℕ) → length l ≤ from → rest l from ≡ []
+unfolding rest
+rest-past l from h = drop-of-length-le l h
+
+-- the rest of two lists, one behind the other: the second, and what is left of it
+pub rest-append : (a b : List ℕ) → rest (a ++ b) (length a) ≡ b
+unfolding rest
+rest-append a b = drop-append-seam a b
+
+pub rest-append-within : (a b : List ℕ) (from : ℕ) → from ≤ length a → rest (a ++ b) from ≡ rest a from ++ b
+unfolding rest
+rest-append-within a b from h = drop-append-le from a b h
+
+pub rest-append-behind : (a b : List ℕ) (at : ℕ) → rest (a ++ b) (length a + at) ≡ rest b at
+unfolding rest
+rest-append-behind a b at = drop-append-add a b at
+
+-- the rest begins with the element at its place
+pub rest-byte : (l : List ℕ) (i : ℕ) → i < length l → rest l i ≡ byteAt l i ∷ rest l (i + 1)
+unfolding rest
+rest-byte l i h = drop-cons l i 0 h ∙ ap (λ (n : ℕ). byteAt l i ∷ drop n l) (sym (add-one i))
+
+-- .. and so it tells that element and the rest from the next place on
+pub byte-of-rest : (l : List ℕ) (i x : ℕ) (more : List ℕ) → rest l i ≡ x ∷ more → byteAt l i ≡ x
+byte-of-rest l i x more e = ap (byteAt l) (sym (add-zero i)) ∙ sym (byte-rest l i 0) ∙ ap (λ (m : List ℕ). byteAt m 0) e
+
+pub rest-of-rest : (l : List ℕ) (i x : ℕ) (more : List ℕ) → rest l i ≡ x ∷ more → rest l (i + 1) ≡ more
+rest-of-rest l i x more e =
+    sym (rest-rest l i 1) ∙ ap (λ (m : List ℕ). rest m 1) e ∙ rest-cons x more 0 ∙ rest-none more
+
+-- an element that is not 0 lies in the list
+pub byte-inside : (l : List ℕ) (i : ℕ) → 1 ≤ byteAt l i → i < length l
+byte-inside [] i h = absurd (not-suc-le-zero h)
+byte-inside (x ∷ l) zero h = omega arith
+byte-inside (x ∷ l) (suc i) h = let r = byte-inside l i h in omega arith
+
+-- lists one behind the other, each of which is as it was
+pub append-same : {a b x y : List ℕ} → a ≡ x → b ≡ y → a ++ b ≡ x ++ y
+append-same p q = rw (p, q) refl
+
 -- Stretches replaced.
 head-length : (d : List ℕ) (at : ℕ) (x : List ℕ) → at ≤ length d → length (take at d ++ x) ≡ at + length x
 head-length d at x h = length-append (take at d) x ∙ ap (λ (k : ℕ). k + length x) (length-take-le at d h)
@@ -116,12 +224,26 @@ put-put d at x y h =
     let e = head-length d at x k in
     let t : take n (take at d ++ x ++ drop n d) ≡ take at d ++ x = take-at (take at d ++ x) (drop n d) n e in
     let r : drop (n + length y) (take at d ++ x ++ drop n d) ≡ drop (n + length y) d =
-    sym (drop-drop (length y) n (take at d ++ x ++ drop n d)) ∙ ap (drop (length y)) (drop-at (take at d ++ x) (drop n d) n e) ∙ drop-drop (length y) n d in
+    sym (drop-drop (length y) n (take at d ++ x ++ drop n d)) ∙ ap (drop (length y)) (drop-at (take at d ++ x) (drop n d) n e)
+    ∙ drop-drop (length y) n d in
     rw (t, r, length-append x y, append-assoc (take at d) x y, add-assoc at (length x) (length y)) refl
 
 -- .. of which the first has n elements
 put-put-after : (d : List ℕ) (at n : ℕ) (x y : List ℕ) → length x ≡ n → at + n ≤ length d → put (put d at x) (at + n) y ≡ put d at (x ++ y)
 put-put-after d at n x y e h = rw (← e) (put-put d at x y (omega arith))
+
+-- What was put grows by what is put behind it: e has x, and f has y behind it.
+pub put-more : {e f : List ℕ} (d : List ℕ) (at : ℕ) (x y : List ℕ) (n : ℕ) → at + length x ≤ length d → e ≡ put d at x → n ≡ at + length x →
+    f ≡ put e n y → f ≡ put d at (x ++ y)
+put-more d at x y n h so-far behind next = next ∙ rw (so-far, behind) (put-put d at x y h)
+
+-- .. as a list that grows by its next element
+pub put-up-to-more : {e : List ℕ} (d : List ℕ) (at : ℕ) (f : ℕ → ℕ) (n : ℕ) → at + n < length d → e ≡ put d at (upTo f n) →
+    put e (at + n) (f n ∷ []) ≡ put d at (upTo f (n + 1))
+put-up-to-more d at f n room so-far =
+    let m = length-up-to f n in
+    rw (so-far, up-to-more f n)
+    (ap (λ (i : ℕ). put (put d at (upTo f n)) (at + i) (f n ∷ [])) (sym m) ∙ put-put d at (upTo f n) (f n ∷ []) (omega arith))
 
 -- .. the first of them at the front
 pub put-put-front : (d x y : List ℕ) → length x ≤ length d → put (put d 0 x) (length x) y ≡ put d 0 (x ++ y)
@@ -136,12 +258,14 @@ put-before d at x y h =
     let n = at + length x in
     let k : at ≤ length d = omega arith in
     let e : length (take n d) ≡ n = length-take-le n d h in
-    let whole : take n d ++ y ++ drop (n + length y) d ≡ take n d ++ (y ++ drop (n + length y) d) = append-assoc (take n d) y (drop (n + length y) d) in
+    let whole : take n d ++ y ++ drop (n + length y) d ≡ take n d ++ (y ++ drop (n + length y) d) =
+    append-assoc (take n d) y (drop (n + length y) d) in
     let t : take at (take n d ++ y ++ drop (n + length y) d) ≡ take at d =
     ap (take at) whole ∙ take-append-le at (take n d) (y ++ drop (n + length y) d) (omega arith) ∙ take-take at n d (omega arith) in
     let r : drop n (take n d ++ y ++ drop (n + length y) d) ≡ y ++ drop (n + length y) d =
     ap (drop n) whole ∙ drop-at (take n d) (y ++ drop (n + length y) d) n e in
-    rw (t, r, length-append x y, ← add-assoc at (length x) (length y), ← append-assoc (take at d) x y) (sym (append-assoc (take at d ++ x) y (drop (n + length y) d)))
+    rw (t, r, length-append x y, ← add-assoc at (length x) (length y), ← append-assoc (take at d) x y)
+    (sym (append-assoc (take at d ++ x) y (drop (n + length y) d)))
 
 -- a put over one that is no longer: nothing is left of that
 put-again : (d : List ℕ) (at : ℕ) (x y : List ℕ) → at + length x ≤ length d → length x ≤ length y → put (put d at x) at y ≡ put d at y
@@ -154,7 +278,8 @@ put-again d at x y h shorter =
     let t : take at (take at d ++ x ++ drop n d) ≡ take at d =
     ap (take at) (append-assoc (take at d) x (drop n d)) ∙ take-at (take at d) (x ++ drop n d) at (length-take-le at d k) in
     let r : drop (n + more) (take at d ++ x ++ drop n d) ≡ drop (n + more) d =
-    sym (drop-drop more n (take at d ++ x ++ drop n d)) ∙ ap (drop more) (drop-at (take at d ++ x) (drop n d) n (head-length d at x k)) ∙ drop-drop more n d in
+    sym (drop-drop more n (take at d ++ x ++ drop n d)) ∙ ap (drop more) (drop-at (take at d ++ x) (drop n d) n (head-length d at x k))
+    ∙ drop-drop more n d in
     rw (split, t, r) refl
 
 -- A copy of s into d goes on. The first a elements stand there, in e; in f the n from place b on stand there too. These begin right
@@ -193,7 +318,8 @@ part-put d at x h =
     (take-append-seam x (drop (at + length x) d))
 
 -- .. where that is a stretch of another list
-pub part-put-part : (d s : List ℕ) (at from n : ℕ) → at + n ≤ length d → from + n ≤ length s → part (put d at (part s from n)) at n ≡ part s from n
+pub part-put-part : (d s : List ℕ) (at from n : ℕ) → at + n ≤ length d → from + n ≤ length s →
+    part (put d at (part s from n)) at n ≡ part s from n
 part-put-part d s at from n in-d in-s =
     let long : length (part s from n) ≡ n = length-part s from n in-s in
     ap (part (put d at (part s from n)) at) (sym long) ∙ part-put d at (part s from n) (omega arith)
@@ -239,7 +365,8 @@ pub part-put-apart : (d : List ℕ) (at : ℕ) (x : List ℕ) (from n : ℕ) →
 part-put-apart d at x from n h g apart =
     let long = length-put d at x h in
     part-same (put d at x) d from n (omega arith) g
-    (λ i l m. byte-put d at x i h (⊎-elim (λ a. inl (let k : i < at = omega arith in k)) (λ b. inr (let k : at + length x ≤ i = omega arith in k)) apart))
+    (λ i l m. byte-put d at x i h (⊎-elim (λ a. inl (let k : i < at = omega arith in k))
+    (λ b. inr (let k : at + length x ≤ i = omega arith in k)) apart))
 
 -- put at the front, the rest follows
 pub put-front : (d x : List ℕ) → put d 0 x ≡ x ++ rest d (0 + length x)
@@ -259,7 +386,56 @@ set-set-put d i v w h =
     let m : i + 1 < length (put d i (v ∷ [])) = omega (arith, length-put d i (v ∷ []) n) in
     ap (λ (l : List ℕ). set l (i + 1) w) a ∙ set-put (put d i (v ∷ [])) (i + 1) w m ∙ put-put d i (v ∷ []) (w ∷ []) n
 
--- Stretches back to back.
+-- Stretches back to back: none, one more at the front, and one.
+pub joined-none : joined [] ≡ []
+unfolding joined
+joined-none = refl
+
+pub joined-cons : (s : List ℕ) (more : List (List ℕ)) → joined (s ∷ more) ≡ s ++ joined more
+unfolding joined
+joined-cons s more = refl
+
+pub joined-one : (s : List ℕ) → joined (s ∷ []) ≡ s
+unfolding joined
+joined-one s = append-nil s
+
+pub length-joined-none : length (joined []) ≡ 0
+unfolding joined
+length-joined-none = refl
+
+pub length-joined : (s : List ℕ) (more : List (List ℕ)) → length (joined (s ∷ more)) ≡ length s + length (joined more)
+unfolding joined
+length-joined s more = length-append s (joined more)
+
+pub lengthsOf-none : lengthsOf [] ≡ []
+unfolding lengthsOf
+lengthsOf-none = refl
+
+pub lengthsOf-cons : (s : List ℕ) (more : List (List ℕ)) → lengthsOf (s ∷ more) ≡ length s ∷ lengthsOf more
+unfolding lengthsOf
+lengthsOf-cons s more = refl
+
+pub lengthsOf-one : (s : List ℕ) → lengthsOf (s ∷ []) ≡ length s ∷ []
+unfolding lengthsOf
+lengthsOf-one s = refl
+
+pub cut-none : (bytes : List ℕ) → cutBy [] bytes ≡ []
+unfolding cutBy
+cut-none bytes = refl
+
+pub cut-cons : (n : ℕ) (more bytes : List ℕ) → cutBy (n ∷ more) bytes ≡ part bytes 0 n ∷ cutBy more (rest bytes n)
+unfolding cutBy part rest
+cut-cons n more bytes = refl
+
+-- stretches of which none is empty, and that have nothing back to back, are none
+pub joined-empty : (a : List (List ℕ)) → Each (λ s. 1 ≤ length s) a → joined a ≡ [] → a ≡ []
+joined-empty [] filled e = refl
+joined-empty (s ∷ a) filled e = absurd (never (filled .0) (sym (length-joined s a) ∙ ap length e))
+  where
+    never : 1 ≤ length s → length s + length (joined a) ≡ 0 → ⊥
+    never some none = omega arith
+
+-- two lists of stretches
 pub joined-append : (a b : List (List ℕ)) → joined (a ++ b) ≡ joined a ++ joined b
 unfolding joined
 joined-append [] b = refl
@@ -355,6 +531,83 @@ unfolding lengthsOf joined
 total-lengthsOf [] = refl
 total-lengthsOf (s ∷ a) = omega (arith, total-lengthsOf a, length-append s (joined a))
 
+-- Stretches that all have n elements, ..
+pub length-joined-each : (n : ℕ) (a : List (List ℕ)) → Each (λ s. length s ≡ n) a → length (joined a) ≡ n * length a
+length-joined-each n [] same = omega (arith, length-joined-none)
+length-joined-each n (s ∷ a) same =
+    omega (arith, length-joined s a, same .0, length-joined-each n a (same .1), mul-suc n (length a))
+
+module _ {A : Type 0} (f : A → List ℕ) where
+  pub length-joined-map : (n : ℕ) → ((x : A) → length (f x) ≡ n) → (l : List A) → length (joined (map f l)) ≡ n * length l
+  length-joined-map n same [] = omega (arith, length-joined-none)
+  length-joined-map n same (x ∷ l) =
+      omega (arith, length-joined (f x) (map f l), same x, length-joined-map n same l, mul-suc n (length l))
+
+  -- .. so that element i of stretch k stands n k + i elements on
+  pub byte-joined : (n : ℕ) → ((x : A) → length (f x) ≡ n) → (l : List A) (d : A) (k i : ℕ) → k < length l → i < n →
+      byteAt (joined (map f l)) (n * k + i) ≡ byteAt (f (getD l k d)) i
+  byte-joined n same [] d k i there inside = absurd (not-suc-le-zero there)
+  byte-joined n same (x ∷ l) d zero i there inside =
+      let at : n * 0 + i ≡ i = omega arith in
+      let first : i < length (f x) = omega (arith, same x) in
+      rw (at, joined-cons (f x) (map f l)) (List·getD-append (f x) (joined (map f l)) 0 i first)
+  byte-joined n same (x ∷ l) d (suc k) i there inside =
+      let at : n * suc k + i ≡ length (f x) + (n * k + i) = omega (arith, same x, mul-suc n k) in
+      rw (at, joined-cons (f x) (map f l))
+      (getD-append-add (f x) (joined (map f l)) (n * k + i) 0 ∙ byte-joined n same l d k i (omega arith) inside)
+
+  -- Stretches of any length, added up: the first k of them, and all.
+  length-joined-first : (l : List A) (d : A) (k : ℕ) → k ≤ length l →
+      length (joined (map f (take k l))) ≡ sumTo (λ i. length (f (getD l i d))) k
+  unfolding sumTo
+  length-joined-first l d zero h = length-joined-none
+  length-joined-first l d (suc k) h =
+      ap (λ (m : List A). length (joined (map f m))) (take-suc l k d h)
+      ∙ ap length (joined-map-more f (take k l) (getD l k d))
+      ∙ length-append (joined (map f (take k l))) (f (getD l k d))
+      ∙ ap (λ (n : ℕ). n + length (f (getD l k d))) (length-joined-first l d k (omega arith))
+
+  pub length-joined-sum : (l : List A) (d : A) → length (joined (map f l)) ≡ sumTo (λ i. length (f (getD l i d))) (length l)
+  length-joined-sum l d =
+      ap (λ (m : List A). length (joined (map f m))) (sym (take-all (length l) l (omega arith)))
+      ∙ length-joined-first l d (length l) (omega arith)
+
+  -- .. so that stretch k stands behind the lengths of those before it
+  pub part-joined-at : (head tail : List ℕ) (l : List A) (d : A) (k : ℕ) → k < length l →
+      part (head ++ joined (map f l) ++ tail) (length head + sumTo (λ i. length (f (getD l i d))) k) (length (f (getD l k d)))
+      ≡ f (getD l k d)
+  part-joined-at head tail l d k there =
+      let x = getD l k d in
+      let before = take k l in
+      let behind = drop (suc k) l in
+      let sum = sumTo (λ i. length (f (getD l i d))) k in
+      let few : k ≤ length l = omega arith in
+      ap (λ (m : List A). part (head ++ joined (map f m) ++ tail) (length head + sum) (length (f x))) (split-at l k d there)
+      ∙ ap (λ (n : ℕ). part (head ++ joined (map f (before ++ x ∷ behind)) ++ tail) (length head + n) (length (f x)))
+      (sym (length-joined-first l d k few))
+      ∙ part-joined f head tail before x behind
+
+-- Bytes taken apart by the first i + 1 of many lengths: the last stretch starts behind the first i lengths.
+pub cut-part-more : (lengths bytes : List ℕ) (i : ℕ) → i < length lengths →
+    cutBy (part lengths 0 (i + 1)) bytes ≡ cutBy (part lengths 0 i) bytes ++ (part bytes (sumTo (byteAt lengths) i) (byteAt lengths i) ∷ [])
+cut-part-more lengths bytes i h =
+    ap (λ (l : List ℕ). cutBy l bytes) (part-more lengths i h)
+    ∙ cut-more (part lengths 0 i) (byteAt lengths i) bytes
+    ∙ ap (λ (n : ℕ). cutBy (part lengths 0 i) bytes ++ (part bytes n (byteAt lengths i) ∷ [])) (total-part lengths i (omega (arith, h)))
+
+pub cut-part-none : (lengths bytes : List ℕ) → cutBy (part lengths 0 0) bytes ≡ []
+cut-part-none lengths bytes = ap (λ (l : List ℕ). cutBy l bytes) (part-none lengths 0) ∙ cut-none bytes
+
+-- Stretches and their lengths, put at the front of two lists, are found there. (Of the list of bytes no room is asked: `put` at the
+-- front has the whole of what it puts.)
+pub cut-put : (a : List (List ℕ)) (lengths bytes : List ℕ) → length a ≤ length lengths →
+    cutBy (part (put lengths 0 (lengthsOf a)) 0 (length a)) (put bytes 0 (joined a)) ≡ a
+cut-put a lengths bytes room =
+    let n = length-lengthsOf a in
+    let read : part (put lengths 0 (lengthsOf a)) 0 (length a) ≡ lengthsOf a =
+    ap (part (put lengths 0 (lengthsOf a)) 0) (sym n) ∙ part-put lengths 0 (lengthsOf a) (omega (arith, n)) in
+    rw (read, put-front bytes (joined a)) (cut-joined a (rest bytes (0 + length (joined a))))
+
 -- four elements stored one behind the other at the front are a put
 pub set-four-put : (d : List ℕ) (a b c e : ℕ) → 4 ≤ length d → set (set (set (set d 0 a) 1 b) 2 c) 3 e ≡ put d 0 (a ∷ b ∷ c ∷ e ∷ [])
 set-four-put d a b c e h =
@@ -382,120 +635,6 @@ part-four l at m h =
     ∙ ap (λ (s : List ℕ). byteAt l (at + 1) ∷ s)
     (part-byte l (at + 2) (at + 3) (2 + m) (1 + m) (omega arith) (omega arith) (omega arith)
     ∙ ap (λ (s : List ℕ). byteAt l (at + 2) ∷ s) (part-byte l (at + 3) (at + 4) (1 + m) m (omega arith) refl (omega arith))))
-
--- what the checker knows of a slice taken from the front, `&l[..n]`
-pub length-sliced : (l : List ℕ) (n : ℕ) → n ≤ length l → n ≡ length (take n l)
-length-sliced l n h = sym (length-take-le n l h)
-
-pub sliced-front : (l : List ℕ) (n : ℕ) → take n l ≡ part l 0 n
-unfolding part
-sliced-front l n = refl
-
--- a stretch from the front, and the rest behind it
-pub part-and-rest : (l : List ℕ) (n : ℕ) → part l 0 n ++ rest l n ≡ l
-unfolding part rest
-part-and-rest l n = take-append-drop n l
-
--- a stretch from the front that is asked to be longer than the list is the list
-pub part-past : (l : List ℕ) (n : ℕ) → length l ≤ n → part l 0 n ≡ l
-unfolding part
-part-past l n h = take-all n l h
-
--- a stretch of the rest, from its front
-pub part-rest-front : (l : List ℕ) (from n : ℕ) → part (rest l from) 0 n ≡ part l from n
-part-rest-front l from n = part-rest l from 0 n ∙ ap (λ (at : ℕ). part l at n) (add-zero from)
-
--- stretches of two lists, one behind the other: the first, a stretch within it, and one behind it
-pub part-append : (a b : List ℕ) → part (a ++ b) 0 (length a) ≡ a
-unfolding part
-part-append a b = take-append-seam a b
-
-pub part-append-within : (a b : List ℕ) (from n : ℕ) → from + n ≤ length a → part (a ++ b) from n ≡ part a from n
-unfolding part
-part-append-within a b from n h =
-    let begins : from ≤ length a = omega arith in
-    let ends : n ≤ length (drop from a) = omega (arith, length-drop from a) in
-    ap (take n) (drop-append-le from a b begins) ∙ take-append-le n (drop from a) b ends
-
-pub part-append-behind : (a b : List ℕ) (at n : ℕ) → part (a ++ b) (length a + at) n ≡ part b at n
-unfolding part
-part-append-behind a b at n = ap (take n) (drop-append-add a b at)
-
--- The rest, and the rest of that.
-pub rest-none : (l : List ℕ) → rest l 0 ≡ l
-unfolding rest
-rest-none l = refl
-
-pub rest-rest : (l : List ℕ) (from n : ℕ) → rest (rest l from) n ≡ rest l (from + n)
-unfolding rest
-rest-rest l from n = drop-drop n from l
-
--- behind the end nothing is left
-pub rest-past : (l : List ℕ) (from : ℕ) → length l ≤ from → rest l from ≡ []
-unfolding rest
-rest-past l from h = drop-of-length-le l h
-
--- the rest of two lists, one behind the other: the second, and what is left of it
-pub rest-append : (a b : List ℕ) → rest (a ++ b) (length a) ≡ b
-unfolding rest
-rest-append a b = drop-append-seam a b
-
-pub rest-append-behind : (a b : List ℕ) (at : ℕ) → rest (a ++ b) (length a + at) ≡ rest b at
-unfolding rest
-rest-append-behind a b at = drop-append-add a b at
-
--- the rest begins with the element at its place
-pub rest-byte : (l : List ℕ) (i : ℕ) → i < length l → rest l i ≡ byteAt l i ∷ rest l (i + 1)
-unfolding rest
-rest-byte l i h = drop-cons l i 0 h ∙ ap (λ (n : ℕ). byteAt l i ∷ drop n l) (sym (add-one i))
-
--- What was put grows by what is put behind it: e has x, and f has y behind it.
-pub put-more : {e f : List ℕ} (d : List ℕ) (at : ℕ) (x y : List ℕ) (n : ℕ) → at + length x ≤ length d → e ≡ put d at x → n ≡ at + length x →
-    f ≡ put e n y → f ≡ put d at (x ++ y)
-put-more d at x y n h so-far behind next = next ∙ rw (so-far, behind) (put-put d at x y h)
-
--- Stretches back to back: none, one more at the front, and one.
-pub joined-none : joined [] ≡ []
-unfolding joined
-joined-none = refl
-
-pub joined-cons : (s : List ℕ) (more : List (List ℕ)) → joined (s ∷ more) ≡ s ++ joined more
-unfolding joined
-joined-cons s more = refl
-
-pub joined-one : (s : List ℕ) → joined (s ∷ []) ≡ s
-unfolding joined
-joined-one s = append-nil s
-
-pub length-joined-none : length (joined []) ≡ 0
-unfolding joined
-length-joined-none = refl
-
-pub length-joined : (s : List ℕ) (more : List (List ℕ)) → length (joined (s ∷ more)) ≡ length s + length (joined more)
-unfolding joined
-length-joined s more = length-append s (joined more)
-
-pub lengthsOf-none : lengthsOf [] ≡ []
-unfolding lengthsOf
-lengthsOf-none = refl
-
-pub lengthsOf-cons : (s : List ℕ) (more : List (List ℕ)) → lengthsOf (s ∷ more) ≡ length s ∷ lengthsOf more
-unfolding lengthsOf
-lengthsOf-cons s more = refl
-
-pub cut-none : (bytes : List ℕ) → cutBy [] bytes ≡ []
-unfolding cutBy
-cut-none bytes = refl
-
-pub cut-cons : (n : ℕ) (more bytes : List ℕ) → cutBy (n ∷ more) bytes ≡ part bytes 0 n ∷ cutBy more (rest bytes n)
-unfolding cutBy part rest
-cut-cons n more bytes = refl
-
--- Stretches that all have n elements
-pub length-joined-each : (n : ℕ) (a : List (List ℕ)) → Each (λ s. length s ≡ n) a → length (joined a) ≡ n * length a
-length-joined-each n [] same = omega (arith, length-joined-none)
-length-joined-each n (s ∷ a) same =
-    omega (arith, length-joined s a, same .0, length-joined-each n a (same .1), mul-suc n (length a))
 
 -- Stretches of stretches, stretches that reach past the end, and stretches of one length: what the writer and the reader of packets go by.
 -- A stretch from the front is as long as was asked for, or as the list; and one that is asked to be longer than that is what is there of it.

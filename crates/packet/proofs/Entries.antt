@@ -1,28 +1,23 @@
 -- The segment table: where an entry lies, and the invariants of the loops that go through it. An entry's width is a number of its own, so
 -- that nothing here changes when another edition of the header brings wider entries.
-use Prim.Native.Nat.{ℕ, suc, _+_, _*_, _/_, _%_, _<_, _≤_}
+use Prim.Native.Nat.{ℕ, _+_, _*_, _/_, _%_, _<_, _≤_}
 use mathlib.Core.Path.{_≡_, refl, sym, ap, _∙_}
 use mathlib.Core.Bool.{Bool, true, false, not, _||_}
 use mathlib.Core.List.{List}
 use native.Mathlib.Omega.{arith}
-use native.Mathlib.Nat.{mul-suc, mul-le-mul-left}
+use native.Mathlib.Nat.{mul-le-mul-left}
 use lib.Dec.{eqb, leb}
 use borrow.Author.Tests.{eq-eqb, ne-eqb, eqb-true, eqb-false, leb-true, leb-false, not-false}
 use Rattle.octets.specs.Count.{any, sumTo}
+use Rattle.octets.proofs.Numbers.{mul-before}
 use Rattle.octets.proofs.Counts.{or-false-left, or-false-right, any-none, any-more, sum-none, sum-more}
 use Rattle.packet.specs.Header.{headerLength, segmentCount}
 use Rattle.packet.specs.Segments.{bBit, eBit, lengthValues, entryAt, beginsIn, endsIn, lengthIn, lengthAt}
 use Rattle.packet.specs.Psp.{badEntry, badAt}
 
--- entry k ends before entry n begins
-pub entry-before : (width k n : ℕ) → k < n → width * k + width ≤ width * n
-entry-before width k n h =
-    let e : width * suc k ≤ width * n = mul-le-mul-left width h in
-    omega (arith, mul-suc width k)
-
--- so the first two bytes of entry k lie in a packet that has room for n entries
+-- the first two bytes of entry k lie in a packet that has room for n entries
 pub entry-within : (width k n room : ℕ) → 2 ≤ width → k < n → headerLength + width * n ≤ room → headerLength + width * k + 1 < room
-entry-within width k n room w h r = omega (arith, entry-before width k n h)
+entry-within width k n room w h r = omega (arith, mul-before width k n h)
 
 -- where n entries fit, fewer do
 pub fewer-entries : (width k n room : ℕ) → k ≤ n → headerLength + width * n ≤ room → headerLength + width * k ≤ room
@@ -63,8 +58,10 @@ marks-by : (low fault : Bool) (entry : ℕ) → entry < 65536 → leb entry (bBi
 marks-by true true entry small l f = refl
 marks-by true false entry small l f =
     let whole = or-false-left (eqb (lengthIn entry) 0 || not (beginsIn entry)) (not (endsIn entry)) f in
-    let ends : entry / eBit % 2 ≡ 1 = eqb-true _ _ (not-false (endsIn entry) (or-false-right (eqb (lengthIn entry) 0 || not (beginsIn entry)) (not (endsIn entry)) f)) in
-    let begins : entry / bBit % 2 ≡ 1 = eqb-true _ _ (not-false (beginsIn entry) (or-false-right (eqb (lengthIn entry) 0) (not (beginsIn entry)) whole)) in
+    let ends : entry / eBit % 2 ≡ 1 =
+    eqb-true _ _ (not-false (endsIn entry) (or-false-right (eqb (lengthIn entry) 0 || not (beginsIn entry)) (not (endsIn entry)) f)) in
+    let begins : entry / bBit % 2 ≡ 1 =
+    eqb-true _ _ (not-false (beginsIn entry) (or-false-right (eqb (lengthIn entry) 0) (not (beginsIn entry)) whole)) in
     let some : entry % lengthValues ≡ 0 → ⊥ = eqb-false _ _ (or-false-left (eqb (lengthIn entry) 0) (not (beginsIn entry)) whole) in
     let below : entry ≤ bBit + eBit = leb-true _ _ l in
     absurd (omega (arith, some))
@@ -100,7 +97,8 @@ pub survey-first : {width : ℕ} {sub : List ℕ} {count entry size : ℕ} {bad 
     1 ≤ count → count ≡ segmentCount sub → entry ≡ entryAt width sub 0 →
     size ≡ lengthIn entry → bad ≡ badEntry count 0 entry → Surveying width sub count size bad 1
 survey-first {width} {sub} {count} {entry} {size} {bad} l c e z b =
-    let none : Surveying width sub count 0 false 0 = record { summed = sum-begin width sub count; faults = sym (any-none (badAt width sub)) } in
+    let none : Surveying width sub count 0 false 0 =
+    record { summed = sum-begin width sub count; faults = sym (any-none (badAt width sub)) } in
     let one : Surveying width sub count (0 + size) (false || bad) (0 + 1) = survey-turn none l c e z b in
     let bare : 0 + size ≡ size = omega arith in
     rw bare at one

@@ -10,8 +10,8 @@ use lib.Dec.{eqb, ltb, leb}
 use lib.ListN.{length}
 use borrow.Author.Tests.{lt-ltb, le-ltb, ltb-true, ltb-false}
 use Rattle.refusal.specs.Refusal.{Refusal, _when_, first}
-use Rattle.octets.specs.Stretch.{part, rest}
-use Rattle.octets.proofs.Stretches.{part-none, part-rest}
+use Rattle.octets.specs.Stretch.{part}
+use Rattle.octets.proofs.Stretches.{part-none, part-rest, rest-append-behind}
 use Rattle.packet.specs.declared.Extent.{Extent}
 use Rattle.packet.specs.Header.{Packet, ip, udp, udpLead, idLength, notVersion3, sessionId, sub, segmentCount}
 use Rattle.packet.specs.Header.{shortestPacket, longestPacket, tooShort, tooLong, beforeSession}
@@ -36,8 +36,7 @@ module _ (a b c d : ℕ) (bytes : List ℕ) where
   same-session = refl
 
   pub same-sub : sub led ≡ sub (ip bytes)
-  unfolding rest
-  same-sub = refl
+  same-sub = rest-append-behind (a ∷ b ∷ c ∷ d ∷ []) bytes idLength
 
   longer : length (led .bytes) ≡ udpLead + length bytes
   longer = omega arith

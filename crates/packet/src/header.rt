@@ -46,13 +46,6 @@ const SHORTEST_PACKET: usize = 8;
 
 const LONGEST_PACKET: usize = 4100;
 
-// A byte as a number to count with. The contract says its bound, which a sum needs.
-pub fn wide(byte: u8) -> usize
-    ensures { λ r. ⌜ (r ≡ byte) × (r < 256) ⌝ }
-{
-    byte as usize
-}
-
 // How many bytes stand before the session ID.
 pub fn lead_of(transport: u32) -> usize
     ensures { λ r. ⌜ (r ≡ leadOf transport) × (r ≤ udpLead) ⌝ }
@@ -106,14 +99,14 @@ pub fn flow_id(sub: &[u8]) -> usize
     requires { ⌜ headerLength ≤ length (now sub) ⌝ }
     ensures { λ r. ⌜ (r ≡ flowId (now (sub .entry))) × (r < flowValues) ⌝ }
 {
-    wide(sub[0] % FLOW_VALUES)
+    octets::wide_u8(sub[0] % FLOW_VALUES)
 }
 
 pub fn segment_count(sub: &[u8]) -> usize
     requires { ⌜ headerLength ≤ length (now sub) ⌝ }
     ensures { λ r. ⌜ (r ≡ segmentCount (now (sub .entry))) × (r < countValues) ⌝ }
 {
-    wide(sub[1] % COUNT_VALUES)
+    octets::wide_u8(sub[1] % COUNT_VALUES)
 }
 
 // The sequence number.

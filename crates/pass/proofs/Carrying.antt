@@ -2,15 +2,14 @@
 -- invariant of the loop over them, with a begin, a turn and an end. Nothing is held at any time, so the whole goes without a holding slice,
 -- and holds with any (`placed-anywhere`).
 use Prim.Native.Nat.{ℕ, _+_, _<_, _≤_}
-use mathlib.Core.Path.{_≡_, refl, sym}
+use mathlib.Core.Path.{_≡_, refl, sym, ap}
 use mathlib.Core.Bool.{Bool, true, false}
-use mathlib.Core.List.{List, [], _∷_, append-nil}
+use mathlib.Core.List.{List, [], _∷_}
 use native.Mathlib.Omega.{arith}
 use lib.ListN.{length}
-use Rattle.octets.specs.Stretch.{joined}
 use Rattle.octets.specs.Count.{sumTo, upTo}
 use Rattle.octets.proofs.Counts.{sum-more, sum-below}
-use Rattle.octets.proofs.Stretches.{put-nil}
+use Rattle.octets.proofs.Stretches.{put-nil, joined-one, length-joined-none}
 use Rattle.packet.specs.Segments.{Segment}
 use Rattle.join.specs.declared.Tally.{Tally}
 use Rattle.join.specs.Join.{Fate, dropping, inOrder}
@@ -42,13 +41,13 @@ fateAt l k = inOrder (λ before x. passedOn (l .goes x) (l .body x)) (dropping (
 
 -- Each piece has one fate.
 pub passed-accounts : (goes : Bool) (bytes : List ℕ) → Accounts (length bytes) 1 0 (passedOn goes bytes)
-unfolding joined
-passed-accounts true bytes = record { all = rw (append-nil bytes) (omega arith); frames-few = omega arith; held-few = omega arith }
-passed-accounts false bytes = record { all = omega arith; frames-few = omega arith; held-few = omega arith }
+passed-accounts true bytes =
+    record { all = omega (arith, ap length (joined-one bytes)); frames-few = omega arith; held-few = omega arith }
+passed-accounts false bytes =
+    record { all = omega (arith, length-joined-none); frames-few = omega arith; held-few = omega arith }
 
 first-accounts : (held : List ℕ) → Accounts (length held) 0 0 (dropping held)
-unfolding joined
-first-accounts held = record { all = omega arith; frames-few = omega arith; held-few = omega arith }
+first-accounts held = record { all = omega (arith, length-joined-none); frames-few = omega arith; held-few = omega arith }
 
 module _ {X : Type 0} (l : Load X) (fitting : Fitting l) where
   each-accounts : (held : List ℕ) (k : ℕ) → length held ≤ 0 → k < l .count →
@@ -130,7 +129,8 @@ module _ {X : Type 0} (l : Load X) (fitting : Fitting l) {out lengths : List ℕ
         }
 
   pub carry-end : l .count ≤ k →
-      Placed (passAll (l .goes) (l .body) (l .held) (upTo (l .piece) (l .count))) 0 nothingYet (without out lengths) tally (without out′ lengths′)
+      Placed (passAll (l .goes) (l .body) (l .held) (upTo (l .piece) (l .count))) 0 nothingYet (without out lengths) tally
+      (without out′ lengths′)
   unfolding passAll
   carry-end over = let done : k ≡ l .count = omega (arith, c .within) in rw done at (c .placed)
 

@@ -8,6 +8,7 @@ use native.Mathlib.Omega.{arith}
 use lib.Dec.{eqb}
 use lib.ListN.{length}
 use Rattle.refusal.specs.Refusal.{first}
+use Rattle.refusal.proofs.Laws.{when-accepted, when-refused}
 use Rattle.octets.specs.Stretch.{joined}
 use Rattle.packet.specs.Header.{Packet, sub}
 use Rattle.table.specs.declared.Table.{Table}
@@ -19,16 +20,18 @@ use Rattle.table.proofs.Keeping.{closes as closes-there}
 use Rattle.card.specs.History.{Card, Arrival, Call, opens, closes, hands, lentWith, handed, answer, afterAll, emptyCard}
 use Rattle.card.proofs.Accepted.{received-refused}
 use Rattle.card.proofs.Step.{framesIn, one-flow-step}
-use Rattle.promises.specs.Account.{Lent, cardFor, tableAfter, tableAfterAll, countedBy, bytesTaken, bytesDelivered, bytesDropped, heldInAll, deliveredBy, droppedBy, ByteAccount}
+use Rattle.promises.specs.Account.{Lent, cardFor, tableAfter, tableAfterAll, countedBy, bytesTaken, bytesDelivered, bytesDropped}
+use Rattle.promises.specs.Account.{heldInAll, deliveredBy, droppedBy, ByteAccount}
 use Rattle.promises.specs.Limits.{NeverBroken}
 use Rattle.promises.proofs.Good.{Good, good-empty, good-after, good-all}
 use Rattle.promises.proofs.Measures.{by-length}
 use Rattle.promises.proofs.Holdings.{inPlaces, inTable, missing, keptInRow, keptInAll, table-keeps, empty-keeps}
-use Rattle.promises.proofs.OneCall.{when-accepted, when-refused, no-frames, droppedIn, call-balances}
+use Rattle.promises.proofs.OneCall.{no-frames, droppedIn, call-balances}
 use Rattle.promises.proofs.Bytes.{dropped-measured, none-missing-at, row-holds, places-hold}
 
 -- The counts of an answer are those of the bytes: of a close ..
-close-counts : (n : ℕ) (t : Table) (id : ℕ) → closedBy n t id .dropped ≡ cond (eqb (closedBy n t id .code) 0) (heldIn (rowAt t (find t id))) 0
+close-counts : (n : ℕ) (t : Table) (id : ℕ) →
+    closedBy n t id .dropped ≡ cond (eqb (closedBy n t id .code) 0) (heldIn (rowAt t (find t id))) 0
 close-counts zero t id = refl
 close-counts (suc n) t id = sym (when-refused (suc n) (λ e. omega arith) (heldIn (rowAt t (find t id))) 0)
 

@@ -1,17 +1,16 @@
--- Where every packet arrives, once and in the order of sending, the bound is kept and each packet arrives in time: so every frame is whole, and
--- every frame is kept.
+-- Where every packet arrives, once and in the order of sending, the bound is kept and each packet arrives in time: so every frame is
+-- whole, and every frame is kept.
 use Prim.Native.Nat.{ℕ, zero, suc, _+_, _<_, max}
-use mathlib.Core.Path.{_≡_, refl, sym, ap, subst}
+use mathlib.Core.Path.{_≡_, refl, ap}
 use mathlib.Core.List.{List, [], _∷_, map}
 use native.Mathlib.Omega.{arith}
-use lib.ListN.{length, take, drop, getD, replicate, take-append-drop}
-use Rattle.octets.specs.Stretch.{part, joined}
+use lib.ListN.{length, drop, getD, replicate}
+use Rattle.octets.specs.Stretch.{joined}
 use Rattle.octets.specs.Each.{Each}
-use Rattle.octets.proofs.Elements.{each-both, each-front, each-back}
+use Rattle.octets.proofs.Elements.{each-both, each-replicate, each-part, drop-first, drop-others}
 use Rattle.packet.specs.Header.{Packet, ip, sub, segmentCount}
 use Rattle.sender.specs.Rules.{Pieces, packetAt}
 use Rattle.promises.specs.Arrivals.{WithinBound, Window, InTime, placesFrom, carriers, Whole, Kept, no-more, kept, lost}
-use Rattle.promises.proofs.Survivors.{first-left, others-left}
 
 -- n places in a row, the first of them `from`
 abbrev pub inARow : ℕ → ℕ → List ℕ
@@ -32,7 +31,8 @@ packets-from : (packets : List Packet) (i : ℕ) (more : List Packet) → drop i
     map (packetAt packets) (inARow i (length more)) ≡ more
 packets-from packets i [] e = refl
 packets-from packets i (p ∷ more) e =
-    rw (first-left p more (ip []) packets i e) (ap (λ (l : List Packet). p ∷ l) (packets-from packets (suc i) more (others-left p more (ip []) packets i e)))
+    rw (drop-first p more packets i (ip []) e)
+    (ap (λ (l : List Packet). p ∷ l) (packets-from packets (suc i) more (drop-others p more packets i e)))
 
 pub all-packets : (packets : List Packet) → map (packetAt packets) (inARow 0 (length packets)) ≡ packets
 all-packets packets = packets-from packets 0 packets refl
@@ -60,32 +60,25 @@ in-its-turn n k l =
 
 -- Something that holds of each packet's place holds of the places of every frame.
 module _ (P : ℕ → Type 0) where
-  each-replicate : (n k : ℕ) → P k → Each P (replicate n k)
-  each-replicate zero k p = tt
-  each-replicate (suc n) k p = (p, each-replicate n k p)
-
-  each-part : (l : List ℕ) (from n : ℕ) → Each P l → Each P (part l from n)
-  unfolding part
-  each-part l from n p =
-      let back : Each P (drop from l) = each-back P (take from l) (drop from l) (subst (Each P) (sym (take-append-drop from l)) p) in
-      each-front P (take n (drop from l)) (drop n (drop from l)) (subst (Each P) (sym (take-append-drop n (drop from l))) back)
-
   each-place : (n : ℕ) (packets : List Packet) → ((k : ℕ) → k < n + length packets → P k) → Each P (placesFrom n packets)
   unfolding placesFrom
   each-place n [] p = tt
   each-place n (q ∷ packets) p =
-      each-both P (replicate (segmentCount (sub q)) n) (placesFrom (suc n) packets) (each-replicate (segmentCount (sub q)) n (p n (omega arith)))
+      each-both P (replicate (segmentCount (sub q)) n) (placesFrom (suc n) packets)
+      (each-replicate P (segmentCount (sub q)) n (p n (omega arith)))
       (each-place (suc n) packets (λ k l. p k (omega arith)))
 
-  pub each-carrier : (frames : List Pieces) (packets : List Packet) (i : ℕ) → ((k : ℕ) → k < length packets → P k) → Each P (carriers frames packets i)
+  pub each-carrier : (frames : List Pieces) (packets : List Packet) (i : ℕ) → ((k : ℕ) → k < length packets → P k) →
+      Each P (carriers frames packets i)
   unfolding carriers
-  each-carrier frames packets i p = each-part (placesFrom 0 packets) _ _ (each-place 0 packets (λ k l. p k (omega arith)))
+  each-carrier frames packets i p = each-part P (placesFrom 0 packets) _ _ (each-place 0 packets (λ k l. p k (omega arith)))
 
 pub all-whole : (frames : List Pieces) (packets : List Packet) (i : ℕ) → Whole (inARow 0 (length packets)) frames packets i
 all-whole frames packets i = each-carrier (InTime (inARow 0 (length packets))) frames packets i (in-its-turn (length packets))
 
 -- Where every frame is whole, every frame is kept.
-pub all-kept : {whole : ℕ → Type 0} {i : ℕ} {fs : List Pieces} {out : List (List ℕ)} → ((j : ℕ) → whole j) → Kept whole i fs out → out ≡ map joined fs
+pub all-kept : {whole : ℕ → Type 0} {i : ℕ} {fs : List Pieces} {out : List (List ℕ)} → ((j : ℕ) → whole j) → Kept whole i fs out →
+    out ≡ map joined fs
 all-kept w no-more = refl
 all-kept w (kept {f = f} here more) = ap (λ (l : List (List ℕ)). joined f ∷ l) (all-kept w more)
 all-kept w (lost {i} not-here more) = absurd (not-here (w i))

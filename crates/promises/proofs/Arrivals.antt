@@ -6,11 +6,11 @@ use mathlib.Core.Bool.{Bool, true, false}
 use mathlib.Core.List.{List, [], _∷_, _++_, map}
 use native.Mathlib.Omega.{arith}
 use native.Mathlib.Numerals.{add-one}
-use lib.ListN.{length, drop, length-drop}
-use lib.Seq.{getD-drop, drop-drop}
+use lib.ListN.{length, drop}
 use lib.Dec.{leb}
 use borrow.Author.Tests.{leb-true, leb-false}
 use Rattle.octets.specs.Each.{Each}
+use Rattle.octets.proofs.Elements.{length-drop, getD-drop, drop-drop}
 use Rattle.flow.specs.declared.Flow.{Flow}
 use Rattle.flow.specs.Numbers.{next, numberAt}
 use Rattle.flow.specs.Flow.{fresh, judge, heardMark}
@@ -40,14 +40,17 @@ leaves false held segs = []
 -- along the packets, the first of which has place n
 abbrev pub along : (ℕ → Bool) → ℕ → List ℕ → List Packet → List (List ℕ)
 along came n held [] = []
-along came n held (p ∷ ps) = gives (came n) held (segmentsOf entryWidth p) ++ along came (suc n) (leaves (came n) held (segmentsOf entryWidth p)) ps
+along came n held (p ∷ ps) =
+    gives (came n) held (segmentsOf entryWidth p) ++ along came (suc n) (leaves (came n) held (segmentsOf entryWidth p)) ps
 
 -- tests that agree from place n on give the same
-same-from : (a b : ℕ → Bool) (n : ℕ) (held : List ℕ) (ps : List Packet) → ((k : ℕ) → n ≤ k → a k ≡ b k) → along a n held ps ≡ along b n held ps
+same-from : (a b : ℕ → Bool) (n : ℕ) (held : List ℕ) (ps : List Packet) → ((k : ℕ) → n ≤ k → a k ≡ b k) →
+    along a n held ps ≡ along b n held ps
 same-from a b n held [] agree = refl
 same-from a b n held (p ∷ ps) agree =
     rw (agree n (omega arith))
-    (ap (λ r. gives (b n) held (segmentsOf entryWidth p) ++ r) (same-from a b (suc n) (leaves (b n) held (segmentsOf entryWidth p)) ps (λ k l. agree k (omega arith))))
+    (ap (λ r. gives (b n) held (segmentsOf entryWidth p) ++ r)
+    (same-from a b (suc n) (leaves (b n) held (segmentsOf entryWidth p)) ps (λ k l. agree k (omega arith))))
 
 -- where none came, nothing is given
 none-from : (a : ℕ → Bool) (n : ℕ) (held : List ℕ) (ps : List Packet) → ((k : ℕ) → a k ≡ false) → along a n held ps ≡ []
@@ -81,7 +84,8 @@ ahead packets n x held xs from there =
     (λ k l. in-time-before x xs k l) (in-time-at x xs)
     ∙ rw (getD-drop n packets (x - n) (ip []), a, drop-drop (suc (x - n)) n packets, c)
     (ap (λ r. given (behind (x - n) held) (segmentsOf entryWidth (packetAt packets x)) ++ r)
-    (same-from (inTime (x ∷ xs)) (inTime xs) (suc x) (left (behind (x - n) held) (segmentsOf entryWidth (packetAt packets x))) (drop (suc x) packets)
+    (same-from (inTime (x ∷ xs)) (inTime xs) (suc x) (left (behind (x - n) held) (segmentsOf entryWidth (packetAt packets x)))
+    (drop (suc x) packets)
     (λ k l. in-time-after x xs k l)))
 
 -- a flow that accepted the number of a place expects that of the next place
@@ -100,13 +104,15 @@ module _ (start : ℕ) (packets : List Packet)
   unfolding readAlone
   arrivals-along f expected held [] hears waits sent within = sym (none-from (inTime []) expected held (drop expected packets) in-time-none)
   arrivals-along f expected held (x ∷ xs) hears waits sent within =
-      pick (λ g held′ h w v. arrivals-along g (suc x) held′ xs h w (sent .1) v) (λ v. arrivals-along f expected held xs hears waits (sent .1) v)
+      pick (λ g held′ h w v. arrivals-along g (suc x) held′ xs h w (sent .1) v)
+      (λ v. arrivals-along f expected held xs hears waits (sent .1) v)
       (leb expected x) refl
     where
       pick : ((g : Flow) (held′ : List ℕ) → g .heard ≡ heardMark → g .expected ≡ numberAt start (suc x) → WithinBound (suc x) xs →
           framesAlone g held′ (those xs) ≡ along (inTime xs) (suc x) held′ (drop (suc x) packets)) →
           (WithinBound expected xs → framesAlone f held (those xs) ≡ along (inTime xs) expected held (drop expected packets)) →
-          (t : Bool) → leb expected x ≡ t → framesAlone f held (those (x ∷ xs)) ≡ along (inTime (x ∷ xs)) expected held (drop expected packets)
+          (t : Bool) → leb expected x ≡ t →
+          framesAlone f held (those (x ∷ xs)) ≡ along (inTime (x ∷ xs)) expected held (drop expected packets)
       pick on stay true e =
           let l : expected ≤ x = leb-true expected x e in
           let m : max expected (suc x) ≡ suc x = omega arith in
@@ -119,7 +125,8 @@ module _ (start : ℕ) (packets : List Packet)
       pick on stay false e =
           let l : x < expected = leb-false expected x e in
           let m : max expected (suc x) ≡ expected = omega arith in
-          alone-late framesRead f held (packetAt packets x) (those xs) (by-place f x (sent .0) ∙ judge-behind f start expected hears waits x l (within .1))
+          alone-late framesRead f held (packetAt packets x) (those xs)
+          (by-place f x (sent .0) ∙ judge-behind f start expected hears waits x l (within .1))
           ∙ stay (rw m at (within .2))
           ∙ sym (same-from (inTime (x ∷ xs)) (inTime xs) expected held (drop expected packets) (λ k i. in-time-after x xs k (omega arith)))
 

@@ -1,14 +1,16 @@
--- The account of one packet, by any measure: what a flow holds before and what the packet brings is delivered, dropped or held afterwards. Each
--- rule gives every byte that it is given exactly one fate, so no count of any sort is lost.
+-- The account of one packet, by any measure: what a flow holds before and what the packet brings is delivered, dropped or held
+-- afterwards. Each rule gives every byte that it is given exactly one fate, so no count of any sort is lost.
 use Prim.Native.Nat.{ℕ, zero, suc, _+_}
 use mathlib.Core.Path.{_≡_, refl, ap, _∙_}
 use mathlib.Core.Bool.{Bool, true, false, cond}
-use mathlib.Core.List.{List, [], _∷_, _++_, append-nil, map, map-id}
+use mathlib.Core.List.{List, [], _∷_, _++_, map, map-id}
 use native.Mathlib.Omega.{arith}
 use lib.Dec.{eqb, ltb}
 use lib.ListN.{length}
 use borrow.Author.Tests.{eqb-true}
 use Rattle.octets.specs.Stretch.{joined}
+use Rattle.octets.proofs.Elements.{length-none}
+use Rattle.octets.proofs.Stretches.{joined-none, joined-cons, joined-one}
 use Rattle.flow.specs.declared.Flow.{Flow}
 use Rattle.packet.specs.Segments.{Segment, segments}
 use Rattle.packet.specs.Header.{sSet}
@@ -25,18 +27,13 @@ use Rattle.promises.proofs.Measures.{Measure, measure-joined}
 abbrev pub tells : (List ℕ → ℕ) → Fate → ℕ
 tells m f = m (joined (f .delivered)) + m (f .dropped) + m (f .held)
 
--- a list of no length
-none-there : (l : List ℕ) → length l ≡ 0 → l ≡ []
-none-there [] z = refl
-none-there (b ∷ l) z = absurd (let never : ⊥ = omega arith in never)
-
 module _ (m : List ℕ → ℕ) (is : Measure m) where
   -- The rules, one by one.
   settled-by : (long ends : Bool) (bytes : List ℕ) → tells m (settledBy long ends bytes) ≡ m bytes
-  unfolding settledBy joined
-  settled-by true ends bytes = omega (arith, is .none)
-  settled-by false true bytes = rw (append-nil bytes) (omega (arith, is .none))
-  settled-by false false bytes = omega (arith, is .none)
+  unfolding settledBy
+  settled-by true ends bytes = omega (arith, is .none, ap m joined-none)
+  settled-by false true bytes = omega (arith, is .none, ap m (joined-one bytes))
+  settled-by false false bytes = omega (arith, is .none, ap m joined-none)
 
   settled-tells : (most : ℕ) (ends : Bool) (bytes : List ℕ) → tells m (settled most ends bytes) ≡ m bytes
   unfolding settled
@@ -44,11 +41,11 @@ module _ (m : List ℕ → ℕ) (is : Measure m) where
 
   fate-by : (begins none : Bool) (most : ℕ) (held : List ℕ) (s : Segment) → eqb (length held) 0 ≡ none →
       tells m (fateBy begins none most held s) ≡ m held + m (s .body)
-  unfolding fateBy joined
+  unfolding fateBy
   fate-by true none most held s e =
       omega (arith, settled-tells most (s .ends) (s .body), is .both held (settled most (s .ends) (s .body) .dropped))
   fate-by false true most held s e =
-      omega (arith, is .none, ap m (none-there held (eqb-true (length held) 0 e)))
+      omega (arith, is .none, ap m joined-none, ap m (length-none held (eqb-true (length held) 0 e)))
   fate-by false false most held s e = settled-tells most (s .ends) (held ++ s .body) ∙ is .both held (s .body)
 
   fate-tells : (most : ℕ) (held : List ℕ) (s : Segment) → tells m (fate most held s) ≡ m held + m (s .body)
@@ -56,21 +53,20 @@ module _ (m : List ℕ → ℕ) (is : Measure m) where
   fate-tells most held s = fate-by (s .begins) (eqb (length held) 0) most held s refl
 
   gap-tells : (gap : ℕ) (held : List ℕ) → tells m (atGap gap held) ≡ m held
-  unfolding atGap joined
-  gap-tells zero held = omega (arith, is .none)
-  gap-tells (suc gap) held = omega (arith, is .none)
+  unfolding atGap
+  gap-tells zero held = omega (arith, is .none, ap m joined-none)
+  gap-tells (suc gap) held = omega (arith, is .none, ap m joined-none)
 
   passed-tells : (goes : Bool) (bytes : List ℕ) → (tells m (passedOn goes bytes) ≡ m bytes) × (passedOn goes bytes .held ≡ [])
-  unfolding joined
-  passed-tells true bytes = (rw (append-nil bytes) (omega (arith, is .none)), refl)
-  passed-tells false bytes = (omega (arith, is .none), refl)
+  passed-tells true bytes = (omega (arith, is .none, ap m (joined-one bytes)), refl)
+  passed-tells false bytes = (omega (arith, is .none, ap m joined-none), refl)
 
   -- Pieces in order. `Fine` is what the rule asks of what is held, and leaves so.
   module _ {X : Type 0} (rule : List ℕ → X → Fate) (body : X → List ℕ) (Fine : List ℕ → Type 0)
       (each : (held : List ℕ) (x : X) → Fine held → (tells m (rule held x) ≡ m held + m (body x)) × Fine (rule held x .held)) where
     in-order-tells : (f : Fate) (xs : List X) → Fine (f .held) → tells m (inOrder rule f xs) ≡ tells m f + m (joined (map body xs))
-    unfolding inOrder joined
-    in-order-tells f [] fine = omega (arith, is .none)
+    unfolding inOrder
+    in-order-tells f [] fine = omega (arith, is .none, ap m joined-none)
     in-order-tells f (x ∷ xs) fine =
         let g = rule (f .held) x in
         let one = each (f .held) x fine in
@@ -80,6 +76,7 @@ module _ (m : List ℕ → ℕ) (is : Measure m) where
           one .0,
           measure-joined m is (f .delivered) (g .delivered),
           is .both (f .dropped) (g .dropped),
+          ap m (joined-cons (body x) (map body xs)),
           is .both (body x) (joined (map body xs)),
         )
 
@@ -87,16 +84,17 @@ module _ (m : List ℕ → ℕ) (is : Measure m) where
       tells m (pspFate most gap held segs) ≡ m held + m (joined (map (λ (s : Segment). s .body) segs))
   unfolding pspFate
   psp-tells most gap held segs =
-      in-order-tells (fate most) (λ (s : Segment). s .body) (λ held. Unit {0}) (λ held s fine. (fate-tells most held s, tt)) (atGap gap held) segs tt
+      in-order-tells (fate most) (λ (s : Segment). s .body) (λ held. Unit {0}) (λ held s fine. (fate-tells most held s, tt))
+      (atGap gap held) segs tt
       ∙ ap (λ (n : ℕ). n + m (joined (map (λ (s : Segment). s .body) segs))) (gap-tells gap held)
 
   -- pieces that are passed on or dropped: nothing is held behind what was held, and that is dropped
   module _ {X : Type 0} (goes : X → Bool) (body : X → List ℕ) where
     pass-tells : (held : List ℕ) (xs : List X) → tells m (passAll goes body held xs) ≡ m held + m (joined (map body xs))
-    unfolding passAll joined
+    unfolding passAll
     pass-tells held xs =
         let all = in-order-tells (λ before x. passedOn (goes x) (body x)) body (λ before. before ≡ []) each (dropping held) xs refl in
-        omega (arith, all, is .none)
+        omega (arith, all, is .none, ap m joined-none)
       where
         each : (before : List ℕ) (x : X) → before ≡ [] →
             (tells m (passedOn (goes x) (body x)) ≡ m before + m (body x)) × (passedOn (goes x) (body x) .held ≡ [])

@@ -1,5 +1,5 @@
--- Whatever is called in a history, what is read off the calls for one PSP flow is what the flow by itself makes of its packets: each call either hands it
--- its next packet, or leaves it as it was.
+-- Whatever is called in a history, what is read off the calls for one PSP flow is what the flow by itself makes of its packets: each
+-- call either hands it its next packet, or leaves it as it was.
 use Prim.Native.Nat.{ℕ, _<_, _≤_}
 use mathlib.Core.Path.{_≡_, refl, sym, ap, _∙_}
 use mathlib.Core.Bool.{Bool, true, false, cond}
@@ -20,8 +20,8 @@ use Rattle.table.specs.declared.Kind.the-variants as kind
 use Rattle.join.specs.Slices.{mostFrames, mostBytes, asSlices}
 use Rattle.card.specs.Hear.{judgedOf, recordAfter}
 use Rattle.card.specs.Receive.{holdingSize, tooSmall}
-use Rattle.card.specs.History.{Card, Arrival, Call, opens, closes, hands, lentWith, answer, after}
-use Rattle.card.proofs.Step.{none-found}
+use Rattle.card.specs.History.{Card, Arrival, Call, opens, closes, hands, answer, after}
+use Rattle.octets.proofs.Stretches.{cut-part-none}
 use Rattle.promises.specs.Words.{ofFlow, handsTo, closesIt, packetsTo, Room, StaysOpen}
 use Rattle.promises.proofs.Readings.{Reading, readOut}
 use Rattle.promises.proofs.Alone.{pspTerms, heardAlone, readAlone}
@@ -31,14 +31,16 @@ use Rattle.promises.proofs.Standing.{Stands}
 use Rattle.promises.proofs.Steps.{stands-stay, stands-heard, hands-code}
 
 -- the two stretches of the PSP check
-psp-check : (packet : Packet) → check kindPsp packet ≡ 0 → (first (beforeSession packet) ≡ 0) × (first (pspRefusals entryWidth (sub packet)) ≡ 0)
+psp-check : (packet : Packet) → check kindPsp packet ≡ 0 → (first (beforeSession packet) ≡ 0)
+    × (first (pspRefusals entryWidth (sub packet)) ≡ 0)
 unfolding check checkRefusals
 psp-check packet z =
     let n = none-applies (checkRefusals kindPsp packet) refl z in
     let both = none-apart (beforeSession packet) (pspRefusals entryWidth (sub packet)) (n .1) in
     (none-first (beforeSession packet) (both .0), none-first (pspRefusals entryWidth (sub packet)) (both .1))
 
-enough : (holding out lengths : List ℕ) → holdingSize ≤ length holding → mostBytes ≤ length out → mostFrames ≤ length lengths → tooSmall (asSlices holding out lengths) ≡ false
+enough : (holding out lengths : List ℕ) → holdingSize ≤ length holding → mostBytes ≤ length out → mostFrames ≤ length lengths →
+    tooSmall (asSlices holding out lengths) ≡ false
 enough holding out lengths h o l =
     rw (le-ltb (length holding) holdingSize h, le-ltb (length out) mostBytes o, le-ltb (length lengths) mostFrames l) refl
 
@@ -50,7 +52,8 @@ module _ (session flow : ℕ) (inside : flow < flows) where
     stands : Stands c session flow pspTerms f held
 
   -- a call for others leaves it so
-  stays : (c : Card) (x : Call) (f : Flow) (held : List ℕ) → Hears c f held → handsTo kind.Psp session flow x ≡ false → closesIt session x ≡ false → Hears (after c x) f held
+  stays : (c : Card) (x : Call) (f : Flow) (held : List ℕ) → Hears c f held → handsTo kind.Psp session flow x ≡ false →
+      closesIt session x ≡ false → Hears (after c x) f held
   stays c x f held h other live =
       record {
         good = good-after c x (h .good);
@@ -59,7 +62,8 @@ module _ (session flow : ℕ) (inside : flow < flows) where
       }
 
   -- its own packet: late, and passed over; or heard
-  module _ (c : Card) (a : Arrival) (f : Flow) (held : List ℕ) (h : Hears c f held) (of-it : ofFlow kind.Psp session flow (a .packet) ≡ true)
+  module _ (c : Card) (a : Arrival) (f : Flow) (held : List ℕ) (h : Hears c f held)
+      (of-it : ofFlow kind.Psp session flow (a .packet) ≡ true)
       (room : Room (hands a)) (passes : check kindPsp (a .packet) ≡ 0) where
     abbrev packet : Packet
     packet = a .packet
@@ -70,7 +74,8 @@ module _ (session flow : ℕ) (inside : flow < flows) where
     its-code : (answer c x) .code ≡ cond ((judgedOf f (sub packet)) .late) 12 0
     its-code =
         let p = psp-check packet passes in
-        hands-code c a session flow pspTerms f held (h .good) (h .stands) of-it (enough (c .holding) (a .output) (a .lengths) (h .large) (room .0) (room .1)) (p .0) (p .1)
+        hands-code c a session flow pspTerms f held (h .good) (h .stands) of-it
+        (enough (c .holding) (a .output) (a .lengths) (h .large) (room .0) (room .1)) (p .0) (p .1)
 
     -- what is read off a late packet, and off one that is heard
     module _ {A : Type 0} (w : Reading A) where
@@ -80,7 +85,7 @@ module _ (session flow : ℕ) (inside : flow < flows) where
           let refused : ((answer c x) .code ≡ 0 → ⊥) = λ z. twelve (sym z ∙ by) in
           let none = refusals-change-nothing .counts c x refused in (
             refused-stays c x refused,
-            w .when-late (answer c x) by (rw (none .0) (none-found ((answer c x) .lengths) ((answer c x) .output))) (none .3),
+            w .when-late (answer c x) by (rw (none .0) (cut-part-none ((answer c x) .lengths) ((answer c x) .output))) (none .3),
           )
         where
           twelve : _≡_ {A = ℕ} 0 12 → ⊥
@@ -102,10 +107,14 @@ module _ (session flow : ℕ) (inside : flow < flows) where
 
   module _ {A : Type 0} (w : Reading A) where
     abbrev Goes : List Call → Type 0
-    Goes calls = (c : Card) (f : Flow) (held : List ℕ) → Hears c f held → readOut w kind.Psp session flow c calls ≡ readAlone w f held (packetsTo kind.Psp session flow calls)
+    Goes calls =
+        (c : Card) (f : Flow) (held : List ℕ) → Hears c f held →
+        readOut w kind.Psp session flow c calls ≡ readAlone w f held (packetsTo kind.Psp session flow calls)
 
     hands-goes : (a : Arrival) (more : List Call) → (handsTo kind.Psp session flow (hands a) ≡ true → Room (hands a)) →
-        Goes more → (t : Bool) → ofFlow kind.Psp session flow (a .packet) ≡ t → Each (λ p. check kindPsp p ≡ 0) (cond t ((a .packet) ∷ packetsTo kind.Psp session flow more) (packetsTo kind.Psp session flow more)) →
+        Goes more → (t : Bool) → ofFlow kind.Psp session flow (a .packet) ≡ t →
+        Each (λ p. check kindPsp p ≡ 0)
+        (cond t ((a .packet) ∷ packetsTo kind.Psp session flow more) (packetsTo kind.Psp session flow more)) →
         (c : Card) (f : Flow) (held : List ℕ) → Hears c f held →
         cond t (w .of-answer (answer c (hands a))) [] ++ readOut w kind.Psp session flow (after c (hands a)) more
         ≡ readAlone w f held (cond t ((a .packet) ∷ packetsTo kind.Psp session flow more) (packetsTo kind.Psp session flow more))
@@ -117,13 +126,16 @@ module _ (session flow : ℕ) (inside : flow < flows) where
         judged : (late : Bool) → (judgedOf f (sub (a .packet))) .late ≡ late →
             w .of-answer (answer c (hands a)) ++ readOut w kind.Psp session flow (after c (hands a)) more
             ≡ cond late (w .of-late ++ readAlone w f held (packetsTo kind.Psp session flow more))
-            (w .of-heard (heardAlone f held (a .packet)) ++ readAlone w (recordAfter (heardAlone f held (a .packet))) ((heardAlone f held (a .packet)) .fate .held) (packetsTo kind.Psp session flow more))
+            (w .of-heard (heardAlone f held (a .packet)) ++ readAlone w (recordAfter (heardAlone f held (a .packet)))
+            ((heardAlone f held (a .packet)) .fate .held) (packetsTo kind.Psp session flow more))
         judged true late =
             let none = read-late c a f held h e (room e) (passing .0) w late in
             rw (none .0, none .1) (ap (λ (l : List A). w .of-late ++ l) (goes c f held h))
         judged false late =
             let heard = read-heard c a f held h e (room e) (passing .0) w late in
-            rw (heard .1) (ap (λ (l : List A). w .of-heard (heardAlone f held (a .packet)) ++ l) (goes (after c (hands a)) (recordAfter (heardAlone f held (a .packet))) ((heardAlone f held (a .packet)) .fate .held) (heard .0)))
+            rw (heard .1) (ap (λ (l : List A). w .of-heard (heardAlone f held (a .packet)) ++ l)
+            (goes (after c (hands a)) (recordAfter (heardAlone f held (a .packet))) ((heardAlone f held (a .packet)) .fate .held)
+            (heard .0)))
 
     goes-all : (calls : List Call) → StaysOpen session calls → Each (λ x. handsTo kind.Psp session flow x ≡ true → Room x) calls →
         Each (λ p. check kindPsp p ≡ 0) (packetsTo kind.Psp session flow calls) → Goes calls
@@ -134,17 +146,21 @@ module _ (session flow : ℕ) (inside : flow < flows) where
     goes-all (closes id ∷ more) live room passing c f held h =
         goes-all more (live .1) (room .1) passing (after c (closes id)) f held (stays c (closes id) f held h refl (live .0))
     goes-all (hands a ∷ more) live room passing c f held h =
-        hands-goes a more (room .0) (λ c′ f′ held′ h′. goes-all more (live .1) (room .1) (rest-passing (ofFlow kind.Psp session flow (a .packet)) passing) c′ f′ held′ h′)
+        hands-goes a more (room .0) (λ c′ f′ held′ h′. goes-all more (live .1) (room .1)
+        (rest-passing (ofFlow kind.Psp session flow (a .packet)) passing) c′ f′ held′ h′)
         (ofFlow kind.Psp session flow (a .packet)) refl passing c f held h
       where
-        rest-passing : (t : Bool) → Each (λ p. check kindPsp p ≡ 0) (cond t ((a .packet) ∷ packetsTo kind.Psp session flow more) (packetsTo kind.Psp session flow more)) →
+        rest-passing : (t : Bool) → Each (λ p. check kindPsp p ≡ 0)
+            (cond t ((a .packet) ∷ packetsTo kind.Psp session flow more) (packetsTo kind.Psp session flow more)) →
             Each (λ p. check kindPsp p ≡ 0) (packetsTo kind.Psp session flow more)
         rest-passing true p = p .1
         rest-passing false p = p
 
 -- The whole history.
-pub history-read : {A : Type 0} (w : Reading A) (session flow : ℕ) (c : Card) (calls : List Call) (f : Flow) (held : List ℕ) → flow < flows → Good c →
-    holdingSize ≤ length (c .holding) → Stands c session flow pspTerms f held → StaysOpen session calls → Each (λ x. handsTo kind.Psp session flow x ≡ true → Room x) calls →
+pub history-read : {A : Type 0} (w : Reading A) (session flow : ℕ) (c : Card) (calls : List Call) (f : Flow) (held : List ℕ) →
+    flow < flows → Good c →
+    holdingSize ≤ length (c .holding) → Stands c session flow pspTerms f held → StaysOpen session calls →
+    Each (λ x. handsTo kind.Psp session flow x ≡ true → Room x) calls →
     Each (λ p. check kindPsp p ≡ 0) (packetsTo kind.Psp session flow calls) →
     readOut w kind.Psp session flow c calls ≡ readAlone w f held (packetsTo kind.Psp session flow calls)
 history-read w session flow c calls f held inside good large stands live room passing =

@@ -1,5 +1,5 @@
--- Ways to count bytes: all of them, those of one value, or none. Each turns bytes laid behind one another into a sum, and nothing more is asked
--- of a count below: so the account of bytes is proved once, for every such measure.
+-- Ways to count bytes: all of them, those of one value, or none. Each turns bytes laid behind one another into a sum, and nothing more
+-- is asked of a count below: so the account of bytes is proved once, for every such measure.
 use Prim.Native.Nat.{ℕ, zero, suc, _+_}
 use mathlib.Core.Path.{_≡_, refl, ap, _∙_}
 use mathlib.Core.List.{List, [], _∷_, _++_}
@@ -7,7 +7,7 @@ use native.Mathlib.Omega.{arith}
 use lib.ListN.{length, length-append}
 use Rattle.octets.specs.Stretch.{joined}
 use Rattle.octets.specs.Count.{sumTo, upTo}
-use Rattle.octets.proofs.Stretches.{joined-append, joined-one-more}
+use Rattle.octets.proofs.Stretches.{joined-none, joined-append, joined-one-more}
 use Rattle.promises.specs.Account.{times}
 
 pub record Measure (m : List ℕ → ℕ) : Type 0 where
@@ -33,7 +33,7 @@ module _ (m : List ℕ → ℕ) (is : Measure m) where
   measure-joined a b = ap m (joined-append a b) ∙ is .both (joined a) (joined b)
 
   pub measure-up-to : (f : ℕ → List ℕ) (n : ℕ) → m (joined (upTo f n)) ≡ sumTo (λ k. m (f k)) n
-  unfolding joined upTo sumTo
-  measure-up-to f zero = is .none
+  unfolding upTo sumTo
+  measure-up-to f zero = ap m joined-none ∙ is .none
   measure-up-to f (suc n) =
       ap m (joined-one-more (upTo f n) (f n)) ∙ is .both (joined (upTo f n)) (f n) ∙ ap (λ (k : ℕ). k + m (f n)) (measure-up-to f n)

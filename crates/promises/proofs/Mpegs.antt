@@ -2,15 +2,15 @@
 -- before or behind them, so the holding slice stays as it was.
 use Prim.Native.Nat.{ℕ, _*_, _≤_}
 use mathlib.Core.Path.{_≡_, refl, sym, ap, _∙_}
-use mathlib.Core.Bool.{Bool, true, false, not}
-use mathlib.Core.List.{List, [], _∷_, map-id}
-use native.Mathlib.Omega.{arith}
-use lib.ListN.{length, length-append}
+use mathlib.Core.Bool.{true, not, Bool·not-not}
+use mathlib.Core.List.{List, [], map-id}
+use lib.ListN.{length}
 use Rattle.octets.specs.Stretch.{joined}
 use Rattle.octets.specs.Each.{Each}
 use Rattle.octets.proofs.Elements.{each-up-to}
+use Rattle.octets.proofs.Stretches.{length-joined-each}
 use Rattle.ts.specs.Packet.{mpegLength}
-use Rattle.packet.specs.Header.{Packet, headerLength, sub, sSet}
+use Rattle.packet.specs.Header.{Packet, headerLength, sub}
 use Rattle.packet.specs.Dmpt.{mpegCount, mpegAt, mpegs}
 use Rattle.packet.proofs.Passing.{mpeg-inside}
 use Rattle.table.specs.declared.Table.{Table}
@@ -41,21 +41,13 @@ unfolding dmptFate
 dropped-are packets =
     pass-drops carriesSome asItIs [] packets
     ∙ ap joined (map-id (chosen (λ m. not (not (isNull m))) packets))
-    ∙ ap joined (chosen-alike (λ m. not (not (isNull m))) isNull packets (λ m. twice (isNull m)))
-  where
-    twice : (b : Bool) → not (not b) ≡ b
-    twice true = refl
-    twice false = refl
+    ∙ ap joined (chosen-alike (λ m. not (not (isNull m))) isNull packets (λ m. Bool·not-not (isNull m)))
 
 -- each MPEG packet has its 188 bytes
 mpegs-whole : (sub : List ℕ) → headerLength ≤ length sub → Each (λ m. length m ≡ mpegLength) (mpegs sub)
 unfolding mpegs
-mpegs-whole sub header = each-up-to (λ m. length m ≡ mpegLength) (mpegAt sub) (mpegCount sub) (λ k there. mpeg-length sub k (mpeg-inside sub k header there))
-
-all-whole : (ms : List (List ℕ)) → Each (λ m. length m ≡ mpegLength) ms → length (joined ms) ≡ mpegLength * length ms
-unfolding joined
-all-whole [] whole = refl
-all-whole (m ∷ more) whole = omega (arith, whole .0, all-whole more (whole .1), length-append m (joined more))
+mpegs-whole sub header =
+    each-up-to (λ m. length m ≡ mpegLength) (mpegAt sub) (mpegCount sub) (λ k there. mpeg-length sub k (mpeg-inside sub k header there))
 
 module _ (t : Table) (packet : Packet) (s : Slices) (d : isDmpt (termsAt t (rowOf t packet) .kind) ≡ true)
     (z : received t packet s .answer .code ≡ 0) where
@@ -76,7 +68,7 @@ module _ (t : Table) (packet : Packet) (s : Slices) (d : isDmpt (termsAt t (rowO
       dropped-is t packet s z
       ∙ ap (λ (f : Fate). length (f .dropped)) becomes
       ∙ ap length (dropped-are (mpegs (sub packet)))
-      ∙ all-whole (nulls (mpegs (sub packet))) each
+      ∙ length-joined-each mpegLength (nulls (mpegs (sub packet))) each
 
 pub dmpt-delivers : DmptDelivers
 unfolding answer after

@@ -1,20 +1,19 @@
 -- The frames that are kept, by their numbers, so that two frames with equal bytes are told apart. Where more frames are whole, the numbers
 -- of those that were kept before are among the numbers of those that are kept now.
 use Prim.Native.Nat.{ℕ, suc, _≤_, _<_}
-use mathlib.Core.Path.{_≡_, refl, ap, subst}
-use mathlib.Core.Bool.{Bool, true, false}
-use mathlib.Core.List.{List, [], _∷_, map, List·Memᴰ, List·Memᴰ·head, List·Memᴰ·tail, Sublistᴰ, Sublistᴰ·slnil, Sublistᴰ·cons, Sublistᴰ·cons-cons}
-use mathlib.Core.Logic.{_⊎_, inl, inr, ⊎-elim}
+use mathlib.Core.Path.{_≡_, refl, sym, ap, subst}
+use mathlib.Core.List.{List, [], _∷_, map, List·Memᴰ, List·Memᴰ·head, List·Memᴰ·tail}
+use mathlib.Core.List.{Sublistᴰ, Sublistᴰ·slnil, Sublistᴰ·cons, Sublistᴰ·cons-cons}
+use mathlib.Core.Logic.{⊎-elim}
 use native.Mathlib.Omega.{arith}
-use lib.Dec.{leb}
-use lib.ListN.{length, drop, getD, length-drop}
-use borrow.Author.Tests.{leb-true, leb-false}
+use native.Mathlib.Nat.{eq-or-lt-of-le}
+use lib.ListN.{length, drop, getD}
 use Rattle.octets.specs.Stretch.{joined}
 use Rattle.octets.specs.Each.{Each}
+use Rattle.octets.proofs.Elements.{drop-first, drop-others, drop-some, drop-none}
 use Rattle.sender.specs.Rules.{Pieces}
 use Rattle.promises.specs.Arrivals.{Kept, no-more, kept, lost}
 use Rattle.promises.specs.Demand.{Rising}
-use Rattle.promises.proofs.Survivors.{first-left, others-left}
 
 -- the numbers of the frames that are kept
 abbrev pub numbersOf : {whole : ℕ → Type 0} {i : ℕ} {fs : List Pieces} {out : List (List ℕ)} → Kept whole i fs out → List ℕ
@@ -35,40 +34,35 @@ rising-less : (i : ℕ) (numbers : List ℕ) → Rising (suc i) numbers → Risi
 rising-less i [] r = tt
 rising-less i (n ∷ numbers) r = (omega arith, r .1)
 
--- where a frame is left, its number is one of the frames'; where none is left, all numbers are past
-some-left : {A : Type 0} (x : A) (xs l : List A) (i : ℕ) → drop i l ≡ x ∷ xs → i < length l
-some-left x xs l i e = let n : length (drop i l) ≡ suc (length xs) = ap length e in omega (arith, length-drop i l)
-
-none-left : {A : Type 0} (l : List A) (i : ℕ) → drop i l ≡ [] → length l ≤ i
-none-left l i e = let n : length (drop i l) ≡ 0 = ap length e in omega (arith, length-drop i l)
-
-at-or-behind : (i j : ℕ) → i ≤ j → (j ≡ i) ⊎ (suc i ≤ j)
-at-or-behind i j l = pick (leb j i) refl
-  where
-    pick : (t : Bool) → leb j i ≡ t → (j ≡ i) ⊎ (suc i ≤ j)
-    pick true e = inl (omega (arith, leb-true j i e))
-    pick false e = inr (leb-false j i e)
-
 module _ (whole : ℕ → Type 0) (frames : List Pieces) where
-  pub numbered : {i : ℕ} {fs : List Pieces} {out : List (List ℕ)} → drop i frames ≡ fs → (k : Kept whole i fs out) → Numbered whole frames i out (numbersOf k)
+  pub numbered : {i : ℕ} {fs : List Pieces} {out : List (List ℕ)} → drop i frames ≡ fs → (k : Kept whole i fs out) →
+      Numbered whole frames i out (numbersOf k)
   numbered {i} e no-more =
-      record { in-order = tt; were-sent = tt; all-whole = tt; no-other = λ j from below w. absurd (omega (arith, none-left frames i e)); their-bytes = refl }
+      record {
+        in-order = tt;
+        were-sent = tt;
+        all-whole = tt;
+        no-other = λ j from below w. absurd (omega (arith, drop-none frames i e));
+        their-bytes = refl;
+      }
   numbered {i} e (kept {f = f} {fs = fs} w more) =
-      let r = numbered (others-left f fs [] frames i e) more in
+      let r = numbered (drop-others f fs frames i e) more in
       record {
         in-order = (omega arith, r .in-order);
-        were-sent = (some-left f fs frames i e, r .were-sent);
+        were-sent = (drop-some f fs frames i e, r .were-sent);
         all-whole = (w, r .all-whole);
-        no-other = λ j from below v. ⊎-elim (λ s. List·Memᴰ·head {xs = numbersOf more} s) (λ s. List·Memᴰ·tail (r .no-other j s below v)) (at-or-behind i j from);
-        their-bytes = rw (first-left f fs [] frames i e) (ap (λ rest. joined f ∷ rest) (r .their-bytes));
+        no-other = λ j from below v.
+            ⊎-elim (λ s. List·Memᴰ·head {xs = numbersOf more} (sym s)) (λ s. List·Memᴰ·tail (r .no-other j s below v))
+            (eq-or-lt-of-le from);
+        their-bytes = rw (drop-first f fs frames i [] e) (ap (λ rest. joined f ∷ rest) (r .their-bytes));
       }
   numbered {i} e (lost {f = f} {fs = fs} w more) =
-      let r = numbered (others-left f fs [] frames i e) more in
+      let r = numbered (drop-others f fs frames i e) more in
       record {
         in-order = rising-less i (numbersOf more) (r .in-order);
         were-sent = r .were-sent;
         all-whole = r .all-whole;
-        no-other = λ j from below v. ⊎-elim (λ s. absurd (w (subst whole s v))) (λ s. r .no-other j s below v) (at-or-behind i j from);
+        no-other = λ j from below v. ⊎-elim (λ s. absurd (w (subst whole (sym s) v))) (λ s. r .no-other j s below v) (eq-or-lt-of-le from);
         their-bytes = r .their-bytes;
       }
 

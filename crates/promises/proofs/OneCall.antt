@@ -1,26 +1,27 @@
 -- The account of one call, by any measure: what it takes in and what was kept before is delivered, dropped or kept afterwards.
 use Prim.Native.Nat.{ℕ, zero, suc, _+_, _<_}
-use mathlib.Core.Path.{_≡_, refl, ap}
+use mathlib.Core.Path.{_≡_, refl, ap, _∙_}
 use mathlib.Core.Bool.{cond, not}
 use mathlib.Core.List.{List, []}
 use native.Mathlib.Omega.{arith}
 use lib.Dec.{eqb}
-use borrow.Author.Tests.{eq-eqb, ne-eqb, ltb-true, not-false}
+use borrow.Author.Tests.{ltb-true, not-false}
 use Rattle.refusal.specs.Refusal.{first}
-use Rattle.refusal.proofs.Laws.{none-applies}
+use Rattle.refusal.proofs.Laws.{none-applies, when-accepted, when-refused}
 use Rattle.octets.specs.Stretch.{joined}
+use Rattle.octets.proofs.Stretches.{joined-none, cut-part-none}
 use Rattle.octets.proofs.Counts.{or-false-left, least-passes}
 use Rattle.flow.specs.declared.Flow.{Flow}
 use Rattle.packet.specs.Header.{Packet, sub}
 use Rattle.table.specs.declared.Request.{Request}
-use Rattle.table.specs.Rows.{rows, rowAt, find, freeIn, lowestFree, closedRow, termsAt}
+use Rattle.table.specs.Rows.{rows, find, freeIn, lowestFree, closedRow, termsAt}
 use Rattle.table.specs.Calls.{isOpen, freshRow, openRefusals, openedBy, opened, closeRefusals, closedBy, closed}
 use Rattle.table.proofs.Keeping.{flows-whole, opens as opens-there}
 use Rattle.join.specs.Join.{Fate}
 use Rattle.card.specs.Receive.{Outcome, rowOf, heardBy, framesFound, refused}
 use Rattle.card.specs.History.{Card, Arrival, Call, opens, closes, hands, lentWith, handed, answer, after}
 use Rattle.card.proofs.Accepted.{received-refused}
-use Rattle.card.proofs.Step.{framesIn, none-found}
+use Rattle.card.proofs.Step.{framesIn}
 use Rattle.promises.specs.Account.{takenBy, deliveredBy, droppedBy, packetBody}
 use Rattle.promises.proofs.Good.{Good}
 use Rattle.promises.proofs.Holdings.{Keeps, keptInRow, keptInAll, fresh-bare, bare-row, row-replaced}
@@ -35,17 +36,9 @@ droppedIn m kept c (hands a) = m (droppedBy c (hands a))
 abbrev pub Balances : (List ℕ → ℕ) → (List ℕ → ℕ → Flow → ℕ) → Card → Call → Type 0
 Balances m kept c x = m (takenBy c x) + keptInAll kept c ≡ m (deliveredBy c x) + droppedIn m kept c x + keptInAll kept (after c x)
 
--- by the number of an answer
-pub when-accepted : {A : Type 0} (n : ℕ) → n ≡ 0 → (x y : A) → cond (eqb n 0) x y ≡ x
-when-accepted n z x y = rw (eq-eqb n 0 z) refl
-
-pub when-refused : {A : Type 0} (n : ℕ) → (n ≡ 0 → ⊥) → (x y : A) → cond (eqb n 0) x y ≡ y
-when-refused n some x y = rw (ne-eqb n 0 some) refl
-
 -- where no frame is reported, none is found
 pub no-frames : (lengths out : List ℕ) → joined (framesFound 0 lengths out) ≡ []
-unfolding joined
-no-frames lengths out = ap joined (none-found lengths out)
+no-frames lengths out = ap joined (cut-part-none lengths out) ∙ joined-none
 
 module _ {m : List ℕ → ℕ} {kept : List ℕ → ℕ → Flow → ℕ} (w : Keeps m kept) (c : Card) (good : Good c) where
   -- Opening takes a free row, and a free row of a table that is not broken holds nothing.
@@ -70,7 +63,8 @@ module _ {m : List ℕ → ℕ} {kept : List ℕ → ℕ → Flow → ℕ} (w : 
   closes-by zero id e =
       let r = find (c .table) id in
       let passed = none-applies (closeRefusals (c .table) id) refl e in
-      let there : r < rows = ltb-true r rows (not-false (isOpen (c .table) id) (or-false-left (not (isOpen (c .table) id)) (eqb id 0) (passed .1 .0))) in
+      let there : r < rows =
+      ltb-true r rows (not-false (isOpen (c .table) id) (or-false-left (not (isOpen (c .table) id)) (eqb id 0) (passed .1 .0))) in
       row-replaced w c r closedRow (good .shaped) there fresh-bare
   closes-by (suc n) id e = omega (arith, when-refused (suc n) (λ d. omega arith) (keptInRow kept c (find (c .table) id)) 0)
 

@@ -1,5 +1,5 @@
--- Whether an open succeeds depends only on which IDs are open, and on what it asks for. No ID is open in two rows, so that as many rows are open
--- as IDs; and six rows have a free one exactly where fewer than six are open.
+-- Whether an open succeeds depends only on which IDs are open, and on what it asks for. No ID is open in two rows, so that as many rows
+-- are open as IDs; and six rows have a free one exactly where fewer than six are open.
 use Prim.Native.Nat.{ℕ, zero, suc, _<_, _≤_}
 use mathlib.Core.Path.{_≡_, refl, sym, ap, _∙_}
 use mathlib.Core.Bool.{Bool, true, false, cond, not, _&&_, _||_, or-comm, or-false, or-true, true≢false}
@@ -17,7 +17,7 @@ use Rattle.table.specs.Rows.{rows, isClosed, rowAt, openIn, freeIn, lowestFree}
 use Rattle.table.specs.Broken.{broken}
 use Rattle.table.specs.Calls.{isOpen, openRefusals, opened}
 use Rattle.table.proofs.Keeping.{rows-apart, opened-code}
-use Rattle.promises.proofs.Distinct.{has, Distinct, same-length}
+use Rattle.octets.proofs.Distinct.{has, Distinct, same-length}
 
 -- the IDs of the open rows below row r, the last one first
 abbrev pub openIds : Table → ℕ → List ℕ

@@ -1,7 +1,7 @@
 -- What a sender's packets have because each passes the PSP check: some segment, and none of them empty. So no piece of a frame is empty
 -- either. And each that has a number is judged by the number of its place.
-use Prim.Native.Nat.{ℕ, zero, suc, _≤_, _<_}
-use mathlib.Core.Path.{_≡_, refl, ap, _∙_, subst}
+use Prim.Native.Nat.{ℕ, _≤_, _<_}
+use mathlib.Core.Path.{_≡_, ap, _∙_, subst}
 use mathlib.Core.Bool.{Bool, true, false}
 use mathlib.Core.List.{List, [], _∷_}
 use native.Mathlib.Omega.{arith}
@@ -13,7 +13,7 @@ use Rattle.octets.proofs.Stretches.{length-part}
 use Rattle.flow.specs.declared.Flow.{Flow}
 use Rattle.flow.specs.Numbers.{numberAt}
 use Rattle.flow.specs.Flow.{judge}
-use Rattle.packet.specs.Header.{Packet, ip, sub, sSet, segmentCount, number}
+use Rattle.packet.specs.Header.{Packet, sub, sSet, segmentCount, number}
 use Rattle.packet.specs.Segments.{Segment, entryWidth, lengthAt, bodyAt, segmentAt, segments}
 use Rattle.packet.specs.Check.{kindPsp, check}
 use Rattle.packet.proofs.Passing.{PspPassed, check-passed, body-inside, body-some}
@@ -23,10 +23,6 @@ use Rattle.sender.proofs.Frames.{Filled}
 
 abbrev pub HasBytes : Segment → Type 0
 HasBytes s = Filled (s .body)
-
-above-none : (n : ℕ) → (n ≡ 0 → ⊥) → 1 ≤ n
-above-none zero f = absurd (f refl)
-above-none (suc n) f = omega arith
 
 -- the packet at place x was sent, and has a number
 abbrev pub Counts : List Packet → ℕ → Type 0
@@ -40,13 +36,14 @@ module _ (packet : Packet) (passes : check kindPsp packet ≡ 0) where
   unfolding segments
   some-segment =
       rw (length-up-to (segmentAt entryWidth (sub packet)) (segmentCount (sub packet)))
-      (above-none (segmentCount (sub packet)) (passed .segments .some))
+      (omega (arith, passed .segments .some))
 
   body-filled : (k : ℕ) → k < segmentCount (sub packet) → HasBytes (segmentAt entryWidth (sub packet) k)
   unfolding segmentAt
   body-filled k l =
-      rw (length-part (sub packet) (bodyAt entryWidth (sub packet) k) (lengthAt entryWidth (sub packet) k) (body-inside entryWidth (sub packet) (passed .segments) k l))
-      (above-none (lengthAt entryWidth (sub packet) k) (body-some entryWidth (sub packet) (passed .segments) k l))
+      rw (length-part (sub packet) (bodyAt entryWidth (sub packet) k) (lengthAt entryWidth (sub packet) k)
+      (body-inside entryWidth (sub packet) (passed .segments) k l))
+      (omega (arith, body-some entryWidth (sub packet) (passed .segments) k l))
 
   segments-filled : Each HasBytes (segmentsOf entryWidth packet)
   unfolding segments
@@ -55,7 +52,9 @@ module _ (packet : Packet) (passes : check kindPsp packet ≡ 0) where
 all-filled : (packets : List Packet) → Each (λ p. check kindPsp p ≡ 0) packets → Each HasBytes (allSegments entryWidth packets)
 unfolding allSegments
 all-filled [] passing = tt
-all-filled (p ∷ packets) passing = each-both HasBytes (segmentsOf entryWidth p) (allSegments entryWidth packets) (segments-filled p (passing .0)) (all-filled packets (passing .1))
+all-filled (p ∷ packets) passing =
+    each-both HasBytes (segmentsOf entryWidth p) (allSegments entryWidth packets) (segments-filled p (passing .0))
+    (all-filled packets (passing .1))
 
 pub all-some : (packets : List Packet) → Each (λ p. check kindPsp p ≡ 0) packets → Each (λ p. 1 ≤ length (segmentsOf entryWidth p)) packets
 all-some [] passing = tt
@@ -75,7 +74,8 @@ frames-filled (f ∷ fs) filled = (
   frames-filled fs (each-back HasBytes (wholeFrame true f) (inTurn fs) filled),
 )
 
-module _ (line : Line) (frames : List Pieces) (unfinished : Pieces) (packets : List Packet) (rules : KeepsRules line frames unfinished packets) where
+module _ (line : Line) (frames : List Pieces) (unfinished : Pieces) (packets : List Packet)
+    (rules : KeepsRules line frames unfinished packets) where
   -- no piece of a frame is empty
   pub pieces-filled : Each (Each Filled) frames
   pieces-filled =

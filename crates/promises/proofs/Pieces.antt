@@ -8,7 +8,7 @@ use native.Mathlib.Omega.{arith}
 use lib.ListN.{length}
 use Rattle.octets.specs.Stretch.{joined}
 use Rattle.octets.specs.Each.{Each}
-use Rattle.octets.proofs.Stretches.{put-nil}
+use Rattle.octets.proofs.Stretches.{put-nil, joined-none, joined-cons, cut-put}
 use Rattle.packet.specs.Header.{Packet, sub, sSet, number}
 use Rattle.table.specs.declared.Table.{Table}
 use Rattle.join.specs.Join.{Fate, dropping, andThen, inOrder}
@@ -21,7 +21,6 @@ use Rattle.card.proofs.Accepted.{accepted, received-accepted}
 use Rattle.card.proofs.Limits.{accepted-bounded}
 use Rattle.card.proofs.Step.{framesIn}
 use Rattle.promises.specs.Words.{chosen}
-use Rattle.promises.proofs.Limits.{frames-back}
 
 module _ {X : Type 0} (goes : X → Bool) (body : X → List ℕ) where
   abbrev rule : List ℕ → X → Fate
@@ -36,9 +35,8 @@ module _ {X : Type 0} (goes : X → Bool) (body : X → List ℕ) where
   -- .. or it is dropped
   drops-first : (goes : Bool) (x : X) (more : List X) →
       passedOn goes (body x) .dropped ++ joined (map body more) ≡ joined (map body (cond (not goes) (x ∷ more) more))
-  unfolding joined
   drops-first true x more = refl
-  drops-first false x more = refl
+  drops-first false x more = sym (joined-cons (body x) (map body more))
 
   all-given : (f : Fate) (xs : List X) → inOrder rule f xs .delivered ≡ f .delivered ++ map body (chosen goes xs)
   unfolding inOrder chosen
@@ -50,8 +48,8 @@ module _ {X : Type 0} (goes : X → Bool) (body : X → List ℕ) where
       ∙ ap (λ (l : List (List ℕ)). f .delivered ++ l) (gives-first (goes x) x (chosen goes more))
 
   all-dropped : (f : Fate) (xs : List X) → inOrder rule f xs .dropped ≡ f .dropped ++ joined (map body (chosen (λ x. not (goes x)) xs))
-  unfolding inOrder chosen joined
-  all-dropped f [] = sym (append-nil (f .dropped))
+  unfolding inOrder chosen
+  all-dropped f [] = sym (append-nil (f .dropped)) ∙ ap (λ (l : List ℕ). f .dropped ++ l) (sym joined-none)
   all-dropped f (x ∷ more) =
       let r = rule (f .held) x in
       all-dropped (andThen f r) more
@@ -96,7 +94,7 @@ module _ (t : Table) (packet : Packet) (s : Slices) (z : received t packet s .an
       let here = accepted t packet s z in
       let room : length (its-fate .delivered) ≤ length (s .lengths) =
       omega (arith, accepted-bounded t packet s here .frames-few, large-enough s (here .large) .lengths-enough) in
-      rw (received-accepted t packet s z) (frames-back (its-fate .delivered) (s .lengths) (s .output) room)
+      rw (received-accepted t packet s z) (cut-put (its-fate .delivered) (s .lengths) (s .output) room)
 
   pub bytes-is : received t packet s .answer .bytes ≡ length (joined (its-fate .delivered))
   unfolding carriedOut

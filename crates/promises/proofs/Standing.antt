@@ -1,8 +1,8 @@
--- How one flow of an open session stands on a card: its session's kind, its record, its bytes. An opening begins with fresh flows, and no open, and no close of
--- another session, changes how it stands.
+-- How one flow of an open session stands on a card: its session's kind, its record, its bytes. An opening begins with fresh flows, and
+-- no open, and no close of another session, changes how it stands.
 use Prim.Native.Nat.{ℕ, _<_}
 use mathlib.Core.Path.{_≡_, refl, sym, ap, _∙_}
-use mathlib.Core.Bool.{Bool, true, false, not, _&&_, true≢false}
+use mathlib.Core.Bool.{true, false, not, _&&_, true≢false}
 use mathlib.Core.Logic.{_⊎_, inl, inr}
 use mathlib.Core.List.{List, []}
 use native.Mathlib.Omega.{arith}
@@ -13,7 +13,7 @@ use borrow.Author.Tests.{eqb-true, eqb-false, ne-eqb}
 use Rattle.octets.specs.Stretch.{part}
 use Rattle.octets.proofs.Counts.{true-or-false, least-same, least-passes, none-at}
 use Rattle.octets.proofs.Stretches.{part-none}
-use Rattle.refusal.proofs.Laws.{and-right}
+use Rattle.refusal.proofs.Laws.{and-right, and-false-by}
 use Rattle.flow.specs.declared.Flow.{Flow}
 use Rattle.flow.specs.Flow.{fresh, flows}
 use Rattle.table.specs.declared.Request.{Request}
@@ -43,7 +43,8 @@ pub stands-by : (c d : Card) (session flow : ℕ) (terms : Terms) (f : Flow) (he
     × (part (d .holding) (placeOf r flow) (f .held) ≡ part (c .holding) (placeOf r flow) (f .held))) →
     Stands d session flow terms f held
 stands-by c d session flow terms f held s same as-before =
-    let found : find (d .table) session ≡ find (c .table) session = least-same (openIn (d .table) session) (openIn (c .table) session) rows same in
+    let found : find (d .table) session ≡ find (c .table) session =
+    least-same (openIn (d .table) session) (openIn (c .table) session) rows same in
     record {
       is-there = rw found (s .is-there);
       of-terms = rw found (as-before .0 ∙ s .of-terms);
@@ -80,49 +81,53 @@ module _ (t : Table) (session r : ℕ) (row : Row) (six : length (t .rows) ≡ r
 
   -- so every flow of the session stands as it stood
   row-elsewhere : (holding : List ℕ) (flow : ℕ) (terms : Terms) (f : Flow) (held : List ℕ) →
-      Stands (record { table = t; holding = holding }) session flow terms f held → Stands (record { table = withRow t r row; holding = holding }) session flow terms f held
+      Stands (record { table = t; holding = holding }) session flow terms f held →
+      Stands (record { table = withRow t r row; holding = holding }) session flow terms f held
   row-elsewhere holding flow terms f held s =
       let there = other-row t r row (find t session) (not-its-row (s .is-there)) in
-      stands-by (record { table = t; holding = holding }) (record { table = withRow t r row; holding = holding }) session flow terms f held s same-open
+      stands-by (record { table = t; holding = holding }) (record { table = withRow t r row; holding = holding }) session flow terms f held
+      s same-open
       (ap termsOf there, ap (λ (x : Row). flowAt x flow) there, refl)
 
-none-right : (a b : Bool) → b ≡ false → (a && b) ≡ false
-none-right true b e = e
-none-right false b e = refl
-
 -- Opening another session: the fresh row was free.
-fresh-not : (q : Request) (session : ℕ) → (q .id ≡ session → ⊥) → (not (isClosed (freshRow q .kind)) && eqb (freshRow q .id) session) ≡ false
-fresh-not q session other = none-right (not (isClosed (freshRow q .kind))) (eqb (q .id) session) (ne-eqb (q .id) session other)
+fresh-not : (q : Request) (session : ℕ) → (q .id ≡ session → ⊥) →
+    (not (isClosed (freshRow q .kind)) && eqb (freshRow q .id) session) ≡ false
+fresh-not q session other = and-false-by (not (isClosed (freshRow q .kind))) (eqb (q .id) session) (ne-eqb (q .id) session other)
 
 free-not : (t : Table) (session r : ℕ) → freeIn t r ≡ true → openIn t session r ≡ false
 free-not t session r free = rw free refl
 
-pub open-stays : (c : Card) (q : Request) (session flow : ℕ) (terms : Terms) (f : Flow) (held : List ℕ) → Good c → Stands c session flow terms f held →
+pub open-stays : (c : Card) (q : Request) (session flow : ℕ) (terms : Terms) (f : Flow) (held : List ℕ) → Good c →
+    Stands c session flow terms f held →
     opened (c .table) q .code ≡ 0 → Stands (after c (opensCall q)) session flow terms f held
 unfolding after
 open-stays c q session flow terms f held g s z =
     let t = c .table in
     let o = opens t q (sym (opened-code t q) ∙ z) in
     let other : (q .id ≡ session → ⊥) =
-    λ e. true≢false (sym (found-open t session (s .is-there)) ∙ ap (λ (i : ℕ). openIn t i (find t session)) (sym e) ∙ none-at (openIn t (q .id)) rows (find t session) (o .absent) (s .is-there)) in
+    λ e. true≢false (sym (found-open t session (s .is-there)) ∙ ap (λ (i : ℕ). openIn t i (find t session)) (sym e)
+    ∙ none-at (openIn t (q .id)) rows (find t session) (o .absent) (s .is-there)) in
     rw (opened-table t q z)
     (row-elsewhere t session (lowestFree t) (freshRow q) (g .shaped .six) (o .room)
-    (free-not t session (lowestFree t) (least-passes (freeIn t) rows (o .room))) (fresh-not q session other) (c .holding) flow terms f held s)
+    (free-not t session (lowestFree t) (least-passes (freeIn t) rows (o .room))) (fresh-not q session other)
+    (c .holding) flow terms f held s)
 
 -- .. and where another session is open, this one is not
 in-another : (t : Table) (id session : ℕ) → find t id < rows → (id ≡ session → ⊥) → openIn t session (find t id) ≡ false
 in-another t id session l other =
-    none-right (not (isClosed (rowAt t (find t id) .kind))) (eqb (rowAt t (find t id) .id) session)
+    and-false-by (not (isClosed (rowAt t (find t id) .kind))) (eqb (rowAt t (find t id) .id) session)
     (ne-eqb (rowAt t (find t id) .id) session (λ e. other (sym (found-id t id l) ∙ e)))
 
-pub close-stays : (c : Card) (id session flow : ℕ) (terms : Terms) (f : Flow) (held : List ℕ) → Good c → Stands c session flow terms f held →
+pub close-stays : (c : Card) (id session flow : ℕ) (terms : Terms) (f : Flow) (held : List ℕ) → Good c →
+    Stands c session flow terms f held →
     (id ≡ session → ⊥) → closed (c .table) id .code ≡ 0 → Stands (after c (closesCall id)) session flow terms f held
 unfolding after
 close-stays c id session flow terms f held g s other z =
     let t = c .table in
     let d = closes t id (sym (closed-code t id) ∙ z) in
     rw (closed-table t id z)
-    (row-elsewhere t session (find t id) closedRow (g .shaped .six) (d .there) (in-another t id session (d .there) other) refl (c .holding) flow terms f held s)
+    (row-elsewhere t session (find t id) closedRow (g .shaped .six) (d .there) (in-another t id session (d .there) other) refl
+    (c .holding) flow terms f held s)
 
 -- An open that is not refused begins with fresh flows.
 pub stands-opened : (c : Card) (q : Request) (flow : ℕ) → Good c → flow < flows → (answer c (opensCall q)) .code ≡ 0 →

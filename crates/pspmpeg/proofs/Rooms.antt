@@ -37,7 +37,8 @@ use Rattle.promises.proofs.Good.{Good, good-empty, good-all}
 use Rattle.promises.proofs.Measures.{by-length}
 use Rattle.promises.proofs.Holdings.{inTable, keptInAll, table-keeps, empty-keeps}
 use Rattle.promises.proofs.Fates.{heard-tells}
-use Rattle.promises.proofs.OneCall.{when-accepted, when-refused, call-balances}
+use Rattle.refusal.proofs.Laws.{when-accepted, when-refused}
+use Rattle.promises.proofs.OneCall.{call-balances}
 use Rattle.pspmpeg.specs.Stream.{isFor, framesAt, deliveredBefore}
 
 -- a packet brings no more bytes than it has

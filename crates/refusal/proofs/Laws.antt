@@ -1,11 +1,12 @@
--- What an order of refusals says: it gives 0 exactly where no condition holds; and of an order in two stretches, one behind the other,
--- the second decides exactly where the first refuses nothing. A function that judges stretch after stretch is right by these laws.
+-- Laws of tests, and what an order of refusals says: it gives 0 exactly where no condition holds; and of an order in two stretches, one
+-- behind the other, the second decides exactly where the first refuses nothing. A function that judges stretch after stretch is right by
+-- these laws.
 use Prim.Native.Nat.{ℕ}
 use mathlib.Core.Path.{_≡_, refl, sym, ap, _∙_}
-use mathlib.Core.Bool.{Bool, true, false, cond, not, _&&_, true≢false}
+use mathlib.Core.Bool.{Bool, true, false, cond, not, _&&_, and-false, true≢false}
 use mathlib.Core.List.{List, [], _∷_, _++_}
 use lib.Dec.{eqb}
-use borrow.Author.Tests.{eq-eqb}
+use borrow.Author.Tests.{eq-eqb, ne-eqb}
 use Rattle.refusal.specs.Refusal.{Refusal, _when_, first}
 
 -- No line gives 0, which would say that nothing was refused. Of a list that is written out this is `refl`.
@@ -20,6 +21,28 @@ and-left false b h = h
 pub and-right : (a b : Bool) → (a && b) ≡ true → b ≡ true
 and-right true b h = h
 and-right false b h = absurd (true≢false (sym h))
+
+-- neither both, nor the second where the first holds
+pub and-rest : (a b : Bool) → (a && b) ≡ false → a ≡ true → b ≡ false
+and-rest a b none holds = sym (ap (λ (x : Bool). x && b) holds) ∙ none
+
+-- not both, where not the second
+pub and-false-by : (a b : Bool) → b ≡ false → (a && b) ≡ false
+and-false-by a b e = ap (λ (x : Bool). a && x) e ∙ and-false a
+
+-- what a test that is decided picks
+pub cond-true : {A : Type 0} (t : Bool) (x y : A) → t ≡ true → cond t x y ≡ x
+cond-true t x y e = ap (λ (b : Bool). cond b x y) e
+
+pub cond-false : {A : Type 0} (t : Bool) (x y : A) → t ≡ false → cond t x y ≡ y
+cond-false t x y e = ap (λ (b : Bool). cond b x y) e
+
+-- by the number of an answer: nothing was refused, or something was
+pub when-accepted : {A : Type 0} (n : ℕ) → n ≡ 0 → (x y : A) → cond (eqb n 0) x y ≡ x
+when-accepted n none x y = cond-true (eqb n 0) x y (eq-eqb n 0 none)
+
+pub when-refused : {A : Type 0} (n : ℕ) → (n ≡ 0 → ⊥) → (x y : A) → cond (eqb n 0) x y ≡ y
+when-refused n some x y = cond-false (eqb n 0) x y (ne-eqb n 0 some)
 
 pub numbered-both : (xs ys : List Refusal) → numbered xs ≡ true → numbered ys ≡ true → numbered (xs ++ ys) ≡ true
 numbered-both [] ys n m = m

@@ -15,9 +15,9 @@ use Rattle.table.specs.Broken.{broken}
 use Rattle.table.proofs.Keeping.{empty-unbroken, opened-keeps, closed-keeps}
 use Rattle.join.specs.Slices.{mostFrames, mostBytes, asSlices}
 use Rattle.card.specs.Receive.{framesFound}
-use Rattle.card.specs.History.{Card, Call, opens, closes, hands, framesOf, answer, after}
+use Rattle.card.specs.History.{Call, opens, closes, hands, framesOf, answer, after}
 use Rattle.card.proofs.Keeping.{received-keeps}
-use Rattle.card.proofs.Step.{none-found}
+use Rattle.octets.proofs.Stretches.{cut-part-none}
 use Rattle.card.proofs.Limits.{within-limits, lengths-add-up}
 use Rattle.capture.specs.File.{Entry, openPsp, openDmpt, closing, nthEntry}
 use Rattle.replay.specs.declared.Walk.{Walk}
@@ -53,18 +53,21 @@ never-broken file (suc k) = run-keeps (standing file k) (nthEntry file k) (never
 
 -- the frames of a call are those that its caller finds, also where the slices were not lent to it: then there are none
 none-either : (lengths output more-lengths more-output : List ℕ) → framesFound 0 lengths output ≡ framesFound 0 more-lengths more-output
-none-either lengths output more-lengths more-output = none-found lengths output ∙ sym (none-found more-lengths more-output)
+none-either lengths output more-lengths more-output = cut-part-none lengths output ∙ sym (cut-part-none more-lengths more-output)
 
-frames-same : (r : Running) (e : Entry) → framesFound (answerTo r e .frames) (runOne r e .lengths) (runOne r e .output) ≡ framesOf (answerTo r e)
+frames-same : (r : Running) (e : Entry) →
+    framesFound (answerTo r e .frames) (runOne r e .lengths) (runOne r e .output) ≡ framesOf (answerTo r e)
 unfolding runOne answer
 frames-same r e =
     by-call r e
-    (λ (x : Call). framesFound (answer (r .card) x .frames) (lengthsAfter x (r .lengths) (answer (r .card) x)) (outputAfter x (r .output) (answer (r .card) x)) ≡ framesOf (answer (r .card) x))
+    (λ (x : Call). framesFound (answer (r .card) x .frames) (lengthsAfter x (r .lengths) (answer (r .card) x))
+    (outputAfter x (r .output) (answer (r .card) x)) ≡ framesOf (answer (r .card) x))
     (λ q. none-either (r .lengths) (r .output) [] [])
     (λ id. none-either (r .lengths) (r .output) [] [])
     refl
 
-frames-of-entry : (file : List ℕ) (k : ℕ) → framesFound (answerAt file k .frames) (standing file (suc k) .lengths) (standing file (suc k) .output) ≡ framesOf (answerAt file k)
+frames-of-entry : (file : List ℕ) (k : ℕ) →
+    framesFound (answerAt file k .frames) (standing file (suc k) .lengths) (standing file (suc k) .output) ≡ framesOf (answerAt file k)
 unfolding standing answerAt
 frames-of-entry file k = frames-same (standing file k) (nthEntry file k)
 
@@ -86,7 +89,8 @@ frames-short r e =
     (few .most-frames, omega (arith, few .most-bytes, lengths-add-up (r .card .table) (packetOf e) s))
 
 -- wherever a walk stands its table is whole
-pub table-whole : {file : List ℕ} {w : Walk} {holding output lengths : List ℕ} → Stands file w holding output lengths → broken (w .table) ≡ false
+pub table-whole : {file : List ℕ} {w : Walk} {holding output lengths : List ℕ} → Stands file w holding output lengths →
+    broken (w .table) ≡ false
 table-whole {file} {w} s = ap (λ (r : Running). broken (r .card .table)) (s .its-run) ∙ never-broken file (w .index)
 
 -- Behind a step: the card is the one that the run has there, and the entry's frames are those that are found in the slices.

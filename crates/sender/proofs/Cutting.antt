@@ -10,39 +10,21 @@ use native.Mathlib.Omega.{arith}
 use native.Mathlib.Nat.{eq-or-lt-of-le, mul-suc, not-suc-le-zero}
 use native.Mathlib.Numerals.{add-one}
 use lib.Dec.{ltb, leb}
-use lib.ListN.{length, length-append, List·getD-append}
-use lib.Seq.{getD-at}
+use lib.ListN.{length, length-append}
 use borrow.Author.Tests.{ltb-true, leb-true, eq-eqb}
 use Rattle.refusal.proofs.Laws.{and-left, and-right}
 use Rattle.octets.specs.Stretch.{joined}
-use Rattle.octets.proofs.Stretches.{length-part, joined-map-more}
+use Rattle.octets.proofs.Stretches.{length-part, joined-map-more, length-joined-none}
+use Rattle.octets.proofs.Elements.{length-one-more, before-last, at-last, all-one-more}
 use Rattle.flow.specs.Flow.{longest}
 use Rattle.packet.specs.Segments.{Segment}
 use Rattle.sender.specs.declared.Position.{Position}
-use Rattle.sender.specs.Cut.{frameLength, leftOf, indexOf, segmentFrom, nextFrame, fartherOn, after, Cut, leastRoom, goesOn, sizeOfNext, place, cut}
+use Rattle.sender.specs.Cut.{frameLength, leftOf, indexOf, segmentFrom, nextFrame, fartherOn, after, Cut, leastRoom, goesOn}
+use Rattle.sender.specs.Cut.{sizeOfNext, place, cut}
 use Rattle.sender.specs.Packet.{bodyOf}
 use Rattle.sender.specs.Carried.{Carries, Carried}
 use Rattle.sender.proofs.Reading.{none, nth}
 use Rattle.sender.proofs.Positions.{Framed, Inside, after-inside, left-within, carried-append}
-
--- lists one longer
-nth-before : (segs : List Segment) (s : Segment) (k : ℕ) → k < length segs → nth (segs ++ (s ∷ [])) k ≡ nth segs k
-nth-before segs s k l = List·getD-append segs (s ∷ []) none k l
-
-nth-last : (segs : List Segment) (s : Segment) (k : ℕ) → k ≡ length segs → nth (segs ++ (s ∷ [])) k ≡ s
-nth-last segs s k e = getD-at segs s [] none k (sym e)
-
-pub length-more : (segs : List Segment) (s : Segment) → length (segs ++ (s ∷ [])) ≡ length segs + 1
-length-more segs s = length-append segs (s ∷ [])
-
--- a property of all segments so far, and of one more
-each-more : (P : Segment → Type 0) (segs : List Segment) (s : Segment) → ((k : ℕ) → k < length segs → P (nth segs k)) → P s →
-    (k : ℕ) → k < length (segs ++ (s ∷ [])) → P (nth (segs ++ (s ∷ [])) k)
-each-more P segs s all p k l =
-    ⊎-elim
-    (λ (e : k ≡ length segs). rw (nth-last segs s k e) p)
-    (λ (b : k < length segs). rw (nth-before segs s k b) (all k b))
-    (eq-or-lt-of-le (let n = length-more segs s in let h : k ≤ length segs = omega arith in h))
 
 module _ (width : ℕ) (bytes lengths : List ℕ) (frames : Framed (length bytes) lengths) (room : ℕ) (from : Position) where
   pub record Cutting (c : Cut) : Type 0 where
@@ -106,37 +88,46 @@ module _ (width : ℕ) (bytes lengths : List ℕ) (frames : Framed (length bytes
 
     pub place-keeps : Cutting (place width bytes lengths c)
     place-keeps =
-        let n = length-more (c .segments) segment in
+        let n = length-one-more (c .segments) segment in
         let j = joined-map-more bodyOf (c .segments) segment in
         let long : length (joined (map bodyOf (c .segments ++ (segment ∷ [])))) ≡ length (joined (map bodyOf (c .segments))) + size =
-        ap length j ∙ length-append (joined (map bodyOf (c .segments))) (segment .body) ∙ ap (λ (m : ℕ). length (joined (map bodyOf (c .segments))) + m) body-length in
+        ap length j ∙ length-append (joined (map bodyOf (c .segments))) (segment .body)
+        ∙ ap (λ (m : ℕ). length (joined (map bodyOf (c .segments))) + m) body-length in
         let wide : width * length (c .segments ++ (segment ∷ [])) ≡ width * length (c .segments) + width =
         ap (λ (m : ℕ). width * m) (n ∙ add-one (length (c .segments))) ∙ mul-suc width (length (c .segments)) in
         record {
-          carried = carried-append bytes lengths from (c .position) (after lengths (c .position) size) (c .segments) (segment ∷ []) (k .carried)
+          carried =
+              carried-append bytes lengths from (c .position) (after lengths (c .position) size) (c .segments) (segment ∷ []) (k .carried)
               (carries, ap (after lengths (c .position)) body-length);
           inside = after-inside lengths (c .position) size size-some size-left frames frames-remain;
           in-room = omega (arith, k .in-room, long, wide, size-room);
-          filled = each-more (λ s. 1 ≤ length (s .body)) (c .segments) segment (k .filled) (omega (arith, body-length, size-some));
-          short = each-more (λ s. length (s .body) ≤ longest) (c .segments) segment (k .short) (omega (arith, body-length, size-short));
+          filled = all-one-more (c .segments) segment (λ s. 1 ≤ length (s .body)) none (k .filled) (omega (arith, body-length, size-some));
+          short =
+              all-one-more (c .segments) segment (λ s. length (s .body) ≤ longest) none (k .short) (omega (arith, body-length, size-short));
           begun = λ i l z. begun-more i (omega (arith, n)) z;
           ended = λ i l z. ended-more i (omega (arith, n)) (λ e. z (e ∙ sym n));
-          all-ended = λ r. each-more (λ s. s .ends ≡ true) (c .segments) segment (k .all-ended room-enough) (eq-eqb size (leftOf lengths (c .position)) (ends-then r));
-          at-start = λ r _. ap (λ (t : Bool). (cond t (nextFrame (c .position)) (fartherOn (c .position) size)) .offset) (eq-eqb size (leftOf lengths (c .position)) (ends-then r));
+          all-ended = λ r.
+              all-one-more (c .segments) segment (λ s. s .ends ≡ true) none (k .all-ended room-enough)
+              (eq-eqb size (leftOf lengths (c .position)) (ends-then r));
+          at-start = λ r _.
+              ap (λ (t : Bool). (cond t (nextFrame (c .position)) (fartherOn (c .position) size)) .offset)
+              (eq-eqb size (leftOf lengths (c .position)) (ends-then r));
         }
       where
         begun-more : (i : ℕ) → i ≤ length (c .segments) → (i ≡ 0 → ⊥) → (nth (c .segments ++ (segment ∷ [])) i) .begins ≡ true
         begun-more i l z =
             ⊎-elim
-            (λ (e : i ≡ length (c .segments)). rw (nth-last (c .segments) segment i e) (eq-eqb (c .position .offset) 0 (k .at-start room-enough (omega arith))))
-            (λ (b : i < length (c .segments)). rw (nth-before (c .segments) segment i b) (k .begun i b z))
+            (λ (e : i ≡ length (c .segments)).
+            rw (at-last (c .segments) segment i none e) (eq-eqb (c .position .offset) 0 (k .at-start room-enough (omega arith))))
+            (λ (b : i < length (c .segments)). rw (before-last (c .segments) segment i none b) (k .begun i b z))
             (eq-or-lt-of-le l)
 
-        ended-more : (i : ℕ) → i ≤ length (c .segments) → (i + 1 ≡ length (c .segments) + 1 → ⊥) → (nth (c .segments ++ (segment ∷ [])) i) .ends ≡ true
+        ended-more : (i : ℕ) → i ≤ length (c .segments) → (i + 1 ≡ length (c .segments) + 1 → ⊥) →
+            (nth (c .segments ++ (segment ∷ [])) i) .ends ≡ true
         ended-more i l z =
             ⊎-elim
             (λ (e : i ≡ length (c .segments)). absurd (z (ap (λ (m : ℕ). m + 1) e)))
-            (λ (b : i < length (c .segments)). rw (nth-before (c .segments) segment i b) (k .all-ended room-enough i b))
+            (λ (b : i < length (c .segments)). rw (before-last (c .segments) segment i none b) (k .all-ended room-enough i b))
             (eq-or-lt-of-le l)
 
   -- So the whole cut keeps it.
@@ -152,12 +143,11 @@ module _ (width : ℕ) (bytes lengths : List ℕ) (frames : Framed (length bytes
 
   -- Nothing is placed at the start.
   pub cutting-start : Inside lengths from → Cutting (record { room = room; position = from; segments = [] })
-  unfolding joined
   cutting-start i =
       record {
         carried = refl;
         inside = i;
-        in-room = omega arith;
+        in-room = omega (arith, length-joined-none);
         filled = λ k l. absurd (not-suc-le-zero l);
         short = λ k l. absurd (not-suc-le-zero l);
         begun = λ k l. absurd (not-suc-le-zero l);
@@ -168,7 +158,8 @@ module _ (width : ℕ) (bytes lengths : List ℕ) (frames : Framed (length bytes
 
 -- One segment more, or none; and how many there are in all.
 module _ (width : ℕ) (bytes lengths : List ℕ) where
-  pub cut-turn : (more : ℕ) (c : Cut) → goesOn width lengths c ≡ true → cut (suc more) width bytes lengths c ≡ cut more width bytes lengths (place width bytes lengths c)
+  pub cut-turn : (more : ℕ) (c : Cut) → goesOn width lengths c ≡ true →
+      cut (suc more) width bytes lengths c ≡ cut more width bytes lengths (place width bytes lengths c)
   unfolding cut
   cut-turn more c e = ap (λ (t : Bool). cond t (cut more width bytes lengths (place width bytes lengths c)) c) e
 
@@ -185,9 +176,10 @@ module _ (width : ℕ) (bytes lengths : List ℕ) where
     pub no-fewer : length (c .segments) ≤ length (d .segments)
     pub no-more : length (d .segments) ≤ length (c .segments) + more
 
-  step-counts : (more : ℕ) (f : Cut → Cut) → ((d : Cut) → Counted more d (f d)) → (c : Cut) (t : Bool) → Counted (suc more) c (cond t (f (place width bytes lengths c)) c)
+  step-counts : (more : ℕ) (f : Cut → Cut) → ((d : Cut) → Counted more d (f d)) → (c : Cut) (t : Bool) →
+      Counted (suc more) c (cond t (f (place width bytes lengths c)) c)
   step-counts more f counts c true =
-      let n = length-more (c .segments) (segmentFrom bytes lengths (c .position) (sizeOfNext width lengths c)) in
+      let n = length-one-more (c .segments) (segmentFrom bytes lengths (c .position) (sizeOfNext width lengths c)) in
       let r = counts (place width bytes lengths c) in
       record { no-fewer = omega (arith, r .no-fewer, n); no-more = omega (arith, r .no-more, n) }
   step-counts more f counts c false = record { no-fewer = omega arith; no-more = omega arith }
@@ -197,8 +189,9 @@ module _ (width : ℕ) (bytes lengths : List ℕ) where
   cut-counts zero c = record { no-fewer = omega arith; no-more = omega arith }
   cut-counts (suc more) c = step-counts more (cut more width bytes lengths) (cut-counts more) c (goesOn width lengths c)
 
-  pub cut-some : (more : ℕ) (c : Cut) → goesOn width lengths c ≡ true → length (c .segments) + 1 ≤ length (cut (suc more) width bytes lengths c .segments)
+  pub cut-some : (more : ℕ) (c : Cut) → goesOn width lengths c ≡ true →
+      length (c .segments) + 1 ≤ length (cut (suc more) width bytes lengths c .segments)
   cut-some more c e =
-      let n = length-more (c .segments) (segmentFrom bytes lengths (c .position) (sizeOfNext width lengths c)) in
+      let n = length-one-more (c .segments) (segmentFrom bytes lengths (c .position) (sizeOfNext width lengths c)) in
       let r = cut-counts more (place width bytes lengths c) .no-fewer in
       rw (cut-turn more c e) (omega (arith, n, r))

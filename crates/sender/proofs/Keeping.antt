@@ -7,11 +7,11 @@ use mathlib.Core.Bool.{true}
 use mathlib.Core.List.{List, [], _∷_, map}
 use native.Mathlib.Omega.{arith}
 use native.Mathlib.Nat.{not-suc-le-zero}
-use lib.ListN.{length, length-append}
+use lib.ListN.{length}
 use borrow.Author.Tests.{lt-ltb, le-leb}
 use Rattle.refusal.specs.Refusal.{first}
 use Rattle.octets.specs.Stretch.{joined}
-use Rattle.octets.proofs.Stretches.{part-put}
+use Rattle.octets.proofs.Stretches.{part-put, length-joined}
 use Rattle.flow.specs.Numbers.{next}
 use Rattle.packet.specs.Header.{ip, sub, sSet, sessionId, flowId, headerLength, number as number-in}
 use Rattle.packet.specs.Segments.{Segment, entryWidth, segments}
@@ -84,15 +84,19 @@ module _ (a : Asked) (z : first (sendRefusals a) ≡ 0) where
   pub sent-inside : Inside (a .lengths) ((sent a) .answer .position)
   sent-inside = rw sent-position (cut-done .inside)
 
-  some-bytes : (segs : List Segment) → 1 ≤ length segs → ((k : ℕ) → k < length segs → 1 ≤ length ((nth segs k) .body)) → 1 ≤ length (joined (map bodyOf segs))
-  unfolding joined
+  some-bytes : (segs : List Segment) → 1 ≤ length segs → ((k : ℕ) → k < length segs → 1 ≤ length ((nth segs k) .body)) →
+      1 ≤ length (joined (map bodyOf segs))
   some-bytes [] l f = absurd (not-suc-le-zero l)
-  some-bytes (s ∷ segs) l f = let n = length-append (s .body) (joined (map bodyOf segs)) in omega (arith, f 0 (omega arith))
+  some-bytes (s ∷ segs) l f = omega (arith, length-joined (s .body) (map bodyOf segs), f 0 (omega arith))
 
   pub sent-farther : indexOf (a .lengths) (a .position) + 1 ≤ indexOf (a .lengths) ((sent a) .answer .position)
   sent-farther =
       rw sent-position
-      (omega (arith, carried-place (a .bytes) (a .lengths) (a .position) ((cutFor a) .position) ((cutFor a) .segments) (cut-done .carried), some-bytes ((cutFor a) .segments) some-segment (cut-done .filled)))
+      (omega (
+        arith,
+        carried-place (a .bytes) (a .lengths) (a .position) ((cutFor a) .position) ((cutFor a) .segments) (cut-done .carried),
+        some-bytes ((cutFor a) .segments) some-segment (cut-done .filled),
+      ))
 
   -- the packet that is left in the output
   pub sent-packet : packetLeft (sent a) ≡ packetFor a
@@ -123,7 +127,9 @@ module _ (a : Asked) (z : first (sendRefusals a) ≡ 0) where
         }
 
     pub sent-passes : check kindPsp (ip (packetLeft (sent a))) ≡ 0
-    sent-passes = ap (λ (p : List ℕ). check kindPsp (ip p)) sent-packet ∙ written-passes (a .session) (a .flow) (a .number) ((cutFor a) .segments) sendable
+    sent-passes =
+        ap (λ (p : List ℕ). check kindPsp (ip p)) sent-packet
+        ∙ written-passes (a .session) (a .flow) (a .number) ((cutFor a) .segments) sendable
 
     pub sent-counts : sSet (sub (ip (packetLeft (sent a)))) ≡ true
     sent-counts =
@@ -132,16 +138,23 @@ module _ (a : Asked) (z : first (sendRefusals a) ≡ 0) where
 
     pub sent-addressed : Addressed (record { session = a .session; flow = a .flow; start = a .number }) (ip (packetLeft (sent a)))
     sent-addressed = (
-      ap (λ (p : List ℕ). sessionId (ip p)) sent-packet ∙ written-session (a .session) (a .flow) (a .number) ((cutFor a) .segments) sendable,
-      ap (λ (p : List ℕ). flowId (sub (ip p))) sent-packet ∙ written-flow (a .session) (a .flow) (a .number) ((cutFor a) .segments) sendable,
+      ap (λ (p : List ℕ). sessionId (ip p)) sent-packet
+          ∙ written-session (a .session) (a .flow) (a .number) ((cutFor a) .segments) sendable,
+      ap (λ (p : List ℕ). flowId (sub (ip p))) sent-packet
+          ∙ written-flow (a .session) (a .flow) (a .number) ((cutFor a) .segments) sendable,
     )
 
     pub sent-numbered : number-in (sub (ip (packetLeft (sent a)))) ≡ a .number
-    sent-numbered = ap (λ (p : List ℕ). number-in (sub (ip p))) sent-packet ∙ written-number (a .session) (a .flow) (a .number) ((cutFor a) .segments) sendable
+    sent-numbered =
+        ap (λ (p : List ℕ). number-in (sub (ip p))) sent-packet
+        ∙ written-number (a .session) (a .flow) (a .number) ((cutFor a) .segments) sendable
 
     sent-segments : segmentsOf entryWidth (ip (packetLeft (sent a))) ≡ (cutFor a) .segments
-    sent-segments = ap (λ (p : List ℕ). segmentsOf entryWidth (ip p)) sent-packet ∙ written-segments (a .session) (a .flow) (a .number) ((cutFor a) .segments) sendable
+    sent-segments =
+        ap (λ (p : List ℕ). segmentsOf entryWidth (ip p)) sent-packet
+        ∙ written-segments (a .session) (a .flow) (a .number) ((cutFor a) .segments) sendable
 
     -- its segments are the next stretch of the frames
-    pub sent-carries : Carried (a .bytes) (a .lengths) (a .position) (segmentsOf entryWidth (ip (packetLeft (sent a)))) ((sent a) .answer .position)
+    pub sent-carries : Carried (a .bytes) (a .lengths) (a .position) (segmentsOf entryWidth (ip (packetLeft (sent a))))
+        ((sent a) .answer .position)
     sent-carries = rw (sent-segments, sent-position) (cut-done .carried)

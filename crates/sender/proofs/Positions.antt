@@ -6,11 +6,12 @@ use mathlib.Core.Bool.{Bool, true, false, not, cond, _&&_, _||_}
 use mathlib.Core.List.{List, [], _∷_, _++_, map}
 use native.Mathlib.Omega.{arith}
 use lib.Dec.{eqb, ltb}
-use lib.ListN.{length, length-append}
+use lib.ListN.{length}
 use borrow.Author.Tests.{eqb-true, eqb-false, ltb-true, ltb-false, lt-ltb, eq-eqb, not-false}
 use Rattle.octets.specs.Stretch.{part, joined}
 use Rattle.octets.specs.Count.{any, sumTo}
-use Rattle.octets.proofs.Stretches.{part-none, part-part}
+use Rattle.refusal.proofs.Laws.{and-rest}
+use Rattle.octets.proofs.Stretches.{part-none, part-part, joined-none, joined-cons, length-joined, length-joined-none}
 use Rattle.octets.proofs.Counts.{none-at, or-false-left, or-false-right, sum-more, sum-within}
 use Rattle.flow.specs.Flow.{longest}
 use Rattle.packet.specs.Segments.{Segment}
@@ -33,16 +34,16 @@ framed total lengths h =
     let bad = any (badLength lengths) (length lengths) in
     let sum = sumTo (frameLength lengths) (length lengths) in
     let early : (many || bad) ≡ false = or-false-left (many || bad) (not (eqb sum total)) h in
-    let good : (i : ℕ) → i < length lengths → badLength lengths i ≡ false = λ i l. none-at (badLength lengths) (length lengths) i (or-false-right many bad early) l in
+    let good : (i : ℕ) → i < length lengths → badLength lengths i ≡ false =
+    λ i l. none-at (badLength lengths) (length lengths) i (or-false-right many bad early) l in
+    let none : ℕ → Bool = λ i. eqb (frameLength lengths i) 0 in
+    let long : ℕ → Bool = λ i. ltb longest (frameLength lengths i) in
     record {
       few = ltb-false mostFrames (length lengths) (or-false-left many bad early);
-      some-bytes = λ i l. positive (frameLength lengths i) (eqb-false (frameLength lengths i) 0 (or-false-left (eqb (frameLength lengths i) 0) (ltb longest (frameLength lengths i)) (good i l)));
-      not-long = λ i l. ltb-false longest (frameLength lengths i) (or-false-right (eqb (frameLength lengths i) 0) (ltb longest (frameLength lengths i)) (good i l));
+      some-bytes = λ i l. omega (arith, eqb-false (frameLength lengths i) 0 (or-false-left (none i) (long i) (good i l)));
+      not-long = λ i l. ltb-false longest (frameLength lengths i) (or-false-right (none i) (long i) (good i l));
       all = eqb-true sum total (not-false (eqb sum total) (or-false-right (many || bad) (not (eqb sum total)) h));
     }
-  where
-    positive : (n : ℕ) → (n ≡ 0 → ⊥) → 1 ≤ n
-    positive n h = omega arith
 
 -- A position that 34 does not refuse.
 pub record Inside (lengths : List ℕ) (at : Position) : Type 0 where
@@ -60,12 +61,16 @@ inside lengths at h =
     let early : (above || (there && not below)) ≡ false = or-false-left (above || (there && not below)) (last && not zero-offset) h in
     record {
       among = ltb-false (length lengths) (at .frame) (or-false-left above (there && not below) early);
-      in-frame = λ l. ltb-true (at .offset) (frameLength lengths (at .frame)) (not-false below (holds there (not below) (lt-ltb (at .frame) (length lengths) l) (or-false-right above (there && not below) early)));
-      at-end = λ e. eqb-true (at .offset) 0 (not-false zero-offset (holds last (not zero-offset) (eq-eqb (at .frame) (length lengths) e) (or-false-right (above || (there && not below)) (last && not zero-offset) h)));
+      in-frame = λ l.
+          let its-frame = lt-ltb (at .frame) (length lengths) l in
+          ltb-true (at .offset) (frameLength lengths (at .frame))
+          (not-false below (and-rest there (not below) (or-false-right above (there && not below) early) its-frame));
+      at-end = λ e.
+          let ended = eq-eqb (at .frame) (length lengths) e in
+          eqb-true (at .offset) 0
+          (not-false zero-offset
+          (and-rest last (not zero-offset) (or-false-right (above || (there && not below)) (last && not zero-offset) h) ended));
     }
-  where
-    holds : (a b : Bool) → a ≡ true → (a && b) ≡ false → b ≡ false
-    holds a b t f = sym (ap (λ (x : Bool). x && b) t) ∙ f
 
 -- One step on.
 module _ (lengths : List ℕ) (at : Position) (n : ℕ) (some : 1 ≤ n) (left : n ≤ leftOf lengths at) where
@@ -77,7 +82,10 @@ module _ (lengths : List ℕ) (at : Position) (n : ℕ) (some : 1 ≤ n) (left :
   after-place = by (eqb n (leftOf lengths at)) refl
     where
       by : (t : Bool) → eqb n (leftOf lengths at) ≡ t → indexOf lengths (after-by t) ≡ indexOf lengths at + n
-      by true e = let q : n ≡ leftOf lengths at = eqb-true n (leftOf lengths at) e in let s = sum-more (frameLength lengths) (at .frame) in omega arith
+      by true e =
+          let q : n ≡ leftOf lengths at = eqb-true n (leftOf lengths at) e in
+          let s = sum-more (frameLength lengths) (at .frame) in
+          omega arith
       by false e = omega arith
 
   pub after-inside : {total : ℕ} → Framed total lengths → at .frame < length lengths → Inside lengths (after lengths at n)
@@ -121,7 +129,8 @@ module _ {total : ℕ} {lengths : List ℕ} (f : Framed total lengths) (at : Pos
           let q : at .frame ≡ length lengths = omega (arith, i .among, ltb-false (at .frame) (length lengths) e) in
           omega (arith, i .at-end q)
 
-  pub left-within : at .frame < length lengths → at .offset ≤ frameLength lengths (at .frame) → indexOf lengths at + leftOf lengths at ≤ total
+  pub left-within : at .frame < length lengths → at .offset ≤ frameLength lengths (at .frame) →
+      indexOf lengths at + leftOf lengths at ≤ total
   unfolding frameStart
   left-within l o = omega (arith, sum-within (frameLength lengths) (at .frame) (length lengths) l, f .all)
 
@@ -138,26 +147,27 @@ module _ (bytes lengths : List ℕ) where
 
   pub carried-place : (at end : Position) (segs : List Segment) → Carried bytes lengths at segs end →
       indexOf lengths end ≡ indexOf lengths at + length (joined (map bodyOf segs))
-  unfolding joined
-  carried-place at end [] p = rw p (omega arith)
+  carried-place at end [] p = rw p (omega (arith, length-joined-none))
   carried-place at end (s ∷ segs) p =
       let n = length (s .body) in
       let here = after-place lengths at n (p .0 .some) (p .0 .of-the-frame) in
       let there = carried-place (after lengths at n) end segs (p .1) in
-      let both = length-append (s .body) (joined (map bodyOf segs)) in
+      let both = length-joined (s .body) (map bodyOf segs) in
       omega arith
 
   pub carried-bytes : (at end : Position) (segs : List Segment) → Carried bytes lengths at segs end →
       joined (map bodyOf segs) ≡ part bytes (indexOf lengths at) (length (joined (map bodyOf segs)))
-  unfolding joined
-  carried-bytes at end [] p = sym (part-none bytes (indexOf lengths at))
+  carried-bytes at end [] p =
+      let from = indexOf lengths at in
+      joined-none ∙ sym (part-none bytes from) ∙ ap (part bytes from) (sym length-joined-none)
   carried-bytes at end (s ∷ segs) p =
       let n = length (s .body) in
       let here = after-place lengths at n (p .0 .some) (p .0 .of-the-frame) in
       let mine : s .body ≡ part bytes (indexOf lengths at) n = ap bodyOf (p .0 .is-next) in
       let others : joined (map bodyOf segs) ≡ part bytes (indexOf lengths at + n) (length (joined (map bodyOf segs))) =
       carried-bytes (after lengths at n) end segs (p .1) ∙ ap (λ (k : ℕ). part bytes k (length (joined (map bodyOf segs)))) here in
-      ap (λ (l : List ℕ). l ++ joined (map bodyOf segs)) mine
+      joined-cons (s .body) (map bodyOf segs)
+      ∙ ap (λ (l : List ℕ). l ++ joined (map bodyOf segs)) mine
       ∙ ap (λ (l : List ℕ). part bytes (indexOf lengths at) n ++ l) others
       ∙ part-part bytes (indexOf lengths at) n (length (joined (map bodyOf segs)))
-      ∙ ap (part bytes (indexOf lengths at)) (sym (length-append (s .body) (joined (map bodyOf segs))))
+      ∙ ap (part bytes (indexOf lengths at)) (sym (length-joined (s .body) (map bodyOf segs)))

@@ -1,24 +1,22 @@
 -- What is written reads back: a packet of given segments passes the PSP check, and read by the packet's own definitions it has the session
 -- ID, the flow, the number and the segments that it was written from. So sender and receiver mean the same by a packet.
-use Prim.Native.Nat.{ℕ, zero, suc, _+_, _*_, _/_, _%_, _<_, _≤_}
+use Prim.Native.Nat.{ℕ, _+_, _*_, _/_, _%_, _<_, _≤_}
 use mathlib.Core.Path.{_≡_, refl, sym, ap, _∙_}
 use mathlib.Core.Bool.{Bool, true, false, not, _&&_, _||_}
-use mathlib.Core.List.{List, [], _∷_, _++_, map, append-assoc}
+use mathlib.Core.List.{List, [], _∷_, _++_, map, append-nil}
 use native.Mathlib.Omega.{arith}
-use native.Mathlib.Numerals.{add-one}
-use native.Mathlib.Nat.{not-suc-le-zero, le-of-suc-le-suc}
 use lib.Dec.{eqb}
-use lib.ListN.{length, take, getD, length-append, List·getD-append}
-use lib.Seq.{getD-append-add, take-suc, take-all}
+use lib.ListN.{length, getD, length-append, List·getD-append}
+use lib.Seq.{getD-append-add}
 use borrow.Author.Tests.{eq-eqb, ne-eqb, le-ltb, eqb-false}
 use Rattle.refusal.specs.Refusal.{first}
 use Rattle.refusal.proofs.Laws.{NoneApplies, none-first, first-passed}
 use Rattle.octets.specs.Bytes.{byteAt, be16At, two, four}
-use Rattle.octets.specs.Stretch.{part, rest, joined}
-use Rattle.octets.specs.Count.{sumTo, upTo}
+use Rattle.octets.specs.Stretch.{part, joined}
+use Rattle.octets.specs.Count.{sumTo}
 use Rattle.octets.proofs.Numbers.{two-reads-back, four-reads-back}
-use Rattle.octets.proofs.Stretches.{part-between}
-use Rattle.octets.proofs.Counts.{none-all, sum-none, sum-more}
+use Rattle.octets.proofs.Stretches.{rest-append, byte-joined, part-joined-at, length-joined-map, length-joined-sum}
+use Rattle.octets.proofs.Counts.{none-all, sum-agree, up-to-elements}
 use Rattle.flow.specs.Flow.{topFlow}
 use Rattle.packet.specs.Header.{ip, vBit, sBit, hBit, hValues, headerLength, shortestPacket, longestPacket, sub, sessionId, flowId}
 use Rattle.packet.specs.Header.{segmentCount, number as number-in, sSet, notPlain, beforeSession}
@@ -62,39 +60,16 @@ abbrev pub nth : List Segment → ℕ → Segment
 nth segs k = getD segs k none
 
 pub length-entries : (segs : List Segment) → length (joined (map entryOf segs)) ≡ entryWidth * length segs
-unfolding joined
-length-entries [] = refl
-length-entries (s ∷ segs) = let r = length-entries segs in omega arith
+length-entries segs = length-joined-map entryOf entryWidth (λ s. refl) segs
 
-entry-at : (segs : List Segment) (k : ℕ) → k < length segs → be16At (joined (map entryOf segs)) (entryWidth * k) ≡ be16At (entryOf (nth segs k)) 0
-unfolding joined
-entry-at [] k l = absurd (not-suc-le-zero l)
-entry-at (s ∷ segs) zero l = refl
-entry-at (s ∷ segs) (suc k) l =
-    let e : entryWidth * suc k ≡ suc (suc (entryWidth * k)) = omega arith in
-    let e′ : entryWidth * suc k + 1 ≡ suc (suc (entryWidth * k + 1)) = omega arith in
-    rw (e′, e) (entry-at segs k (le-of-suc-le-suc l))
-
--- The bodies: those before segment k, its own, and those behind it.
-bodies-split : (segs : List Segment) (k : ℕ) → k < length segs →
-    (behind : List ℕ) × (joined (map bodyOf segs) ≡ joined (map bodyOf (take k segs)) ++ (nth segs k) .body ++ behind)
-unfolding joined
-bodies-split [] k l = absurd (not-suc-le-zero l)
-bodies-split (s ∷ segs) zero l = (joined (map bodyOf segs), refl)
-bodies-split (s ∷ segs) (suc k) l =
-    let r = bodies-split segs k (le-of-suc-le-suc l) in
-    let before = joined (map bodyOf (take k segs)) in
-    (r .0, rw (r .1, append-assoc before ((nth segs k) .body) (r .0), append-assoc (s .body) before ((nth segs k) .body), append-assoc (s .body) (before ++ (nth segs k) .body) (r .0), append-assoc before ((nth segs k) .body) (r .0)) refl)
-
-bodies-next : (segs : List Segment) (k : ℕ) → k < length segs →
-    length (joined (map bodyOf (take (k + 1) segs))) ≡ length (joined (map bodyOf (take k segs))) + length ((nth segs k) .body)
-unfolding joined
-bodies-next [] k l = absurd (not-suc-le-zero l)
-bodies-next (s ∷ segs) zero l = rw (length-append (s .body) []) (omega arith)
-bodies-next (s ∷ segs) (suc k) l =
-    let e : suc k + 1 ≡ suc (k + 1) = omega arith in
-    let r = bodies-next segs k (le-of-suc-le-suc l) in
-    rw (e, length-append (s .body) (joined (map bodyOf (take (k + 1) segs))), length-append (s .body) (joined (map bodyOf (take k segs)))) (omega arith)
+entry-at : (segs : List Segment) (k : ℕ) → k < length segs →
+    be16At (joined (map entryOf segs)) (entryWidth * k) ≡ be16At (entryOf (nth segs k)) 0
+entry-at segs k l =
+    let entries = joined (map entryOf segs) in
+    let start : entryWidth * k ≡ entryWidth * k + 0 = omega arith in
+    let high = ap (byteAt entries) start ∙ byte-joined entryOf entryWidth (λ s. refl) segs none k 0 l (omega arith) in
+    let low = byte-joined entryOf entryWidth (λ s. refl) segs none k 1 l (omega arith) in
+    omega (arith, high, low)
 
 -- What a list of segments must have to be a packet: 1 to 127 of them, none empty, each of a length that an entry can say, B on all but
 -- the first and E on all but the last; and all of it together no longer than a packet may be.
@@ -126,10 +101,11 @@ module _ (session flow number : ℕ) (segs : List Segment) where
   packet-is = refl
 
   pub sub-is : sub (ip (packetOf session flow number segs)) ≡ behindId
-  unfolding packetOf rest
-  sub-is = refl
+  unfolding packetOf
+  sub-is = rest-append (four session) behindId
 
-  pub length-packet : length (packetOf session flow number segs) ≡ shortestPacket + entryWidth * length segs + length (joined (map bodyOf segs))
+  pub length-packet : length (packetOf session flow number segs) ≡ shortestPacket + entryWidth * length segs + length
+      (joined (map bodyOf segs))
   unfolding packetOf
   length-packet = let a = length-append entries bodies in let b = length-entries segs in omega arith
 
@@ -148,74 +124,74 @@ module _ (session flow number : ℕ) (segs : List Segment) where
       reads-entry : entryAt entryWidth behindId k ≡ entryNumber ((nth segs k) .begins) ((nth segs k) .ends) (length ((nth segs k) .body))
       reads-entry =
           let long = length-entries segs in
-          let high : byteAt (entries ++ bodies) (entryWidth * k) ≡ byteAt entries (entryWidth * k) = List·getD-append entries bodies 0 (entryWidth * k) (omega arith) in
-          let low : byteAt (entries ++ bodies) (entryWidth * k + 1) ≡ byteAt entries (entryWidth * k + 1) = List·getD-append entries bodies 0 (entryWidth * k + 1) (omega arith) in
-          let at : headerLength + entryWidth * k + 1 ≡ headerLength + (entryWidth * k + 1) = omega arith in
-          let first-byte : byteAt behindId (headerLength + entryWidth * k) ≡ byteAt (entries ++ bodies) (entryWidth * k) = getD-append-add ((sBit + flow) ∷ count ∷ two number) (entries ++ bodies) (entryWidth * k) 0 in
-          let second-byte : byteAt behindId (headerLength + (entryWidth * k + 1)) ≡ byteAt (entries ++ bodies) (entryWidth * k + 1) = getD-append-add ((sBit + flow) ∷ count ∷ two number) (entries ++ bodies) (entryWidth * k + 1) 0 in
+          let s = nth segs k in
+          let n = length (s .body) in
+          let header = (sBit + flow) ∷ count ∷ two number in
+          let i = entryWidth * k in
+          let high : byteAt (entries ++ bodies) i ≡ byteAt entries i = List·getD-append entries bodies 0 i (omega arith) in
+          let low : byteAt (entries ++ bodies) (i + 1) ≡ byteAt entries (i + 1) = List·getD-append entries bodies 0 (i + 1) (omega arith) in
+          let at : headerLength + i + 1 ≡ headerLength + (i + 1) = omega arith in
+          let first-byte : byteAt behindId (headerLength + i) ≡ byteAt (entries ++ bodies) i =
+          getD-append-add header (entries ++ bodies) i 0 in
+          let second-byte : byteAt behindId (headerLength + (i + 1)) ≡ byteAt (entries ++ bodies) (i + 1) =
+          getD-append-add header (entries ++ bodies) (i + 1) 0 in
           rw (at, first-byte, second-byte, high, low)
-          (entry-at segs k l ∙ two-reads-back _ (entry-fits (length ((nth segs k) .body)) (w .short k l) ((nth segs k) .begins) ((nth segs k) .ends)))
+          (entry-at segs k l ∙ two-reads-back _ (entry-fits n (w .short k l) (s .begins) (s .ends)))
 
       reads-length : lengthAt entryWidth behindId k ≡ length ((nth segs k) .body)
-      reads-length = ap lengthIn reads-entry ∙ entry-length (length ((nth segs k) .body)) (w .short k l) ((nth segs k) .begins) ((nth segs k) .ends)
+      reads-length =
+          ap lengthIn reads-entry ∙ entry-length (length ((nth segs k) .body)) (w .short k l) ((nth segs k) .begins) ((nth segs k) .ends)
 
-    reads-sum : (k : ℕ) → k ≤ count → sumTo (lengthAt entryWidth behindId) k ≡ length (joined (map bodyOf (take k segs)))
-    unfolding joined
-    reads-sum zero l = sum-none (lengthAt entryWidth behindId)
-    reads-sum (suc k) l =
-        let there : k < count = l in
-        let before = reads-sum k (omega arith) in
-        let more : sumTo (lengthAt entryWidth behindId) k + lengthAt entryWidth behindId k ≡ length (joined (map bodyOf (take (k + 1) segs))) =
-        rw (before, reads-length k there) (sym (bodies-next segs k there)) in
-        rw (← add-one k) (sum-more (lengthAt entryWidth behindId) k ∙ more)
+    -- what the entries say of the bodies before segment k is what these are long
+    abbrev lengthOf : ℕ → ℕ
+    lengthOf i = length ((nth segs i) .body)
 
-    reads-body : (k : ℕ) (l : k < count) → part behindId (bodyAt entryWidth behindId k) (lengthAt entryWidth behindId k) ≡ (nth segs k) .body
+    reads-sum : (k : ℕ) → k ≤ count → sumTo (lengthAt entryWidth behindId) k ≡ sumTo lengthOf k
+    reads-sum k few = sum-agree (lengthAt entryWidth behindId) lengthOf k (λ i l. reads-length i (omega arith))
+
+    reads-body : (k : ℕ) (l : k < count) →
+        part behindId (bodyAt entryWidth behindId k) (lengthAt entryWidth behindId k) ≡ (nth segs k) .body
     unfolding bodyAt
     reads-body k l =
-        let before = joined (map bodyOf (take k segs)) in
-        let split = bodies-split segs k l in
-        let front = (sBit + flow) ∷ count ∷ two number ++ entries ++ before in
-        let long : headerLength + entryWidth * count + length before ≡ length front =
-        (let a = length-append entries before in let b = length-entries segs in omega arith) in
-        let whole : behindId ≡ front ++ (nth segs k) .body ++ split .0 =
-        rw (split .1, append-assoc entries before ((nth segs k) .body), append-assoc entries (before ++ (nth segs k) .body) (split .0)) refl in
+        let front = (sBit + flow) ∷ count ∷ two number ++ entries in
+        let long : headerLength + entryWidth * count + sumTo lengthOf k ≡ length front + sumTo lengthOf k =
+        omega (arith, length-entries segs) in
         rw (reads-count, reads-sum k (omega arith), reads-length k l, long)
-        (ap (λ (p : List ℕ). part p (length front) (length ((nth segs k) .body))) whole ∙ part-between front ((nth segs k) .body) (split .0))
+        (ap (λ (p : List ℕ). part p (length front + sumTo lengthOf k) (lengthOf k)) (sym (append-nil (front ++ bodies)))
+        ∙ part-joined-at bodyOf front [] segs none k l)
 
     reads-segment : (k : ℕ) (l : k < count) → segmentAt entryWidth behindId k ≡ nth segs k
     unfolding segmentAt
     reads-segment k l =
         let s = nth segs k in
         let n = length (s .body) in
-        let b : beginsIn (entryAt entryWidth behindId k) ≡ s .begins = ap beginsIn (reads-entry k l) ∙ entry-begins n (w .short k l) (s .begins) (s .ends) in
-        let e : endsIn (entryAt entryWidth behindId k) ≡ s .ends = ap endsIn (reads-entry k l) ∙ entry-ends n (w .short k l) (s .begins) (s .ends) in
+        let b : beginsIn (entryAt entryWidth behindId k) ≡ s .begins =
+        ap beginsIn (reads-entry k l) ∙ entry-begins n (w .short k l) (s .begins) (s .ends) in
+        let e : endsIn (entryAt entryWidth behindId k) ≡ s .ends =
+        ap endsIn (reads-entry k l) ∙ entry-ends n (w .short k l) (s .begins) (s .ends) in
         rw (b, e, reads-body k l) refl
-
-    reads-first : (k : ℕ) → k ≤ count → upTo (segmentAt entryWidth behindId) k ≡ take k segs
-    unfolding upTo
-    reads-first zero l = refl
-    reads-first (suc k) l =
-        let there : k < count = l in
-        rw (reads-first k (omega arith), reads-segment k there) (sym (take-suc segs k none there))
 
     reads-segments : segments entryWidth behindId ≡ segs
     unfolding segments
-    reads-segments = rw reads-count (reads-first count (omega arith) ∙ take-all count segs (omega arith))
+    reads-segments = rw reads-count (up-to-elements (segmentAt entryWidth behindId) segs none reads-segment)
 
     reads-wanted : wanted entryWidth behindId ≡ length behindId
     unfolding wanted bodyAt
     reads-wanted =
         let a = length-append entries bodies in
         let b = length-entries segs in
-        let whole : take count segs ≡ segs = take-all count segs (omega arith) in
-        rw (reads-count, reads-sum count (omega arith), whole) (omega arith)
+        rw (reads-count, reads-sum count (omega arith)) (omega (arith, length-joined-sum bodyOf segs none))
 
     good-entry : (k : ℕ) (l : k < count) → badAt entryWidth behindId k ≡ false
     good-entry k l =
         let s = nth segs k in
         let n = length (s .body) in
-        rw (reads-count, reads-entry k l, entry-length n (w .short k l) (s .begins) (s .ends), entry-begins n (w .short k l) (s .begins) (s .ends), entry-ends n (w .short k l) (s .begins) (s .ends), ne-eqb n 0 (λ z. omega (arith, w .filled k l)))
-        (marks (eqb k 0) (s .begins) (eqb (k + 1) count) (s .ends) (λ f. w .begun k l (eqb-false k 0 f)) (λ f. w .ended k l (eqb-false (k + 1) count f)))
+        let b = s .begins in
+        let e = s .ends in
+        let short = w .short k l in
+        rw (reads-count, reads-entry k l, entry-length n short b e, entry-begins n short b e, entry-ends n short b e)
+        (rw (ne-eqb n 0 (λ z. omega (arith, w .filled k l)))
+        (marks (eqb k 0) b (eqb (k + 1) count) e (λ f. w .begun k l (eqb-false k 0 f)) (λ f. w .ended k l (eqb-false (k + 1) count f))))
       where
         marks : (first b last e : Bool) → (first ≡ false → b ≡ true) → (last ≡ false → e ≡ true) →
             (false || (not first && not b) || (not last && not e)) ≡ false
@@ -265,7 +241,8 @@ module _ (session flow number : ℕ) (segs : List Segment) where
     pub written-passes : check kindPsp (ip (packetOf session flow number segs)) ≡ 0
     unfolding check checkRefusals
     written-passes =
-        first-passed (beforeSession (ip (packetOf session flow number segs))) (pspRefusals entryWidth (sub (ip (packetOf session flow number segs)))) refl (none-first (beforeSession (ip (packetOf session flow number segs))) early-passes)
+        let packet = ip (packetOf session flow number segs) in
+        first-passed (beforeSession packet) (pspRefusals entryWidth (sub packet)) refl (none-first (beforeSession packet) early-passes)
         ∙ ap (λ (s : List ℕ). first (pspRefusals entryWidth s)) sub-is
         ∙ none-first (pspRefusals entryWidth behindId) psp-passes
 

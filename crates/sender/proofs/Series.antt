@@ -5,21 +5,21 @@ use Prim.Native.Nat.{ℕ, zero, suc, _+_, _-_, _<_, _≤_}
 use mathlib.Core.Path.{_≡_, refl, sym, ap, _∙_}
 use mathlib.Core.Bool.{Bool, true, false, cond, not, _&&_, _||_}
 use mathlib.Core.Logic.{_⊎_, inl, inr, ⊎-elim}
-use mathlib.Core.List.{List, [], _∷_, _++_, map}
+use mathlib.Core.List.{List, [], _∷_, map}
 use native.Mathlib.Omega.{arith}
 use native.Mathlib.Numerals.{add-one}
 use native.Mathlib.Nat.{not-suc-le-zero, le-of-suc-le-suc}
 use lib.Dec.{eqb, ltb}
-use lib.ListN.{length, length-map, length-append}
+use lib.ListN.{length, length-map}
 use borrow.Author.Tests.{eqb-true, eqb-false, eq-eqb, ltb-true, ltb-false, le-ltb, lt-ltb}
 use Rattle.refusal.specs.Refusal.{first}
 use Rattle.octets.specs.Stretch.{part, joined, cutBy}
 use Rattle.octets.specs.Count.{sumTo}
-use Rattle.octets.proofs.Stretches.{part-none}
+use Rattle.octets.proofs.Stretches.{part-none, joined-empty}
 use Rattle.octets.proofs.Counts.{sum-within}
 use Rattle.flow.specs.Numbers.{numberAt}
 use Rattle.flow.proofs.Numbers.{next-below, numberAt-first, numberAt-from-next}
-use Rattle.packet.specs.Header.{Packet, ip, idLength, sub, sSet, number as number-in}
+use Rattle.packet.specs.Header.{ip, idLength, sub, sSet, number as number-in}
 use Rattle.packet.specs.Segments.{entryWidth}
 use Rattle.packet.specs.Check.{kindPsp, check}
 use Rattle.sender.specs.declared.Position.{Position}
@@ -31,7 +31,7 @@ use Rattle.sender.specs.Series.{Job, Turn, Sound, Usable, startOfFrame, 
 use Rattle.octets.specs.Each.{Each}
 use Rattle.sender.specs.Rules.{Pieces, Line, Addressed, segmentsOf, allSegments, packetAt, KeepsRules}
 use Rattle.sender.proofs.Positions.{Framed, framed, Inside, place-within, carried-append, carried-place, carried-bytes}
-use Rattle.sender.proofs.Frames.{Filled, Apart, carried-apart, framesFrom, all-frames}
+use Rattle.sender.proofs.Frames.{Apart, carried-apart, framesFrom, all-frames}
 use Rattle.sender.proofs.Keeping.{Typed, sent-number, sent-inside, sent-farther, sent-passes, sent-counts, sent-addressed}
 use Rattle.sender.proofs.Keeping.{sent-numbered, sent-carries}
 
@@ -41,7 +41,8 @@ never n h = omega arith
 -- a position in the frames is not refused by 34
 pub not-outside : (lengths : List ℕ) (at : Position) → Inside lengths at → outside lengths at ≡ false
 not-outside lengths at i =
-    by (ltb (at .frame) (length lengths)) (ltb (at .offset) (frameLength lengths (at .frame))) (eqb (at .frame) (length lengths)) (eqb (at .offset) 0)
+    by (ltb (at .frame) (length lengths)) (ltb (at .offset) (frameLength lengths (at .frame))) (eqb (at .frame) (length lengths))
+    (eqb (at .offset) 0)
     (λ e. lt-ltb (at .offset) (frameLength lengths (at .frame)) (i .in-frame (ltb-true (at .frame) (length lengths) e)))
     (λ e. eq-eqb (at .offset) 0 (i .at-end (eqb-true (at .frame) (length lengths) e)))
   where
@@ -87,7 +88,8 @@ module _ (job : Job) (sound : Sound job) where
       }
 
   -- nothing is sent
-  kept-none : (number : ℕ) (at : Position) (turns : ℕ) → Inside (job .lengths) at → (at .frame ≡ length (job .lengths)) ⊎ (0 ≡ turns) → Kept job number at [] at turns
+  kept-none : (number : ℕ) (at : Position) (turns : ℕ) → Inside (job .lengths) at → (at .frame ≡ length (job .lengths)) ⊎ (0 ≡ turns) →
+      Kept job number at [] at turns
   unfolding allSegments
   kept-none number at turns i d =
       record {
@@ -107,14 +109,22 @@ module _ (job : Job) (sound : Sound job) where
 
     -- nothing but the end refuses a call
     pub only-end : first (sendRefusals asked) ≡ cond (eqb (at .frame) (length (job .lengths))) 35 0
-    only-end = rw (sound .addressed, u .limited, sound .frames-sound, not-outside (job .lengths) at i, le-ltb (length (turn .output)) (turn .limit + idLength) (u .output-long)) refl
+    only-end =
+        rw (
+          sound .addressed,
+          u .limited,
+          sound .frames-sound,
+          not-outside (job .lengths) at i,
+          le-ltb (length (turn .output)) (turn .limit + idLength) (u .output-long),
+        ) refl
 
     abbrev typed : Typed asked
     typed = record { four-bytes = sound .four-bytes; two-bytes = two-bytes }
 
     -- one more packet, and the others behind it
     kept-more : first (sendRefusals asked) ≡ 0 → (packets : List (List ℕ)) (end : Position) (turns : ℕ) →
-        Kept job ((sent asked) .answer .number) ((sent asked) .answer .position) packets end turns → Kept job number at (packetLeft (sent asked) ∷ packets) end (suc turns)
+        Kept job ((sent asked) .answer .number) ((sent asked) .answer .position) packets end turns →
+        Kept job number at (packetLeft (sent asked) ∷ packets) end (suc turns)
     unfolding allSegments
     kept-more z packets end turns k =
         record {
@@ -122,24 +132,31 @@ module _ (job : Job) (sound : Sound job) where
           has-numbers = (sent-counts asked z typed, k .has-numbers);
           addressed = (sent-addressed asked z typed, k .addressed);
           numbered = counts;
-          carried = carried-append (job .bytes) (job .lengths) at ((sent asked) .answer .position) end (segmentsOf entryWidth (ip (packetLeft (sent asked)))) (allSegments entryWidth (map ip packets)) (sent-carries asked z typed) (k .carried);
+          carried =
+              carried-append (job .bytes) (job .lengths) at ((sent asked) .answer .position) end
+              (segmentsOf entryWidth (ip (packetLeft (sent asked)))) (allSegments entryWidth (map ip packets)) (sent-carries asked z typed)
+              (k .carried);
           farther = omega (arith, k .farther, sent-farther asked z);
           ends-inside = k .ends-inside;
           done = ⊎-elim (λ e. inl e) (λ e. inr (ap suc e)) (k .done);
         }
       where
-        counts : (j : ℕ) → j < suc (length packets) → number-in (sub (packetAt (map ip (packetLeft (sent asked) ∷ packets)) j)) ≡ numberAt number j
+        counts : (j : ℕ) → j < suc (length packets) →
+            number-in (sub (packetAt (map ip (packetLeft (sent asked) ∷ packets)) j)) ≡ numberAt number j
         counts zero l = sent-numbered asked z typed ∙ sym (numberAt-first number two-bytes)
         counts (suc j) l =
-            k .numbered j (le-of-suc-le-suc l) ∙ ap (λ (n : ℕ). numberAt n j) (sent-number asked z) ∙ numberAt-from-next number j ∙ ap (numberAt number) (add-one j)
+            k .numbered j (le-of-suc-le-suc l) ∙ ap (λ (n : ℕ). numberAt n j) (sent-number asked z) ∙ numberAt-from-next number j
+            ∙ ap (numberAt number) (add-one j)
 
     kept-step : (packets : List (List ℕ)) (end : Position) (turns : ℕ) →
         (first (sendRefusals asked) ≡ 0 → Kept job ((sent asked) .answer .number) ((sent asked) .answer .position) packets end turns) →
-        (t : Bool) → eqb ((sent asked) .answer .code) 0 ≡ t → Kept job number at (cond t (packetLeft (sent asked) ∷ packets) []) (cond t end at) (suc turns)
+        (t : Bool) → eqb ((sent asked) .answer .code) 0 ≡ t →
+        Kept job number at (cond t (packetLeft (sent asked) ∷ packets) []) (cond t end at) (suc turns)
     kept-step packets end turns others true e =
         let z = sym (code-is asked) ∙ eqb-true ((sent asked) .answer .code) 0 e in
         kept-more z packets end turns (others z)
-    kept-step packets end turns others false e = kept-none number at (suc turns) i (inl (at-end (eqb (at .frame) (length (job .lengths))) refl))
+    kept-step packets end turns others false e =
+        kept-none number at (suc turns) i (inl (at-end (eqb (at .frame) (length (job .lengths))) refl))
       where
         at-end : (t : Bool) → eqb (at .frame) (length (job .lengths)) ≡ t → at .frame ≡ length (job .lengths)
         at-end true q = eqb-true (at .frame) (length (job .lengths)) q
@@ -153,20 +170,25 @@ module _ (job : Job) (sound : Sound job) where
   series-kept (turn ∷ more) number at b i us =
       let a = askedFor job number at turn in
       let o = sent a in
-      kept-step number at turn b i (us .0) (seriesPackets job (o .answer .number) (o .answer .position) more) (seriesEnd job (o .answer .number) (o .answer .position) more) (length more)
+      kept-step number at turn b i (us .0) (seriesPackets job (o .answer .number) (o .answer .position) more)
+      (seriesEnd job (o .answer .number) (o .answer .position) more) (length more)
       (λ z. series-kept more (o .answer .number) (o .answer .position) (rw (sent-number a z) (next-below number)) (sent-inside a z) (us .1))
       (eqb (o .answer .code) 0) refl
 
   -- It keeps the rules, from the start of any frame: the frames that it finished, and the one that it has begun.
   pub record Obeys (number i : ℕ) (turns : List Turn) : Type 0 where
-    pub apart : Apart (job .bytes) (job .lengths) i (allSegments entryWidth (map ip (seriesPackets job number (startOfFrame i) turns))) (seriesEnd job number (startOfFrame i) turns)
+    pub apart : Apart (job .bytes) (job .lengths) i (allSegments entryWidth (map ip (seriesPackets job number (startOfFrame i) turns)))
+        (seriesEnd job number (startOfFrame i) turns)
     pub keeps : KeepsRules (line job number) (apart .frames) (apart .begun) (map ip (seriesPackets job number (startOfFrame i) turns))
     pub has-numbers : Each (λ p. sSet (sub p) ≡ true) (map ip (seriesPackets job number (startOfFrame i) turns))
 
-  pub sender-keeps-rules : (turns : List Turn) (number i : ℕ) → number < 65536 → i ≤ length (job .lengths) → Each Usable turns → Obeys number i turns
+  pub sender-keeps-rules : (turns : List Turn) (number i : ℕ) → number < 65536 → i ≤ length (job .lengths) → Each Usable turns →
+      Obeys number i turns
   sender-keeps-rules turns number i b l us =
       let k = series-kept turns number (startOfFrame i) b (inside-start i l) us in
-      let a = carried-apart (job .bytes) (job .lengths) (framed (length (job .bytes)) (job .lengths) (sound .frames-sound)) i (seriesEnd job number (startOfFrame i) turns)
+      let a =
+      carried-apart (job .bytes) (job .lengths) (framed (length (job .bytes)) (job .lengths) (sound .frames-sound)) i
+      (seriesEnd job number (startOfFrame i) turns)
       (allSegments entryWidth (map ip (seriesPackets job number (startOfFrame i) turns))) (k .carried) in
       record {
         apart = a;
@@ -204,10 +226,18 @@ module _ (job : Job) (sound : Sound job) where
       unfolding frameStart
       at-last = ⊎-elim (λ e. e) (λ (e : length packets ≡ length turns). by e (ltb (end .frame) (length (job .lengths))) refl) (kept .done)
         where
-          by : length packets ≡ length turns → (t : Bool) → ltb (end .frame) (length (job .lengths)) ≡ t → end .frame ≡ length (job .lengths)
+          by : length packets ≡ length turns → (t : Bool) → ltb (end .frame) (length (job .lengths)) ≡ t →
+              end .frame ≡ length (job .lengths)
           by e true q =
               let m = ltb-true (end .frame) (length (job .lengths)) q in
-              absurd (never (length (job .bytes)) (omega (arith, kept .farther, kept .ends-inside .in-frame m, sum-within (frameLength (job .lengths)) (end .frame) (length (job .lengths)) m, frames .all)))
+              absurd (never (length (job .bytes))
+              (omega (
+                arith,
+                kept .farther,
+                kept .ends-inside .in-frame m,
+                sum-within (frameLength (job .lengths)) (end .frame) (length (job .lengths)) m,
+                frames .all,
+              )))
           by e false q = omega (arith, kept .ends-inside .among, ltb-false (end .frame) (length (job .lengths)) q)
 
       pub series-ends : end ≡ startOfFrame (length (job .lengths))
@@ -223,30 +253,26 @@ module _ (job : Job) (sound : Sound job) where
           ∙ ap (λ (t : Bool). cond t 35 0) (eq-eqb (end .frame) (length (job .lengths)) at-last)
 
       -- every byte from the start on has been sent, once and in order
-      pub bytes-once : joined (map bodyOf (allSegments entryWidth (map ip packets))) ≡ part (job .bytes) (indexOf (job .lengths) (startOfFrame i)) (length (job .bytes) - indexOf (job .lengths) (startOfFrame i))
+      pub bytes-once : joined (map bodyOf (allSegments entryWidth (map ip packets))) ≡ part (job .bytes)
+          (indexOf (job .lengths) (startOfFrame i)) (length (job .bytes) - indexOf (job .lengths) (startOfFrame i))
       unfolding frameStart
       bytes-once =
           let index : indexOf (job .lengths) end ≡ length (job .bytes) = rw series-ends (omega (arith, frames .all)) in
-          let place = carried-place (job .bytes) (job .lengths) (startOfFrame i) end (allSegments entryWidth (map ip packets)) (kept .carried) in
-          let long : length (joined (map bodyOf (allSegments entryWidth (map ip packets)))) ≡ length (job .bytes) - indexOf (job .lengths) (startOfFrame i) = omega arith in
+          let place =
+          carried-place (job .bytes) (job .lengths) (startOfFrame i) end (allSegments entryWidth (map ip packets)) (kept .carried) in
+          let long : length (joined (map bodyOf (allSegments entryWidth (map ip packets))))
+          ≡ length (job .bytes) - indexOf (job .lengths) (startOfFrame i) = omega arith in
           carried-bytes (job .bytes) (job .lengths) (startOfFrame i) end (allSegments entryWidth (map ip packets)) (kept .carried)
           ∙ ap (part (job .bytes) (indexOf (job .lengths) (startOfFrame i))) long
 
       -- and no frame is left unfinished
       pub all-finished : (o : Obeys number i turns) → (o .apart .begun ≡ []) × (i + length (o .apart .frames) ≡ length (job .lengths))
-      unfolding joined
       all-finished o =
           let a = o .apart in
           let none : joined (a .begun) ≡ [] =
-          a .begun-bytes ∙ ap (part (job .bytes) (frameStart (job .lengths) (end .frame))) (ap (λ (p : Position). p .offset) series-ends) ∙ part-none (job .bytes) (frameStart (job .lengths) (end .frame)) in
-          (empty (a .begun) (a .begun-some) none, sym (a .reaches) ∙ at-last)
-        where
-          empty : (ps : Pieces) → Each Filled ps → joined ps ≡ [] → ps ≡ []
-          empty [] filled e = refl
-          empty (p ∷ ps) filled e =
-              let n = length-append p (joined ps) in
-              let z : length (p ++ joined ps) ≡ 0 = ap length e in
-              absurd (never 0 (omega (arith, filled .0)))
+          let last = frameStart (job .lengths) (end .frame) in
+          a .begun-bytes ∙ ap (part (job .bytes) last) (ap (λ (p : Position). p .offset) series-ends) ∙ part-none (job .bytes) last in
+          (joined-empty (a .begun) (a .begun-some) none, sym (a .reaches) ∙ at-last)
 
   -- From the first frame on: what was sent is every frame, whole and in order.
   pub sends-all : (turns : List Turn) (number : ℕ) → number < 65536 → Each Usable turns → length (job .bytes) ≤ length turns →

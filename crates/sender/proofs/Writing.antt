@@ -11,7 +11,8 @@ use borrow.Author.Tests.{ltb-true, ltb-false}
 use Rattle.refusal.proofs.Laws.{and-left, and-right}
 use Rattle.octets.specs.Bytes.{two, four}
 use Rattle.octets.specs.Stretch.{part, put, joined}
-use Rattle.octets.proofs.Stretches.{length-put, put-nil, put-put, set-set-put, joined-map-more}
+use Rattle.octets.proofs.Elements.{length-one-more}
+use Rattle.octets.proofs.Stretches.{length-put, put-nil, put-put, put-more, set-set-put, joined-none, joined-map-more, length-joined-none}
 use Rattle.packet.specs.Header.{idLength, shortestPacket, sBit}
 use Rattle.packet.specs.Segments.{Segment, entryWidth}
 use Rattle.sender.specs.declared.Position.{Position}
@@ -22,7 +23,8 @@ use Rattle.sender.specs.Send.{mostSegments}
 use Rattle.sender.specs.Inside.{entriesAt, Placeable, sizeFor, positionAfter, placedNext, entryFor, withEntry, Ready, cutOf, Written}
 use Rattle.sender.proofs.Reading.{length-entries}
 use Rattle.sender.proofs.Positions.{Framed, framed, inside, place-within, carried-place, carried-bytes}
-use Rattle.sender.proofs.Cutting.{Cutting, cutting-start, frames-remain, room-enough, offset-below, body-length, place-keeps, cut-turn, cut-stops, cut-none, length-more}
+use Rattle.sender.proofs.Cutting.{Cutting, cutting-start, frames-remain, room-enough, offset-below, body-length, place-keeps}
+use Rattle.sender.proofs.Cutting.{cut-turn, cut-stops, cut-none}
 
 -- The header.
 module _ (d : List ℕ) (session flow count number : ℕ) (long : shortestPacket ≤ length d) where
@@ -59,9 +61,12 @@ module _ (d : List ℕ) (session flow count number : ℕ) (long : shortestPacket
     pub number-inside : idLength + 2 + 1 < length (set (set first idLength (sBit + flow)) (idLength + 1) count)
     number-inside = rw id-written (omega (arith, marks-long))
 
-    module _ (last : List ℕ) (written : last ≡ put (set (set first idLength (sBit + flow)) (idLength + 1) count) (idLength + 2) (two number)) where
+    module _ (last : List ℕ) (written : last
+        ≡ put (set (set first idLength (sBit + flow)) (idLength + 1) count) (idLength + 2) (two number)) where
       pub header-written : last ≡ put d 0 (headerOf session flow count number)
-      header-written = written ∙ ap (λ (l : List ℕ). put (set (set l idLength (sBit + flow)) (idLength + 1) count) (idLength + 2) (two number)) id-written ∙ header-put
+      header-written =
+          written ∙ ap (λ (l : List ℕ). put (set (set l idLength (sBit + flow)) (idLength + 1) count) (idLength + 2) (two number))
+          id-written ∙ header-put
 
       pub header-long : length last ≡ length d
       header-long = ap length header-written ∙ length-put d 0 (headerOf session flow count number) (omega arith)
@@ -70,7 +75,8 @@ module _ (d : List ℕ) (session flow count number : ℕ) (long : shortestPacket
 pub placed-next : (lengths : List ℕ) (p : Progress) (long size : ℕ) (behind : Position) → long ≡ frameLength lengths (p .position .frame) →
     size ≡ min (long - p .position .offset) (p .room - entryWidth) →
     behind ≡ positionAfter (p .position) size (eqb size (long - p .position .offset)) →
-    _≡_ {A = Progress} (record { room = p .room - (entryWidth + size); position = behind; count = p .count + 1; bytes = p .bytes + size }) (placedNext lengths p)
+    _≡_ {A = Progress} (record { room = p .room - (entryWidth + size); position = behind; count = p .count + 1; bytes = p .bytes + size })
+    (placedNext lengths p)
 placed-next lengths p long size behind e s b = rw (b, s, e) refl
 
 pub placed-entry : (lengths : List ℕ) (p : Progress) (long size entry : ℕ) → long ≡ frameLength lengths (p .position .frame) →
@@ -79,7 +85,8 @@ pub placed-entry : (lengths : List ℕ) (p : Progress) (long size entry : ℕ) �
 placed-entry lengths p long size entry e s n = rw (n, s, e) refl
 
 -- The loop that cuts.
-module _ (bytes lengths : List ℕ) (room : ℕ) (from : Position) (output : List ℕ) (ready : Ready (length bytes) lengths from room (length output)) where
+module _ (bytes lengths : List ℕ) (room : ℕ) (from : Position) (output : List ℕ)
+    (ready : Ready (length bytes) lengths from room (length output)) where
   abbrev frames : Framed (length bytes) lengths
   frames = framed (length bytes) lengths (ready .frames-sound)
 
@@ -96,7 +103,6 @@ module _ (bytes lengths : List ℕ) (room : ℕ) (from : Position) (output : Lis
     pub output-now : output′ ≡ put output entriesAt (joined (map entryOf placed))
 
   pub writing-begin : Writing output (record { room = room; position = from; count = 0; bytes = 0 })
-  unfolding joined
   writing-begin =
       record {
         placed = [];
@@ -104,8 +110,8 @@ module _ (bytes lengths : List ℕ) (room : ℕ) (from : Position) (output : Lis
         on-the-way = refl;
         counted = refl;
         few = omega arith;
-        bytes-counted = refl;
-        output-now = sym (put-nil output entriesAt);
+        bytes-counted = sym length-joined-none;
+        output-now = sym (ap (put output entriesAt) joined-none ∙ put-nil output entriesAt);
       }
 
   module _ {output′ : List ℕ} {p : Progress} (w : Writing output′ p) where
@@ -116,12 +122,15 @@ module _ (bytes lengths : List ℕ) (room : ℕ) (from : Position) (output : Lis
     in-room = rw (w .counted, w .bytes-counted) (w .cutting .in-room)
 
     pub output-long : length output′ ≡ length output
-    output-long = ap length (w .output-now) ∙ length-put output entriesAt (joined (map entryOf (w .placed))) (omega (arith, entries-long, in-room, ready .output-long))
+    output-long =
+        ap length (w .output-now)
+        ∙ length-put output entriesAt (joined (map entryOf (w .placed))) (omega (arith, entries-long, in-room, ready .output-long))
 
     -- another segment
     module _ (goes : (ltb (p .count) mostSegments && goesOn entryWidth lengths (cutAt p (w .placed))) ≡ true) where
       pub one-more : p .count < mostSegments
-      one-more = ltb-true (p .count) mostSegments (and-left (ltb (p .count) mostSegments) (goesOn entryWidth lengths (cutAt p (w .placed))) goes)
+      one-more =
+          ltb-true (p .count) mostSegments (and-left (ltb (p .count) mostSegments) (goesOn entryWidth lengths (cutAt p (w .placed))) goes)
 
       cut-goes : goesOn entryWidth lengths (cutAt p (w .placed)) ≡ true
       cut-goes = and-right (ltb (p .count) mostSegments) (goesOn entryWidth lengths (cutAt p (w .placed))) goes
@@ -144,12 +153,13 @@ module _ (bytes lengths : List ℕ) (room : ℕ) (from : Position) (output : Lis
       pub writing-less : (q : Progress) → q ≡ placedNext lengths p → mostSegments - q .count < mostSegments - p .count
       writing-less q e = rw e (omega (arith, one-more))
 
-      pub writing-turn : (q : Progress) (output″ : List ℕ) → q ≡ placedNext lengths p → output″ ≡ withEntry output′ lengths p → Writing output″ q
+      pub writing-turn : (q : Progress) (output″ : List ℕ) → q ≡ placedNext lengths p → output″ ≡ withEntry output′ lengths p →
+          Writing output″ q
       writing-turn q output″ e f =
           let c = cutAt p (w .placed) in
           let s = segmentFrom bytes lengths (p .position) (sizeFor lengths p) in
           let size = body-length entryWidth bytes lengths frames room from c (w .cutting) cut-goes in
-          let long = length-more (w .placed) s in
+          let long = length-one-more (w .placed) s in
           let bodies = joined-map-more bodyOf (w .placed) s in
           let entries = joined-map-more entryOf (w .placed) s in
           let left : mostSegments - p .count ≡ suc (mostSegments - (p .count + 1)) = omega (arith, one-more) in
@@ -164,12 +174,11 @@ module _ (bytes lengths : List ℕ) (room : ℕ) (from : Position) (output : Lis
                 ∙ ap (λ (n : ℕ). cut n entryWidth bytes lengths c) (sym left) ∙ w .on-the-way;
             counted = omega (arith, w .counted, long);
             few = omega (arith, one-more);
-            bytes-counted = omega (arith, w .bytes-counted, ap length bodies, length-append (joined (map bodyOf (w .placed))) (s .body), size);
+            bytes-counted =
+                omega (arith, w .bytes-counted, ap length bodies, length-append (joined (map bodyOf (w .placed))) (s .body), size);
             output-now =
-                f
-                ∙ ap (λ (l : List ℕ). put l (entriesAt + entryWidth * p .count) (entryFor lengths p)) (w .output-now)
-                ∙ ap (λ (n : ℕ). put (put output entriesAt (joined (map entryOf (w .placed)))) (entriesAt + n) (entryFor lengths p)) (sym entries-long)
-                ∙ put-put output entriesAt (joined (map entryOf (w .placed))) (entryFor lengths p) (omega (arith, entries-long, in-room, ready .output-long))
+                put-more output entriesAt (joined (map entryOf (w .placed))) (entryFor lengths p) (entriesAt + entryWidth * p .count)
+                (omega (arith, entries-long, in-room, ready .output-long)) (w .output-now) (omega (arith, entries-long)) f
                 ∙ ap (λ (l : List ℕ). put output entriesAt (joined (map entryOf (w .placed)) ++ l)) (sym entry)
                 ∙ ap (put output entriesAt) (sym entries);
           } in
@@ -180,11 +189,15 @@ module _ (bytes lengths : List ℕ) (room : ℕ) (from : Position) (output : Lis
       whole : cutOf bytes lengths room from ≡ cutAt p (w .placed)
       whole = sym (w .on-the-way) ∙ by (ltb (p .count) mostSegments) refl
         where
-          by : (t : Bool) → ltb (p .count) mostSegments ≡ t → cut (mostSegments - p .count) entryWidth bytes lengths (cutAt p (w .placed)) ≡ cutAt p (w .placed)
-          by true e = cut-stops entryWidth bytes lengths (mostSegments - p .count) (cutAt p (w .placed)) (sym (ap (λ (b : Bool). b && goesOn entryWidth lengths (cutAt p (w .placed))) e) ∙ stops)
+          by : (t : Bool) → ltb (p .count) mostSegments ≡ t →
+              cut (mostSegments - p .count) entryWidth bytes lengths (cutAt p (w .placed)) ≡ cutAt p (w .placed)
+          by true e =
+              cut-stops entryWidth bytes lengths (mostSegments - p .count) (cutAt p (w .placed))
+              (sym (ap (λ (b : Bool). b && goesOn entryWidth lengths (cutAt p (w .placed))) e) ∙ stops)
           by false e =
               let full : mostSegments - p .count ≡ 0 = omega (arith, ltb-false (p .count) mostSegments e) in
-              ap (λ (n : ℕ). cut n entryWidth bytes lengths (cutAt p (w .placed))) full ∙ cut-none entryWidth bytes lengths (cutAt p (w .placed))
+              ap (λ (n : ℕ). cut n entryWidth bytes lengths (cutAt p (w .placed))) full
+              ∙ cut-none entryWidth bytes lengths (cutAt p (w .placed))
 
       -- the bodies are one stretch of the frames, ..
       pub bodies-from : indexOf lengths from + p .bytes ≤ length bytes
@@ -206,11 +219,9 @@ module _ (bytes lengths : List ℕ) (room : ℕ) (from : Position) (output : Lis
           ap (λ (n : ℕ). part bytes n (p .bytes)) i ∙ ap (part bytes (indexOf lengths from)) (w .bytes-counted)
           ∙ sym (carried-bytes bytes lengths from (p .position) (w .placed) (w .cutting .carried)) in
           let written : output″ ≡ put output entriesAt (E ++ B) =
-          e
-          ∙ ap (put output′ (entriesAt + entryWidth * p .count)) stretch
-          ∙ ap (λ (l : List ℕ). put l (entriesAt + entryWidth * p .count) B) (w .output-now)
-          ∙ ap (λ (n : ℕ). put (put output entriesAt E) (entriesAt + n) B) (sym entries-long)
-          ∙ put-put output entriesAt E B (omega (arith, entries-long, in-room, ready .output-long)) in
+          put-more output entriesAt E B (entriesAt + entryWidth * p .count) (omega (arith, entries-long, in-room, ready .output-long))
+          (w .output-now)
+          (omega (arith, entries-long)) (e ∙ ap (put output′ (entriesAt + entryWidth * p .count)) stretch) in
           let base : Written (cutAt p (w .placed)) output output″ room p =
           record {
             position-now = refl;

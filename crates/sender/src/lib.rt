@@ -17,7 +17,8 @@ ghost use Rattle.packet.specs.Header.{shortestPacket};
 ghost use Rattle.packet.specs.Segments.{entryWidth, lengthValues};
 ghost use Rattle.sender.specs.Cut.{frameLength, indexOf, leastRoom};
 ghost use Rattle.sender.specs.Packet.{worth as bitWorth, entryNumber, headerOf};
-ghost use Rattle.sender.specs.Send.{mostFrames, mostSegments, greatestLimit, badSize, badLength, badFrames, outside, earlyRefusals, laterRefusals, PermitsSend};
+ghost use Rattle.sender.specs.Send.{mostFrames, mostSegments, greatestLimit, badSize, badLength, badFrames, outside, earlyRefusals};
+ghost use Rattle.sender.specs.Send.{laterRefusals, PermitsSend};
 ghost use Rattle.sender.specs.Inside.{Placeable, positionAfter, placedNext, withEntry, Ready, cutOf, Written};
 use flow::Flow;
 use packet::header;
@@ -125,13 +126,6 @@ pub fn send(
     }
 }
 
-// A frame's length as a number to count with. The contract says its bound, which a sum needs.
-fn wide(length: u16) -> usize
-    ensures { λ r. ⌜ (r ≡ length) × (r < 65536) ⌝ }
-{
-    length as usize
-}
-
 fn least(a: usize, b: usize) -> usize
     ensures { λ r. ⌜ r ≡ min a b ⌝ }
 {
@@ -156,7 +150,7 @@ fn survey(lengths: &[u16], n: usize) -> Surveyed
     let mut bad = false;
     let mut k: usize = 0;
     while k < n {
-        let length = wide(lengths[k]);
+        let length = octets::wide_u16(lengths[k]);
         total += length;
         bad = bad | bad_length(length);
         k += 1;
@@ -183,7 +177,7 @@ fn is_outside(lengths: &[u16], position: Position) -> bool
     let count = lengths.len();
     let frame = position.frame;
     if frame < count {
-        return wide(lengths[frame]) <= position.offset;
+        return octets::wide_u16(lengths[frame]) <= position.offset;
     }
     (count < frame) | (position.offset != 0)
 }
@@ -284,7 +278,7 @@ fn place(output: &mut [u8], lengths: &[u16], progress: Progress) -> Progress
 {
     let position = progress.position;
     let frame = position.frame;
-    let left = wide(lengths[frame]) - position.offset;
+    let left = octets::wide_u16(lengths[frame]) - position.offset;
     let size = least(left, progress.room - psp::ENTRY_WIDTH);
     let begins = position.offset == 0;
     let ends = size == left;
@@ -311,7 +305,8 @@ fn write_segments(
     position: Position,
 ) -> Progress
     requires { ⌜ Ready (length (now frames)) (now lengths) position room (length (now output)) ⌝ }
-    ensures { λ r. ⌜ Written (cutOf (now (frames .entry)) (now (lengths .entry)) room position) (now (output .entry)) (now (output .exit)) room r ⌝ }
+    ensures { λ r. ⌜ Written (cutOf (now (frames .entry)) (now (lengths .entry)) room position)
+        (now (output .entry)) (now (output .exit)) room r ⌝ }
 {
     let mut progress = Progress {
         room,
@@ -330,7 +325,8 @@ fn write_segments(
 
 // Whether another segment is placed: fewer than 127 are, frames remain, and so does room for an entry and a byte.
 fn goes_on(frames: usize, progress: Progress) -> bool
-    ensures { λ r. ⌜ r ≡ (ltb (progress .count) mostSegments && (ltb (progress .position .frame) frames && leb (leastRoom entryWidth) (progress .room))) ⌝ }
+    ensures { λ r. ⌜ r ≡ (ltb (progress .count) mostSegments
+        && (ltb (progress .position .frame) frames && leb (leastRoom entryWidth) (progress .room))) ⌝ }
 {
     let position = progress.position;
     (progress.count < MOST_SEGMENTS) & ((position.frame < frames) & (LEAST_ROOM <= progress.room))

@@ -4,17 +4,18 @@ use Prim.Native.Nat.{ℕ, zero, suc, _<_, _≤_}
 use mathlib.Core.Path.{_≡_, refl, sym, ap, _∙_}
 use mathlib.Core.Bool.{Bool, true, false, not, _&&_, _||_, and-comm, true≢false}
 use mathlib.Core.Logic.{⊎-elim}
-use mathlib.Core.List.{List, [], _∷_}
 use native.Mathlib.Omega.{arith}
 use borrow.Author.Tests.{eqb-true, eqb-false, eq-eqb, ne-eqb, ltb-true, ltb-false, leb-false, le-ltb, lt-leb, not-false}
 use lib.Dec.{eqb, ltb}
-use lib.ListN.{length, getD, set, length-set}
+use lib.ListN.{length, length-set}
 use lib.Seq.{getD-set-same}
 use Rattle.octets.specs.Count.{any}
 use Rattle.octets.proofs.Counts.{true-or-false, or-false-left, or-false-right, any-at, none-at, none-all, none-least}
+use Rattle.octets.proofs.Numbers.{eqb-sym}
+use Rattle.octets.proofs.Elements.{at-set, at-set-same}
 use Rattle.octets.proofs.Counts.{least-none, least-at, least-below, least-passes}
 use Rattle.refusal.specs.Refusal.{first}
-use Rattle.refusal.proofs.Laws.{none-applies}
+use Rattle.refusal.proofs.Laws.{none-applies, and-rest}
 use Rattle.flow.specs.declared.Flow.{Flow}
 use Rattle.flow.specs.Flow.{fresh, flows, longest, heardMark, isFresh, emptied}
 use Rattle.packet.specs.Check.{kindUnknown}
@@ -28,34 +29,12 @@ use Rattle.table.specs.Rows.{openIn, find, freeIn, lowestFree, rowWith, 
 use Rattle.table.specs.Broken.{notZero, flowBroken, kindBroken, idBroken, flowBrokenIn, rowBroken, sameOpen, openTwice, broken}
 use Rattle.table.specs.Calls.{isOpen, freshRow, openRefusals, openedBy, opened, closeRefusals, closedBy, closed}
 
--- One element of a list replaced. Past the end nothing is replaced, and what holds of the old elements holds still: this is why
--- hardly a law here asks how many rows or flows the lists have.
-after-set : {A : Type 0} (P : A → Type 0) (l : List A) (i : ℕ) (a d : A) (j : ℕ) → (j ≡ i → P a) → P (getD l j d) →
-    P (getD (set l i a) j d)
-after-set P [] i a d j new old = old
-after-set P (x ∷ l) zero a d zero new old = new refl
-after-set P (x ∷ l) zero a d (suc j) new old = old
-after-set P (x ∷ l) (suc i) a d zero new old = old
-after-set P (x ∷ l) (suc i) a d (suc j) new old = after-set P l i a d j (λ e. new (ap suc e)) old
-
+-- One row replaced.
 after-row : (P : Row → Type 0) (t : Table) (r : ℕ) (row : Row) (r′ : ℕ) → (r′ ≡ r → P row) → P (rowAt t r′) →
     P (rowAt (withRow t r row) r′)
-after-row P t r row r′ new old = after-set P (t .rows) r row _ r′ new old
-
--- at the very place stands the new element, or the default past the end
-set-there : {A : Type 0} (P : A → Type 0) (l : List A) (i : ℕ) (a d : A) → P a → P d → P (getD (set l i a) i d)
-set-there P [] i a d new past = past
-set-there P (x ∷ l) zero a d new past = new
-set-there P (x ∷ l) (suc i) a d new past = set-there P l i a d new past
+after-row P t r row r′ new old = at-set P (t .rows) r row _ r′ new old
 
 -- Rule 13 holds a row against the earlier rows only; a replaced row has later ones too.
-eqb-sym : (a b : ℕ) → eqb a b ≡ eqb b a
-eqb-sym a b =
-    ⊎-elim
-    (λ (h : eqb a b ≡ true). h ∙ sym (eq-eqb b a (sym (eqb-true a b h))))
-    (λ (h : eqb a b ≡ false). h ∙ sym (ne-eqb b a (λ e. eqb-false a b h (sym e))))
-    (true-or-false (eqb a b))
-
 same-sym : (a b : Row) → sameOpen a b ≡ sameOpen b a
 same-sym a b =
     ap (λ (z : Bool). z && eqb (a .id) (b .id)) (and-comm (not (isClosed (a .kind))) (not (isClosed (b .kind))))
@@ -204,7 +183,7 @@ flow-sound row k f sound good =
   where
     each : (j : ℕ) → j < flows → flowBrokenIn (rowWith row k f) j ≡ false
     each j l =
-        after-set (λ g. flowBroken (isClosed (row .kind)) (isDmpt (kindIn (row .kind))) j g ≡ false) (row .flows) k f fresh j
+        at-set (λ g. flowBroken (isClosed (row .kind)) (isDmpt (kindIn (row .kind))) j g ≡ false) (row .flows) k f fresh j
         (λ e. rw e good)
         (none-at (flowBrokenIn row) flows j (row-flows row sound) l)
 
@@ -387,7 +366,7 @@ closed-absent t id c =
     (λ r l.
     ⊎-elim
     (λ (h : eqb r (find t id) ≡ true).
-    rw (eqb-true r (find t id) h) (set-there (λ row. opensAs id row ≡ false) (t .rows) (find t id) closedRow _ refl refl))
+    rw (eqb-true r (find t id) h) (at-set-same (λ row. opensAs id row ≡ false) (t .rows) (find t id) closedRow _ refl refl))
     (λ (h : eqb r (find t id) ≡ false).
     after-row (λ row. opensAs id row ≡ false) t (find t id) closedRow r (λ e. refl) (only-there t id c r l (eqb-false r (find t id) h)))
     (true-or-false (eqb r (find t id))))
@@ -396,7 +375,7 @@ closed-room : (t : Table) (id : ℕ) → Closes t id → lowestFree (afterClose 
 closed-room t id c =
     least-below (freeIn (afterClose t id)) rows
     (any-at (freeIn (afterClose t id)) rows (find t id)
-    (set-there (λ row. isClosed (row .kind) ≡ true) (t .rows) (find t id) closedRow _ refl refl) (c .there))
+    (at-set-same (λ row. isClosed (row .kind) ≡ true) (t .rows) (find t id) closedRow _ refl refl) (c .there))
 
 closed-opens : (t : Table) (id : ℕ) → Closes t id → Opens (afterClose t id) id
 closed-opens t id c =
@@ -436,10 +415,6 @@ pub record FlowWhole (closed dmpt : Bool) (k : ℕ) (f : Flow) : Type 0 where
   pub unheard : f .heard ≡ 0 → (f .held ≡ 0) × (f .expected ≡ 0)
   pub holds-none : dmpt ≡ true → f .held ≡ 0
   pub one-flow : dmpt ≡ true → (k ≡ 0 → ⊥) → f .heard ≡ 0
-
-and-rest : (a b : Bool) → (a && b) ≡ false → a ≡ true → b ≡ false
-and-rest true b h e = h
-and-rest false b h e = absurd (true≢false (sym e))
 
 is-zero : (n : ℕ) → notZero n ≡ false → n ≡ 0
 is-zero n h = eqb-true n 0 (not-false (eqb n 0) h)

@@ -11,27 +11,27 @@ use borrow.Author.Tests.{lt-ltb, le-ltb, ltb-true, ltb-false}
 use Rattle.octets.specs.Bytes.{byteAt}
 use Rattle.octets.specs.Stretch.{part, put, joined}
 use Rattle.octets.proofs.Counts.{true-or-false}
-use Rattle.octets.proofs.Stretches.{length-put, put-nil, put-put, put-before, set-put, set-set-put, part-all, part-none, part-part, part-one, joined-map-more}
+use Rattle.octets.proofs.Stretches.{length-put, put-nil, put-more, put-before, set-put, set-set-put, part-all, part-none, part-part}
+use Rattle.octets.proofs.Stretches.{part-one}
+use Rattle.octets.proofs.Stretches.{joined-none, joined-map-more}
 use Rattle.text.specs.Text.{digits, decimal, mostDigits, hexDigit, hexByte, hex, column, space, Wrote}
 
 -- What is written behind a text makes it longer.
 pub wrote-length : {a b : List ℕ} {at next : ℕ} {s : List ℕ} → Wrote a b at next s → length b ≡ length a
 wrote-length {a} {b} {at} {next} {s} w = ap length (w .there) ∙ length-put a at s (w .inside)
 
-pub wrote-then : {a b c : List ℕ} {at middle next : ℕ} {s t : List ℕ} → Wrote a b at middle s → Wrote b c middle next t → Wrote a c at next (s ++ t)
+pub wrote-then : {a b c : List ℕ} {at middle next : ℕ} {s t : List ℕ} → Wrote a b at middle s → Wrote b c middle next t →
+    Wrote a c at next (s ++ t)
 wrote-then {a} {b} {c} {at} {middle} {next} {s} {t} v w =
     record {
-      there =
-          w .there
-          ∙ ap (λ (l : List ℕ). put l middle t) (v .there)
-          ∙ ap (λ (n : ℕ). put (put a at s) n t) (v .next-place)
-          ∙ put-put a at s t (v .inside);
+      there = put-more a at s t middle (v .inside) (v .there) (v .next-place) (w .there);
       next-place = omega (arith, v .next-place, w .next-place, length-append s t);
       inside = omega (arith, v .next-place, w .inside, wrote-length v, length-append s t);
     }
 
 -- what is written, and the place behind it, leave nothing open
-pub wrote-unique : {a b c : List ℕ} {at next further : ℕ} {s : List ℕ} → Wrote a b at next s → Wrote a c at further s → (b ≡ c) × (next ≡ further)
+pub wrote-unique : {a b c : List ℕ} {at next further : ℕ} {s : List ℕ} → Wrote a b at next s → Wrote a c at further s → (b ≡ c)
+    × (next ≡ further)
 wrote-unique v w = (v .there ∙ sym (w .there), v .next-place ∙ sym (w .next-place))
 
 pub wrote-none : (a : List ℕ) (at : ℕ) → at ≤ length a → Wrote a a at at []
@@ -52,7 +52,8 @@ pub wrote-copy : (a b words : List ℕ) (at : ℕ) → at + length words ≤ len
     Wrote a b at (at + length words) words
 wrote-copy a b words at h e = record { there = e ∙ ap (put a at) (part-all words); next-place = refl; inside = h }
 
-pub wrote-column : {a b c : List ℕ} {at middle next : ℕ} (n : ℕ) → Wrote a b at middle space → Wrote b c middle next (decimal n) → Wrote a c at next (column n)
+pub wrote-column : {a b c : List ℕ} {at middle next : ℕ} (n : ℕ) → Wrote a b at middle space → Wrote b c middle next (decimal n) →
+    Wrote a c at next (column n)
 unfolding column
 wrote-column n v w = wrote-then v w
 
@@ -66,7 +67,8 @@ digits-enough (suc a) (suc b) n h k =
     (λ (one : ltb n 10 ≡ true). rw one refl)
     (λ (more : ltb n 10 ≡ false).
     let ten = ltb-false n 10 more in
-    ap (λ (l : List ℕ). cond (ltb n 10) ((48 + n) ∷ []) (l ++ ((48 + n % 10) ∷ []))) (digits-enough a b (n / 10) (omega (arith, ten)) (omega (arith, ten))))
+    ap (λ (l : List ℕ). cond (ltb n 10) ((48 + n) ∷ []) (l ++ ((48 + n % 10) ∷ [])))
+    (digits-enough a b (n / 10) (omega (arith, ten)) (omega (arith, ten))))
     (true-or-false (ltb n 10))
 
 pub decimal-one : (n : ℕ) → n ≤ 9 → decimal n ≡ (48 + n) ∷ []
@@ -149,14 +151,16 @@ pub record Counting (number count left : ℕ) : Type 0 where
 pub counting-begin : (number : ℕ) → Counting number 1 number
 counting-begin number = record { to-count = omega arith; few = omega arith }
 
-pub counting-turn : {number count left : ℕ} → number < 4294967296 → Counting number count left → 9 < left → Counting number (count + 1) (left / 10)
+pub counting-turn : {number count left : ℕ} → number < 4294967296 → Counting number count left → 9 < left →
+    Counting number (count + 1) (left / 10)
 counting-turn {number} {count} {left} small c more =
     record {
       to-count = omega (arith, c .to-count, digit-more left more);
       few = omega (arith, c .to-count, digit-more left more, some-digit (left / 10), decimal-short number small);
     }
 
-pub counting-end : {number count left : ℕ} → Counting number count left → left ≤ 9 → (count ≡ length (decimal number)) × (count ≤ mostDigits)
+pub counting-end : {number count left : ℕ} → Counting number count left → left ≤ 9 → (count ≡ length (decimal number))
+    × (count ≤ mostDigits)
 counting-end {number} {count} {left} c last = (omega (arith, c .to-count, one-digit left last), c .few)
 
 -- Digits written from the last to the first: behind the place stand the digits that are done, and what is left has those before it.
@@ -171,11 +175,13 @@ spelling-length : {before : List ℕ} {at number : ℕ} {text : List ℕ} {place
     length (decimal left) + length (s .done) ≡ length (decimal number)
 spelling-length {before} {at} {number} {text} {place} {left} s = sym (length-append (decimal left) (s .done)) ∙ ap length (s .whole)
 
-pub spelling-long : {before : List ℕ} {at number : ℕ} {text : List ℕ} {place left : ℕ} → Spelling before at number text place left → length text ≡ length before
+pub spelling-long : {before : List ℕ} {at number : ℕ} {text : List ℕ} {place left : ℕ} → Spelling before at number text place left →
+    length text ≡ length before
 spelling-long {before} {at} {number} {text} {place} {left} s =
     ap length (s .so-far) ∙ length-put before place (s .done) (omega (arith, s .place-is, spelling-length s, s .inside))
 
-pub spelling-begin : (before : List ℕ) (at number count : ℕ) → count ≡ length (decimal number) → at + length (decimal number) ≤ length before →
+pub spelling-begin : (before : List ℕ) (at number count : ℕ) → count ≡ length (decimal number) →
+    at + length (decimal number) ≤ length before →
     Spelling before at number before (at + count) number
 spelling-begin before at number count e h =
     record {
@@ -221,7 +227,8 @@ module _ {before : List ℕ} {at number : ℕ} {text : List ℕ} {place left : �
             set-put text at digit (omega (arith, first-place, place-inside, spelling-long s))
             ∙ ap (λ (l : List ℕ). put l at (digit ∷ [])) (s .so-far ∙ ap (λ (n : ℕ). put before n (s .done)) first-place)
             ∙ put-before before at (digit ∷ []) (s .done) (omega (arith, first-place, place-inside))
-            ∙ ap (put before at) (ap (λ (d : ℕ). d ∷ s .done) e ∙ ap (λ (l : List ℕ). l ++ s .done) (sym (decimal-one left last)) ∙ s .whole);
+            ∙ ap (put before at) (ap (λ (d : ℕ). d ∷ s .done) e ∙ ap (λ (l : List ℕ). l ++ s .done) (sym (decimal-one left last))
+            ∙ s .whole);
         next-place = ap (λ (n : ℕ). at + n) c;
         inside = s .inside;
       }
@@ -232,19 +239,23 @@ pub record Hexing (before : List ℕ) (at : ℕ) (bytes : List ℕ) (from count 
   pub wrote : Wrote before text at next (hex (part bytes from i))
   pub next-is : next ≡ at + 2 * i
 
-pub hexing-begin : (before : List ℕ) (at : ℕ) (bytes : List ℕ) (from count : ℕ) → at ≤ length before → Hexing before at bytes from count before at 0
-unfolding hex joined
+pub hexing-begin : (before : List ℕ) (at : ℕ) (bytes : List ℕ) (from count : ℕ) → at ≤ length before →
+    Hexing before at bytes from count before at 0
+unfolding hex
 hexing-begin before at bytes from count h =
-    record { within = omega arith; wrote = wrote-as (ap hex (sym (part-none bytes from))) (wrote-none before at h); next-is = omega arith }
+    let none : hex (part bytes from 0) ≡ [] = ap hex (part-none bytes from) ∙ joined-none in
+    record { within = omega arith; wrote = wrote-as (sym none) (wrote-none before at h); next-is = omega arith }
 
-hex-more : (bytes : List ℕ) (from i : ℕ) → from + i < length bytes → hex (part bytes from i) ++ hexByte (byteAt bytes (from + i)) ≡ hex (part bytes from (i + 1))
+hex-more : (bytes : List ℕ) (from i : ℕ) → from + i < length bytes →
+    hex (part bytes from i) ++ hexByte (byteAt bytes (from + i)) ≡ hex (part bytes from (i + 1))
 unfolding hex
 hex-more bytes from i h =
     sym (joined-map-more hexByte (part bytes from i) (byteAt bytes (from + i)))
     ∙ ap (λ (l : List ℕ). joined (map hexByte (part bytes from i ++ l))) (sym (part-one bytes (from + i) h))
     ∙ ap (λ (l : List ℕ). joined (map hexByte l)) (part-part bytes from i 1)
 
-module _ {before : List ℕ} {at : ℕ} {bytes : List ℕ} {from count : ℕ} {text : List ℕ} {next i : ℕ} (x : Hexing before at bytes from count text next i)
+module _ {before : List ℕ} {at : ℕ} {bytes : List ℕ} {from count : ℕ} {text : List ℕ} {next i : ℕ}
+    (x : Hexing before at bytes from count text next i)
     (more : i < count) (room : at + 2 * count ≤ length before) (in-bytes : from + count ≤ length bytes) where
   pub both-inside : next + 1 < length text
   both-inside = omega (arith, x .next-is, more, room, wrote-length (x .wrote))
@@ -252,16 +263,20 @@ module _ {before : List ℕ} {at : ℕ} {bytes : List ℕ} {from count : ℕ} {t
   pub hexing-turn : (high low : ℕ) → high ≡ hexDigit (byteAt bytes (from + i) / 16) → low ≡ hexDigit (byteAt bytes (from + i) % 16) →
       Hexing before at bytes from count (set (set text next high) (next + 1) low) (next + 2) (i + 1)
   hexing-turn high low eh el =
-      let pair : high ∷ low ∷ [] ≡ hexByte (byteAt bytes (from + i)) = ap (λ (h : ℕ). h ∷ low ∷ []) eh ∙ ap (λ (l : ℕ). hexDigit (byteAt bytes (from + i) / 16) ∷ l ∷ []) el in
+      let pair : high ∷ low ∷ [] ≡ hexByte (byteAt bytes (from + i)) =
+      ap (λ (h : ℕ). h ∷ low ∷ []) eh ∙ ap (λ (l : ℕ). hexDigit (byteAt bytes (from + i) / 16) ∷ l ∷ []) el in
       let two-more : Wrote text (set (set text next high) (next + 1) low) next (next + 2) (high ∷ low ∷ []) =
       record { there = set-set-put text next high low both-inside; next-place = refl; inside = omega (arith, both-inside) } in
       record {
         within = omega (arith, more);
-        wrote = wrote-as (ap (λ (l : List ℕ). hex (part bytes from i) ++ l) pair ∙ hex-more bytes from i (omega (arith, more, in-bytes))) (wrote-then (x .wrote) two-more);
+        wrote =
+            wrote-as (ap (λ (l : List ℕ). hex (part bytes from i) ++ l) pair ∙ hex-more bytes from i (omega (arith, more, in-bytes)))
+            (wrote-then (x .wrote) two-more);
         next-is = omega (arith, x .next-is);
       }
 
-pub hexing-end : {before : List ℕ} {at : ℕ} {bytes : List ℕ} {from count : ℕ} {text : List ℕ} {next i : ℕ} → Hexing before at bytes from count text next i → count ≤ i →
+pub hexing-end : {before : List ℕ} {at : ℕ} {bytes : List ℕ} {from count : ℕ} {text : List ℕ} {next i : ℕ} →
+    Hexing before at bytes from count text next i → count ≤ i →
     Wrote before text at next (hex (part bytes from count)) × (next ≡ at + 2 * count)
 hexing-end {before} {at} {bytes} {from} {count} {text} {next} {i} x past =
     let all : i ≡ count = omega (arith, x .within, past) in

@@ -9,7 +9,6 @@ ghost use Rattle.text.specs.Text.{Wrote};
 ghost use Rattle.trace.specs.Trace.{frameLine};
 ghost use Rattle.replay.specs.Inside.{Findable};
 ghost use Rattle.trace.specs.Inside.{frameRoom, framesRoom};
-use crate::wide;
 
 // Room for the lines of a call's frames: in each a word, and the end of the line; and two digits for each byte.
 pub const FRAMES_ROOM: usize = 8 * card::MOST_FRAMES + 2 * card::MOST_BYTES;
@@ -42,7 +41,7 @@ pub fn write_frames(
     let mut from: usize = 0;
     let mut i: usize = 0;
     while i < count {
-        let size = wide(lengths[i]);
+        let size = octets::wide_u16(lengths[i]);
         next = write_frame(text, next, output, from, size);
         from += size;
         i += 1;

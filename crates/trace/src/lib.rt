@@ -1,5 +1,5 @@
-// The trace of an entry: its line in the listing, and behind it what the card did: the frames that the entry delivered, and the open rows with
-// what their flows hold.
+// The trace of an entry: its line in the listing, and behind it what the card did: the frames that the entry delivered, and the open rows
+// with what their flows hold.
 mod frames;
 mod rows;
 
@@ -16,13 +16,6 @@ use replay::Walk;
 
 // Room for the trace of any entry: its line, the lines of its frames, and all rows with all flows holding all they can.
 pub const ENTRY_ROOM: usize = listing::LINE_ROOM + frames::FRAMES_ROOM + rows::ROWS_ROOM;
-
-// A frame's length as a number to count with. The contract says its bound, which a sum needs.
-fn wide(length: u16) -> usize
-    ensures { λ r. ⌜ (r ≡ length) × (r < 65536) ⌝ }
-{
-    length as usize
-}
 
 // What tracing an entry answers: the place behind its text, and where the run stands afterwards.
 pub struct Traced {

@@ -11,7 +11,6 @@ ghost use Rattle.card.specs.Receive.{holdingSize};
 ghost use Rattle.text.specs.Text.{Wrote};
 ghost use Rattle.trace.specs.Trace.{hexOrDash, flowText, rowLine, rowText, rowsText};
 ghost use Rattle.trace.specs.Inside.{flowRoom, rowLineRoom, rowRoom, rowsRoom, HeldFew};
-use crate::wide;
 use flow::FLOWS;
 use flow::Flow;
 use table::ROWS;
@@ -62,7 +61,13 @@ fn write_flow(text: &mut [u8], at: usize, r: usize, k: usize, flow: Flow, holdin
     let behind_held = text::write_column(text, behind_expected, flow.held as u32);
     let behind_space = text::write_byte(text, behind_held, b' ');
     let place = card::place_of(r, k);
-    let behind_bytes = write_held(text, behind_space, holding, place, wide(flow.held));
+    let behind_bytes = write_held(
+        text,
+        behind_space,
+        holding,
+        place,
+        octets::wide_u16(flow.held),
+    );
     text::write_byte(text, behind_bytes, b'\n')
 }
 
@@ -102,7 +107,8 @@ fn write_row(text: &mut [u8], at: usize, r: usize, row: Row, holding: &[u8]) -> 
 pub fn write_rows(text: &mut [u8], at: usize, table: Table, holding: &[u8]) -> usize
     requires { ⌜ broken table ≡ false ⌝ }
     requires { ⌜ (holdingSize ≤ length (now holding)) × (at + rowsRoom ≤ length (now text)) ⌝ }
-    ensures { λ n. ⌜ Wrote (now (text .entry)) (now (text .exit)) at n (rowsText (record { table = table; holding = now (holding .entry) })) ⌝ }
+    ensures { λ n. ⌜ Wrote (now (text .entry)) (now (text .exit)) at n
+        (rowsText (record { table = table; holding = now (holding .entry) })) ⌝ }
     ensures { λ n. ⌜ n ≤ at + rowsRoom ⌝ }
 {
     let mut next = at;

@@ -1,6 +1,5 @@
 -- `psplist::main` is safe since the listing lies in the room for it.
-use mathlib.Core.Path.{sym}
-use lib.Seq.{length-take-le}
+use Rattle.octets.proofs.Stretches.{length-sliced}
 use borrow.Author.Needs.{needs}
 use Rattle.psplist.proofs.main.Statement.{statement}
 use Rattle.psplist.proofs.main.Tie as tie
@@ -33,7 +32,7 @@ array-share-prefix-text : tie.Need-array-share-prefix-text
 array-share-prefix-text c = search needs
 
 slice-aggregate-write-output : tie.Need-slice-aggregate-write-output
-slice-aggregate-write-output c = sym (length-take-le _ _ (array-share-prefix-text (c .before)))
+slice-aggregate-write-output c = length-sliced _ _ (array-share-prefix-text (c .before))
 
 write-output-requires : tie.Need-write-output-requires
 write-output-requires c κs = search needs

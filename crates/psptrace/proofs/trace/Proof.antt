@@ -1,7 +1,6 @@
 -- `psptrace::trace` is safe since what is written out lies in the room for it, and the slices begin as zeros.
-use mathlib.Core.Path.{sym}
 use native.Mathlib.Omega.{arith}
-use lib.Seq.{length-take-le}
+use Rattle.octets.proofs.Stretches.{length-sliced}
 use Rattle.text.proofs.Writing.{wrote-length}
 use borrow.Author.Needs.{needs}
 use Rattle.psptrace.proofs.trace.Statement.{statement}
@@ -18,8 +17,7 @@ slice-reshare-prefix-write-output c = search needs
 
 slice-aggregate-write-output : tie.Need-slice-aggregate-write-output
 slice-aggregate-write-output c =
-    let w = c .before .before .before .write-refused .ensures in
-    sym (length-take-le _ _ (omega (arith, w .next-place, w .inside, wrote-length w)))
+    let w = c .before .before .before .write-refused .ensures in length-sliced _ _ (omega (arith, w .next-place, w .inside, wrote-length w))
 
 write-output-requires : tie.Need-write-output-requires
 write-output-requires c κs = search needs
@@ -38,8 +36,7 @@ slice-reshare-prefix-write-output-2 c = search needs
 
 slice-aggregate-write-output-2 : tie.Need-slice-aggregate-write-output-2
 slice-aggregate-write-output-2 c =
-    let w = c .before .before .before .write-heading .ensures in
-    sym (length-take-le _ _ (omega (arith, w .next-place, w .inside, wrote-length w)))
+    let w = c .before .before .before .write-heading .ensures in length-sliced _ _ (omega (arith, w .next-place, w .inside, wrote-length w))
 
 write-output-requires-2 : tie.Need-write-output-requires-2
 write-output-requires-2 c κs = search needs

@@ -1,9 +1,9 @@
 -- `psptrace::trace_entries` is safe, and the run that it shows is the definition's, since each turn goes on from where the run stands.
 use Prim.Native.Nat.{_-_, _<_, _≤_}
-use mathlib.Core.Path.{_≡_, refl, sym, _∙_}
+use mathlib.Core.Path.{_≡_, refl, _∙_}
 use native.Mathlib.Omega.{arith}
 use lib.ListN.{length}
-use lib.Seq.{length-take-le}
+use Rattle.octets.proofs.Stretches.{length-sliced}
 use Rattle.text.proofs.Writing.{wrote-length}
 use Rattle.capture.specs.File.{headLength, entryCount}
 use Rattle.replay.specs.Inside.{Stands}
@@ -67,7 +67,7 @@ slice-reshare-prefix-write-output : tie.Need-slice-reshare-prefix-write-output I
 slice-reshare-prefix-write-output c = inside (c .before)
 
 slice-aggregate-write-output : tie.Need-slice-aggregate-write-output Inv-loop μ-loop
-slice-aggregate-write-output c = sym (length-take-le _ _ (inside (c .before .before)))
+slice-aggregate-write-output c = length-sliced _ _ (inside (c .before .before))
 
 write-output-requires : tie.Need-write-output-requires Inv-loop μ-loop
 write-output-requires c κs = search needs

@@ -10,27 +10,27 @@ use borrow.Author.Needs.{needs}
 use Rattle.sender.proofs.place.Statement.{statement}
 use Rattle.sender.proofs.place.Tie as tie
 
--- from the end of the call back to the entry's number, from there to the segment's length, to the frame's, and to the start
-abbrev start : tie.After-wide → tie.Start
+-- from the end back to where the entry is written, its size is known, and the length of its frame; and from there to the start
+abbrev entered : tie.After-struct-known7 → tie.After-write-u16
+entered c = c .before .before .before .before .before .before
+
+abbrev sized : tie.After-write-u16 → tie.After-least
+sized entry = entry .before .before .before .before .before
+
+abbrev measured : tie.After-least → tie.After-wide-u16
+measured size = size .before .before .before
+
+abbrev start : tie.After-wide-u16 → tie.Start
 start long = long .before .before .before .before .before
 
-abbrev long : tie.After-least → tie.After-wide
-long sized = sized .before .before .before
+mul-wide-u16 : tie.Need-mul-wide-u16
+mul-wide-u16 c = search needs
 
-abbrev sized : tie.After-entry-number → tie.After-least
-sized numbered = numbered .before .before .before .before
+shared-slice-read-wide-u16 : tie.Need-shared-slice-read-wide-u16
+shared-slice-read-wide-u16 c = search needs
 
-abbrev numbered : tie.After-struct-known7 → tie.After-entry-number
-numbered c = c .before .before .before .before .before .before .before
-
-mul-wide : tie.Need-mul-wide
-mul-wide c = search needs
-
-shared-slice-read-wide : tie.Need-shared-slice-read-wide
-shared-slice-read-wide c = search needs
-
-wide-requires : tie.Need-wide-requires
-wide-requires c κs = search needs
+wide-u16-requires : tie.Need-wide-u16-requires
+wide-u16-requires c κs = search needs
 
 sub-left : tie.Need-sub-left
 sub-left c = search needs
@@ -67,36 +67,36 @@ add-count c = search needs
 
 add-bytes : tie.Need-add-bytes
 add-bytes c =
-    let size = sized (numbered c) in
-    omega (arith, size .least .ensures, start (long size) .pre .few-bytes)
+    let size = sized (entered c) in
+    omega (arith, size .least .ensures, start (measured size) .pre .few-bytes)
 
 same-length : tie.Need-same-length
 same-length c = search needs
 
 returns : tie.Need-returns
 returns c =
-    let n = numbered c in
-    let l = long (sized n) in
-    let a = start l .args in
-    let whole = l .wide in
-    let size = sized n .least in
-    let moved = c .before .before .position-after in
+    let entry = entered c in
+    let number = entry .before .entry-number in
+    let size = sized entry .least in
+    let long = measured (sized entry) .wide-u16 in
+    let next = c .before .before .position-after in
+    let a = start (measured (sized entry)) .args in
     let at = entriesAt + entryWidth * a .progress .count in (
-      placed-next (a .lengths .now) (a .progress) (whole .result) (size .result) (moved .result) (whole .ensures .0) (size .ensures)
-          (moved .ensures),
-      c .before .before .before .before .before .before .write-u16 .ensures
+      placed-next (a .lengths .now) (a .progress) (long .result) (size .result) (next .result) (long .ensures .0) (size .ensures)
+          (next .ensures),
+      entry .write-u16 .ensures
           ∙ ap (put (a .output .now) at)
-          (placed-entry (a .lengths .now) (a .progress) (whole .result) (size .result) (n .entry-number .result) (whole .ensures .0)
-          (size .ensures) (n .entry-number .ensures)),
+          (placed-entry (a .lengths .now) (a .progress) (long .result) (size .result) (number .result) (long .ensures .0) (size .ensures)
+          (number .ensures)),
     )
 
 pub place-spec : {M : Type 1} → statement M
 place-spec =
     tie.close
     (tie.spec
-    mul-wide
-    shared-slice-read-wide
-    wide-requires
+    mul-wide-u16
+    shared-slice-read-wide-u16
+    wide-u16-requires
     sub-left
     sub-least
     least-requires

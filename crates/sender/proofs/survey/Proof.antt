@@ -15,17 +15,19 @@ abbrev μ-loop : tie.MeasureT-loop
 loop-holds : tie.Need-loop-holds Inv-loop μ-loop
 loop-holds c = survey-begin (c .before .args .lengths .now) (c .before .args .n)
 
-mul-wide : tie.Need-mul-wide Inv-loop μ-loop
-mul-wide c = search needs
+mul-wide-u16 : tie.Need-mul-wide-u16 Inv-loop μ-loop
+mul-wide-u16 c = search needs
 
-shared-slice-read-wide : tie.Need-shared-slice-read-wide Inv-loop μ-loop
-shared-slice-read-wide c = search needs
+shared-slice-read-wide-u16 : tie.Need-shared-slice-read-wide-u16 Inv-loop μ-loop
+shared-slice-read-wide-u16 c = search needs
 
-wide-requires : tie.Need-wide-requires Inv-loop μ-loop
-wide-requires c κs = search needs
+wide-u16-requires : tie.Need-wide-u16-requires Inv-loop μ-loop
+wide-u16-requires c κs = search needs
 
 add-total : tie.Need-add-total Inv-loop μ-loop
-add-total c = omega (arith, c .before .before .before .loop .inv .small, c .before .before .loop-test .taken, c .wide .ensures .1, c .before .before .before .before .before .pre .1)
+add-total c =
+    let turn = c .before .before .before in
+    omega (arith, turn .loop .inv .small, c .before .before .loop-test .taken, c .wide-u16 .ensures .1, turn .before .before .pre .1)
 
 bad-length-requires : tie.Need-bad-length-requires Inv-loop μ-loop
 bad-length-requires c κs = search needs
@@ -37,10 +39,16 @@ loop-less : tie.Need-loop-less Inv-loop μ-loop
 loop-less c = search needs
 
 loop-again : tie.Need-loop-again Inv-loop μ-loop
-loop-again c = survey-turn (c .before .before .before .before .loop .inv) (c .before .before .before .loop-test .taken) (c .before .wide .ensures .0) (c .before .wide .ensures .1) (c .bad-length .ensures)
+loop-again c =
+    let long = c .before .wide-u16 .ensures in
+    let tested = c .before .before .before in
+    survey-turn (tested .before .loop .inv) (tested .loop-test .taken) (long .0) (long .1) (c .bad-length .ensures)
 
 returns : tie.Need-returns Inv-loop μ-loop
-returns c = let s = c .before .loop .inv in let l = c .loop-test .left in (survey-sum s (omega arith), (survey-bad s (omega arith), survey-small s (omega arith)))
+returns c =
+    let s = c .before .loop .inv in
+    let l = c .loop-test .left in
+    (survey-sum s (omega arith), (survey-bad s (omega arith), survey-small s (omega arith)))
 
 pub survey-spec : {M : Type 1} → statement M
 survey-spec =
@@ -49,9 +57,9 @@ survey-spec =
     Inv-loop
     μ-loop
     loop-holds
-    mul-wide
-    shared-slice-read-wide
-    wide-requires
+    mul-wide-u16
+    shared-slice-read-wide-u16
+    wide-u16-requires
     add-total
     bad-length-requires
     add-k

@@ -13,40 +13,42 @@ Inv-loop text₀ at output lengths count next₀ from₀ i₀ text next from i =
 abbrev μ-loop : tie.MeasureT-loop
 μ-loop text₀ at output lengths count next₀ from₀ i₀ text next from i = count - i
 
--- from the end of a turn back to where the frame's length was read, from there to the turn's start, and to the call's
-abbrev start : tie.At-loop Inv-loop μ-loop → tie.Start Inv-loop μ-loop
-start at = at .before .before .before .before
+-- from where a frame's length is known back to the test of its turn, to the turn's start, and to the start
+abbrev tested : tie.After-wide-u16 Inv-loop μ-loop → tie.In-loop Inv-loop μ-loop
+tested sized = sized .before .before
 
-abbrev turn : tie.After-wide Inv-loop μ-loop → tie.In-loop Inv-loop μ-loop
-turn sized = sized .before .before
+abbrev turn : tie.After-wide-u16 Inv-loop μ-loop → tie.At-loop Inv-loop μ-loop
+turn sized = tested sized .before
 
-abbrev sized : tie.After-slice-known2 Inv-loop μ-loop → tie.After-wide Inv-loop μ-loop
-sized c = c .before .before .before .before
+abbrev start : tie.After-wide-u16 Inv-loop μ-loop → tie.Start Inv-loop μ-loop
+start sized = turn sized .before .before .before .before
 
 loop-holds : tie.Need-loop-holds Inv-loop μ-loop
 loop-holds c = framing-begin _ _ _ _ _ (omega (arith, c .before .before .before .pre .1))
 
-mul-wide : tie.Need-mul-wide Inv-loop μ-loop
-mul-wide c = search needs
+mul-wide-u16 : tie.Need-mul-wide-u16 Inv-loop μ-loop
+mul-wide-u16 c = search needs
 
-shared-slice-read-wide : tie.Need-shared-slice-read-wide Inv-loop μ-loop
-shared-slice-read-wide c = search needs
+shared-slice-read-wide-u16 : tie.Need-shared-slice-read-wide-u16 Inv-loop μ-loop
+shared-slice-read-wide-u16 c = search needs
 
-wide-requires : tie.Need-wide-requires Inv-loop μ-loop
-wide-requires c κs = search needs
+wide-u16-requires : tie.Need-wide-u16-requires Inv-loop μ-loop
+wide-u16-requires c κs = search needs
 
 write-frame-requires : tie.Need-write-frame-requires Inv-loop μ-loop
 write-frame-requires c κs =
-    let z = c .before in
-    let t = turn z in
-    let given = start (t .before) .pre in
-    frame-room (t .before .loop .inv) (given .0) _ (z .wide .ensures .0) (t .loop-test .taken) (given .1)
+    let sized = c .before in
+    frame-room (turn sized .loop .inv) (start sized .pre .0) _ (sized .wide-u16 .ensures .0) (tested sized .loop-test .taken)
+    (start sized .pre .1)
 
 add-from : tie.Need-add-from Inv-loop μ-loop
 add-from c =
-    let z = sized c in
-    let t = turn z in
-    omega (arith, frame-within (t .before .loop .inv) (start (t .before) .pre .0) _ (z .wide .ensures .0) (t .loop-test .taken))
+    let sized = c .before .before .before .before in
+    omega (
+      arith,
+      frame-within (turn sized .loop .inv) (start sized .pre .0) _ (sized .wide-u16 .ensures .0)
+          (tested sized .loop-test .taken),
+    )
 
 add-i : tie.Need-add-i Inv-loop μ-loop
 add-i c = search needs
@@ -56,10 +58,10 @@ loop-less c = search needs
 
 loop-again : tie.Need-loop-again Inv-loop μ-loop
 loop-again c =
-    let z = sized c in
-    let t = turn z in
-    let wrote = c .before .before .write-frame .ensures in
-    framing-turn (t .before .loop .inv) (start (t .before) .pre .0) _ (z .wide .ensures .0) (t .loop-test .taken) (wrote .0) (wrote .1)
+    let line = c .before .before in
+    let sized = line .before .before in
+    framing-turn (turn sized .loop .inv) (start sized .pre .0) _ (sized .wide-u16 .ensures .0) (tested sized .loop-test .taken)
+    (line .write-frame .ensures .0) (line .write-frame .ensures .1)
 
 same-length : tie.Need-same-length Inv-loop μ-loop
 same-length c = wrote-length (c .before .loop .inv .wrote)
@@ -74,9 +76,9 @@ write-frames-spec =
     Inv-loop
     μ-loop
     loop-holds
-    mul-wide
-    shared-slice-read-wide
-    wide-requires
+    mul-wide-u16
+    shared-slice-read-wide-u16
+    wide-u16-requires
     write-frame-requires
     add-from
     add-i

@@ -31,7 +31,7 @@ numbersOf spaced = spaced .before .before .before .before
 abbrev spaced : tie.After-place-of → tie.After-write-byte
 spaced placed = placed .before .before .before
 
-abbrev placed : tie.After-wide → tie.After-place-of
+abbrev placed : tie.After-wide-u16 → tie.After-place-of
 placed sized = sized .before .before
 
 abbrev shown : tie.After-slice-known9 → tie.After-write-held
@@ -59,13 +59,13 @@ numbered n =
     }
 
 -- the space behind them, and the bytes that come next
-after-space : (z : tie.After-wide) → let s = spaced (placed z) in let n = numbersOf s in
-    Spaced (n .write-column3 .last .0) (s .write-byte .last .0) (n .write-column3 .result) (s .write-byte .result) (z .wide .result)
+after-space : (z : tie.After-wide-u16) → let s = spaced (placed z) in let n = numbersOf s in
+    Spaced (n .write-column3 .last .0) (s .write-byte .last .0) (n .write-column3 .result) (s .write-byte .result) (z .wide-u16 .result)
     (start n .args .flow)
-after-space z = record { gap = spaced (placed z) .write-byte .ensures; same = z .wide .ensures .0 }
+after-space z = record { gap = spaced (placed z) .write-byte .ensures; same = z .wide-u16 .ensures .0 }
 
 after-bytes : (h : tie.After-write-held) → let z = h .before in let s = spaced (placed z) in let a = start (numbersOf s) .args in
-    Shown (s .write-byte .last .0) (h .write-held .last .0) (a .holding .now) (s .write-byte .result) (h .write-held .result) (z .wide .result)
+    Shown (s .write-byte .last .0) (h .write-held .last .0) (a .holding .now) (s .write-byte .result) (h .write-held .result) (z .wide-u16 .result)
     (placed z .place-of .result) (a .r) (a .k)
 after-bytes h = record { there = placed (h .before) .place-of .ensures; bytes = h .write-held .ensures }
 
@@ -112,8 +112,8 @@ place-of-requires c κs =
     let p = start (numbersOf (c .before .before)) .pre in
     (p .0 .0, p .0 .1)
 
-wide-requires : tie.Need-wide-requires
-wide-requires c κs = search needs
+wide-u16-requires : tie.Need-wide-u16-requires
+wide-u16-requires c κs = search needs
 
 write-held-requires : tie.Need-write-held-requires
 write-held-requires c κs =
@@ -121,7 +121,7 @@ write-held-requires c κs =
     let a = start n .args in
     let p = start n .pre in
     let inside = place-inside (a .r) (a .k) (a .flow .held) _ (p .0 .0) (p .0 .1) (p .0 .2) (p .1 .0) in
-    (held-room (numbered n) (after-space c), omega (arith, placed c .place-of .ensures, c .wide .ensures .0, inside))
+    (held-room (numbered n) (after-space c), omega (arith, placed c .place-of .ensures, c .wide-u16 .ensures .0, inside))
 
 write-byte-requires-2 : tie.Need-write-byte-requires-2
 write-byte-requires-2 c κs =
@@ -162,7 +162,7 @@ write-flow-spec =
     write-column-requires-3
     write-byte-requires
     place-of-requires
-    wide-requires
+    wide-u16-requires
     write-held-requires
     write-byte-requires-2
     same-length

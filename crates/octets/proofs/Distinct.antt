@@ -7,7 +7,8 @@ use mathlib.Core.List.{List, [], _∷_}
 use native.Mathlib.Omega.{arith}
 use lib.Dec.{eqb}
 use lib.ListN.{length}
-use borrow.Author.Tests.{eqb-true, eqb-false, eq-eqb, ne-eqb}
+use borrow.Author.Tests.{eqb-true, eq-eqb}
+use Rattle.octets.proofs.Numbers.{eqb-sym}
 
 -- whether a number is a member
 abbrev pub has : ℕ → List ℕ → Bool
@@ -54,12 +55,9 @@ without-distinct : (x : ℕ) (ys : List ℕ) → Distinct ys → Distinct (witho
 without-distinct x [] a = tt
 without-distinct x (y ∷ ys) a = pick (eqb y x) refl (without-distinct x ys (a .1))
   where
-    turned : eqb y x ≡ false → eqb x y ≡ false
-    turned d = ne-eqb x y (λ q. eqb-false y x d (sym q))
-
     pick : (u : Bool) → eqb y x ≡ u → Distinct (without x ys) → Distinct (cond u ys (y ∷ without x ys))
     pick true d below = a .1
-    pick false d below = (without-other x y ys (turned d) ∙ a .0, below)
+    pick false d below = (without-other x y ys (eqb-sym x y ∙ d) ∙ a .0, below)
 
 pub same-length : (xs ys : List ℕ) → Distinct xs → Distinct ys → ((i : ℕ) → has i xs ≡ has i ys) → length xs ≡ length ys
 same-length [] [] a b members = refl
