@@ -317,6 +317,11 @@ part-put d at x h =
     rw (append-assoc (take at d) x (drop (at + length x) d), drop-at (take at d) (x ++ drop (at + length x) d) at (length-take-le at d k))
     (take-append-seam x (drop (at + length x) d))
 
+-- .. as the checker says it of the front of a slice
+pub sliced-put : {e : List ℕ} (d x : List ℕ) (n : ℕ) → e ≡ put d 0 x → n ≡ length x → n ≤ length d → take n e ≡ x
+sliced-put {e} d x n stood long inside =
+    sliced-front e n ∙ ap (λ (l : List ℕ). part l 0 n) stood ∙ ap (part (put d 0 x) 0) long ∙ part-put d 0 x (omega (arith, long, inside))
+
 -- .. where that is a stretch of another list
 pub part-put-part : (d s : List ℕ) (at from n : ℕ) → at + n ≤ length d → from + n ≤ length s →
     part (put d at (part s from n)) at n ≡ part s from n
@@ -530,6 +535,25 @@ pub total-lengthsOf : (a : List (List ℕ)) → total (lengthsOf a) ≡ length (
 unfolding lengthsOf joined
 total-lengthsOf [] = refl
 total-lengthsOf (s ∷ a) = omega (arith, total-lengthsOf a, length-append s (joined a))
+
+-- Bytes taken apart by lengths: so many stretches; of these lengths, where there are bytes enough; and back to back the front of the bytes.
+pub length-cut : (l bytes : List ℕ) → length (cutBy l bytes) ≡ length l
+unfolding cutBy
+length-cut [] bytes = refl
+length-cut (n ∷ l) bytes = ap suc (length-cut l (drop n bytes))
+
+pub lengthsOf-cut : (l bytes : List ℕ) → total l ≤ length bytes → lengthsOf (cutBy l bytes) ≡ l
+unfolding lengthsOf cutBy
+lengthsOf-cut [] bytes h = refl
+lengthsOf-cut (n ∷ l) bytes h =
+    let front : length (take n bytes) ≡ n = length-take-le n bytes (omega (arith, h)) in
+    let behind = lengthsOf-cut l (drop n bytes) (omega (arith, h, length-drop n bytes)) in
+    rw (front, behind) refl
+
+pub joined-cut : (l bytes : List ℕ) → joined (cutBy l bytes) ≡ part bytes 0 (total l)
+unfolding joined cutBy part
+joined-cut [] bytes = refl
+joined-cut (n ∷ l) bytes = ap (λ (x : List ℕ). take n bytes ++ x) (joined-cut l (drop n bytes)) ∙ part-part-front bytes n (total l)
 
 -- Stretches that all have n elements, ..
 pub length-joined-each : (n : ℕ) (a : List (List ℕ)) → Each (λ s. length s ≡ n) a → length (joined a) ≡ n * length a

@@ -1,32 +1,18 @@
--- Bytes taken apart by lengths that they are enough for: the stretches have these lengths, and are, back to back, the front of the bytes. And the
--- frames of a call put behind those gathered before.
+-- The frames that a call has left in two slices, how many they are and how long, and how they are put behind those gathered before.
 use Prim.Native.Nat.{ℕ, _+_, _<_, _≤_}
-use mathlib.Core.Path.{_≡_, refl, sym, ap, _∙_}
+use mathlib.Core.Path.{_≡_, sym, ap, _∙_}
 use mathlib.Core.List.{List, [], _∷_, _++_}
 use native.Mathlib.Omega.{arith}
-use lib.ListN.{length, take, drop, set, length-drop}
-use lib.Seq.{length-take-le}
+use lib.ListN.{length, set}
 use Rattle.octets.specs.Bytes.{byteAt}
 use Rattle.octets.specs.Count.{sumTo}
-use Rattle.octets.specs.Stretch.{part, put, joined, lengthsOf, cutBy}
+use Rattle.octets.specs.Stretch.{part, put, joined, lengthsOf}
 use Rattle.octets.proofs.Counts.{sum-none, sum-more}
-use Rattle.octets.proofs.Stretches.{length-part, part-none, part-part-front, part-more, length-put, put-nil, put-put, set-put, length-lengthsOf, total, total-part}
+use Rattle.octets.proofs.Stretches.{length-part, part-none, part-more, length-put, put-nil, put-put, set-put, length-lengthsOf}
+use Rattle.octets.proofs.Stretches.{total, total-part, lengthsOf-cut, joined-cut}
 use Rattle.card.specs.Receive.{framesFound}
 use Rattle.pspmpeg.specs.declared.gather.Gathered.{Gathered}
 use Rattle.pspmpeg.specs.Inside.{Adds, FitsFound}
-
-pub lengths-cut : (l bytes : List ℕ) → total l ≤ length bytes → lengthsOf (cutBy l bytes) ≡ l
-unfolding lengthsOf cutBy
-lengths-cut [] bytes h = refl
-lengths-cut (n ∷ l) bytes h =
-    let front : length (take n bytes) ≡ n = length-take-le n bytes (omega (arith, h)) in
-    let behind = lengths-cut l (drop n bytes) (omega (arith, h, length-drop n bytes)) in
-    rw (front, behind) refl
-
-pub joined-cut : (l bytes : List ℕ) → joined (cutBy l bytes) ≡ part bytes 0 (total l)
-unfolding joined cutBy part
-joined-cut [] bytes = refl
-joined-cut (n ∷ l) bytes = ap (λ (x : List ℕ). take n bytes ++ x) (joined-cut l (drop n bytes)) ∙ part-part-front bytes n (total l)
 
 -- the frames that a call has left in two slices
 module _ (output lengths : List ℕ) (more : ℕ) (lengths-there : more ≤ length lengths) (bytes-there : sumTo (byteAt lengths) more ≤ length output) where
@@ -34,7 +20,7 @@ module _ (output lengths : List ℕ) (more : ℕ) (lengths-there : more ≤ leng
   total-is = total-part lengths more lengths-there
 
   pub found-lengths : lengthsOf (framesFound more lengths output) ≡ part lengths 0 more
-  found-lengths = lengths-cut (part lengths 0 more) output (omega (arith, total-is, bytes-there))
+  found-lengths = lengthsOf-cut (part lengths 0 more) output (omega (arith, total-is, bytes-there))
 
   pub found-joined : joined (framesFound more lengths output) ≡ part output 0 (sumTo (byteAt lengths) more)
   found-joined = joined-cut (part lengths 0 more) output ∙ ap (part output 0) total-is

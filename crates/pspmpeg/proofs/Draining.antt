@@ -6,15 +6,16 @@ use mathlib.Core.Logic.{_⊎_, inl, inr}
 use mathlib.Core.List.{List, [], _∷_, _++_, append-nil, append-assoc}
 use native.Mathlib.Omega.{arith}
 use native.Mathlib.Nat.{not-suc-le-zero}
-use lib.Dec.{leb}
+use lib.Dec.{leb, ltb}
 use lib.ListN.{length, replicate, length-append, length-replicate}
-use lib.Seq.{take-append-seam, drop-append-seam}
 use borrow.Author.Tests.{leb-true, leb-false, le-ltb}
 use Rattle.octets.specs.Stretch.{part, rest, put, joined, lengthsOf}
 use Rattle.octets.specs.Tests.{none}
 use Rattle.octets.proofs.Counts.{true-or-false}
 use Rattle.octets.proofs.Tests.{none-length}
-use Rattle.octets.proofs.Stretches.{length-part, part-short, length-rest, length-put, part-put, put-nil, put-put-front, joined-one-more}
+use Rattle.octets.proofs.Stretches.{length-part, part-short, part-append, length-rest, rest-append, length-put, part-put, put-nil}
+use Rattle.octets.proofs.Stretches.{put-put-front, joined-none, joined-cons, joined-one-more, length-joined-none, lengthsOf-none}
+use Rattle.octets.proofs.Stretches.{lengthsOf-cons}
 use Rattle.ts.specs.Packet.{mpegLength, payloadLength, header, fillByte}
 use Rattle.text.specs.Text.{Wrote}
 use Rattle.text.proofs.Writing.{wrote-as}
@@ -121,7 +122,6 @@ pub record Draining (bytes lengths text₀ text : List ℕ) (place count at : �
   pub inside : at ≤ streamRoom
 
 pub drain-begin : (bytes lengths text : List ℕ) → badFrames lengths bytes ≡ false → Draining bytes lengths text text 0 0 0
-unfolding joined
 drain-begin bytes lengths text h =
     record {
       written-so-far = [];
@@ -130,8 +130,8 @@ drain-begin bytes lengths text h =
       sound = h;
       all-are = refl;
       steps-enough = omega arith;
-      text-now = sym (put-nil text 0);
-      at-is = refl;
+      text-now = sym (ap (put text 0) joined-none ∙ put-nil text 0);
+      at-is = sym length-joined-none;
       at-turns = refl;
       full = inr (omega arith);
       inside = omega arith;
@@ -259,10 +259,12 @@ module _ {bytes lengths text₀ text : List ℕ} {place count at : ℕ} (d : Dra
 
 -- The frames of a queue, as bytes and lengths.
 pub bad-is-not-good : (frames : List (List ℕ)) → badFrames (lengthsOf frames) (joined frames) ≡ not (allGood frames)
-unfolding badFrames lengthsOf joined allGood part rest
-bad-is-not-good [] = refl
+unfolding badFrames allGood
+bad-is-not-good [] = rw (lengthsOf-none, joined-none) refl
 bad-is-not-good (f ∷ more) =
-    rw (le-ltb (length (f ++ joined more)) (length f) (omega (arith, length-append f (joined more))), take-append-seam f (joined more), drop-append-seam f (joined more), bad-is-not-good more)
+    let all = f ++ joined more in
+    let long : ltb (length all) (length f) ≡ false = le-ltb (length all) (length f) (omega (arith, length-append f (joined more))) in
+    rw (lengthsOf-cons f more, joined-cons f more, long, part-append f (joined more), rest-append f (joined more), bad-is-not-good more)
     (by (good f) (allGood more))
   where
     by : (a b : Bool) → (not a || not b) ≡ not (a && b)

@@ -10,7 +10,8 @@ use lib.ListN.{length, length-append}
 use Rattle.octets.specs.Bytes.{byteAt}
 use Rattle.octets.specs.Count.{sumTo}
 use Rattle.octets.specs.Stretch.{put, joined, lengthsOf}
-use Rattle.octets.proofs.Stretches.{length-put, put-nil, put-put-front, joined-append, lengthsOf-append, length-lengthsOf}
+use Rattle.octets.proofs.Stretches.{length-put, put-nil, put-put-front, joined-none, length-joined-none, joined-append}
+use Rattle.octets.proofs.Stretches.{lengthsOf-none, lengthsOf-append, length-lengthsOf}
 use Rattle.card.specs.Receive.{framesFound}
 use Rattle.card.specs.History.{framesOf}
 use Rattle.capture.specs.File.{headLength, entryLength, longestFile, mostEntries, entryCount, kindAt, nthEntry}
@@ -43,10 +44,10 @@ module _ {file : List ℕ} {w : Walk} {holding output lengths : List ℕ} (s : S
 
 pub not-chosen : (found : List (List ℕ)) {frames : List (List ℕ)} {wanted : Bool} {bytes sizes : List ℕ} {g : Gathered} → frames ≡ cond wanted found [] → wanted ≡ false →
     Adds frames bytes sizes bytes sizes g g
-unfolding joined lengthsOf
 not-chosen found {frames} {wanted} {bytes} {sizes} {g} e n =
     let none : frames ≡ [] = e ∙ ap (λ (t : Bool). cond t found []) n in
-    rw none (record { bytes-then = sym (put-nil bytes (g .bytes)); sizes-then = sym (put-nil sizes (g .count)); counts-then = same })
+    rw (none, joined-none, lengthsOf-none)
+    (record { bytes-then = sym (put-nil bytes (g .bytes)); sizes-then = sym (put-nil sizes (g .count)); counts-then = same })
   where
     same : g ≡ record { count = g .count + 0; bytes = g .bytes + 0 }
     same =
@@ -92,13 +93,18 @@ pub record Gathering (session : ℕ) (file bytes₀ sizes₀ : List ℕ) (stage 
 
 pub gather-begin : {session : ℕ} {file holding output lengths : List ℕ} {w : Walk} (bytes sizes : List ℕ) → Stands file w holding output lengths → w .index ≡ 0 →
     Gathering session file bytes sizes (record { walk = w; gathered = record { count = 0; bytes = 0 } }) holding output lengths bytes sizes
-unfolding deliveredBefore joined lengthsOf
+unfolding deliveredBefore
 gather-begin {session} {file} {holding} {output} {lengths} {w} bytes sizes s z =
     record {
       stands = s;
       so-far =
           subst (λ (n : ℕ). Gathers (deliveredBefore session file n) bytes sizes bytes sizes (record { count = 0; bytes = 0 })) (sym z)
-          (record { bytes-now = sym (put-nil bytes 0); sizes-now = sym (put-nil sizes 0); counted = refl; total-is = refl });
+          (record {
+            bytes-now = sym (ap (put bytes 0) joined-none ∙ put-nil bytes 0);
+            sizes-now = sym (ap (put sizes 0) lengthsOf-none ∙ put-nil sizes 0);
+            counted = refl;
+            total-is = sym length-joined-none;
+          });
     }
 
 module _ {session : ℕ} {file bytes₀ sizes₀ : List ℕ} {stage : Stage} {holding output lengths bytes sizes : List ℕ}

@@ -12,7 +12,7 @@ use Rattle.octets.specs.Bytes.{be32At}
 use Rattle.octets.specs.Count.{sumTo, upTo}
 use Rattle.octets.specs.Stretch.{part, joined, lengthsOf, cutBy}
 use Rattle.octets.proofs.Counts.{sum-below}
-use Rattle.octets.proofs.Stretches.{part-short, length-rest, joined-append}
+use Rattle.octets.proofs.Stretches.{part-short, length-rest, length-joined-none, joined-append, length-cut}
 use Rattle.packet.specs.Header.{Packet, lead, idLength, sub, segmentCount}
 use Rattle.packet.specs.Segments.{lengthAt, bodyAt}
 use Rattle.packet.specs.Psp.{wanted, pspRefusals}
@@ -116,9 +116,8 @@ entry-balances file k =
     omega (arith, call-balances table-keeps c (standing-good file k) x, entry-few (standing file k) (nthEntry file k))
 
 chosen-few : (b : Bool) (frames : List (List ℕ)) → (length (cond b frames []) ≤ length frames) × (length (joined (cond b frames [])) ≤ length (joined frames))
-unfolding joined
 chosen-few true frames = (omega arith, omega arith)
-chosen-few false frames = (omega arith, omega arith)
+chosen-few false frames = (omega arith, omega (arith, length-joined-none))
 
 at-few : (session : ℕ) (file : List ℕ) (k : ℕ) →
     (length (framesAt session file k) ≤ length (framesOf (answerAt file k)))
@@ -132,8 +131,8 @@ body-short file k = part-short file (bodyStart headLength entryLength file k) (b
 
 told-before : (session : ℕ) (file : List ℕ) (k : ℕ) →
     length (joined (deliveredBefore session file k)) + keptInAll inTable (standing file k .card) ≤ sumTo (bodyLength headLength entryLength file) k
-unfolding deliveredBefore joined standing begin sumTo
-told-before session file zero = omega (arith, empty-keeps table-keeps (replicate holdingSize 0))
+unfolding deliveredBefore standing begin sumTo
+told-before session file zero = omega (arith, length-joined-none, empty-keeps table-keeps (replicate holdingSize 0))
 told-before session file (suc k) =
     omega (
       arith,
@@ -159,18 +158,13 @@ few-bytes session file k z within =
     )
 
 -- the frames, by number
-cut-many : (l bytes : List ℕ) → length (cutBy l bytes) ≡ length l
-unfolding cutBy
-cut-many [] bytes = refl
-cut-many (n ∷ l) bytes = ap suc (cut-many l (drop n bytes))
-
 entry-frames : (file : List ℕ) (k : ℕ) → length (framesOf (answerAt file k)) ≤ mostFrames
 unfolding answerAt
 entry-frames file k =
     let a = answerTo (standing file k) (nthEntry file k) in
     omega (
       arith,
-      cut-many (part (a .lengths) 0 (a .frames)) (a .output),
+      length-cut (part (a .lengths) 0 (a .frames)) (a .output),
       part-short (a .lengths) 0 (a .frames),
       frames-short (standing file k) (nthEntry file k) .0,
     )

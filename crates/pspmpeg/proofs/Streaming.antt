@@ -2,10 +2,9 @@
 use Prim.Native.Nat.{ℕ, zero, suc, _≤_}
 use mathlib.Core.Path.{_≡_, refl, sym, ap, _∙_}
 use mathlib.Core.List.{List}
-use native.Mathlib.Omega.{arith}
 use lib.ListN.{length, take}
-use Rattle.octets.specs.Stretch.{part, put, joined, lengthsOf}
-use Rattle.octets.proofs.Stretches.{part-put, length-lengthsOf}
+use Rattle.octets.specs.Stretch.{joined, lengthsOf}
+use Rattle.octets.proofs.Stretches.{sliced-put, length-lengthsOf}
 use Rattle.text.specs.Text.{Wrote}
 use Rattle.text.proofs.Writing.{wrote-as}
 use Rattle.capture.specs.File.{fileRefusal}
@@ -20,20 +19,15 @@ unfolding stream streamBy
 stream-refused session file zero e some = absurd (some refl)
 stream-refused session file (suc c) e some = ap (λ (n : ℕ). streamBy n session file) e
 
--- the front of a slice is what was put there
-front-is : (list before new : List ℕ) (n : ℕ) → list ≡ put before 0 new → n ≡ length new → n ≤ length before → take n list ≡ new
-unfolding part
-front-is list before new n e l inside =
-    ap (λ (x : List ℕ). part x 0 n) e ∙ ap (part (put before 0 new) 0) l ∙ part-put before 0 new (omega (arith, l, inside))
-
 pub stream-sound : (session : ℕ) (file : List ℕ) {bytes sizes bytes′ sizes′ text text′ : List ℕ} {g : Gathered} {next : ℕ} → fileRefusal file ≡ 0 →
     Gathers (delivered session file) bytes sizes bytes′ sizes′ g → g .bytes ≤ length bytes → g .count ≤ length sizes →
     Wrote text text′ 0 next (streamFrom (take (g .bytes) bytes′) (take (g .count) sizes′)) → Wrote text text′ 0 next (stream session file)
 unfolding stream streamBy
 stream-sound session file {bytes} {sizes} {bytes′} {sizes′} {text} {text′} {g} {next} z h few many w =
     let frames = delivered session file in
-    let front : take (g .bytes) bytes′ ≡ joined frames = front-is bytes′ bytes (joined frames) (g .bytes) (h .bytes-now) (h .total-is) few in
-    let sized : take (g .count) sizes′ ≡ lengthsOf frames = front-is sizes′ sizes (lengthsOf frames) (g .count) (h .sizes-now) (h .counted ∙ sym (length-lengthsOf frames)) many in
+    let front : take (g .bytes) bytes′ ≡ joined frames = sliced-put bytes (joined frames) (g .bytes) (h .bytes-now) (h .total-is) few in
+    let sized : take (g .count) sizes′ ≡ lengthsOf frames =
+    sliced-put sizes (lengthsOf frames) (g .count) (h .sizes-now) (h .counted ∙ sym (length-lengthsOf frames)) many in
     wrote-as
     (ap (λ (l : List ℕ). streamFrom l (take (g .count) sizes′)) front
     ∙ ap (streamFrom (joined frames)) sized

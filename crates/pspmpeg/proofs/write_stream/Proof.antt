@@ -3,7 +3,7 @@ use Prim.Native.Nat.{_≤_}
 use mathlib.Core.Path.{sym, _∙_}
 use native.Mathlib.Omega.{arith}
 use lib.ListN.{length}
-use lib.Seq.{length-take-le}
+use Rattle.octets.proofs.Stretches.{length-sliced}
 use Rattle.text.proofs.Writing.{wrote-as}
 use Rattle.pspmpeg.proofs.Streaming.{stream-refused, stream-sound}
 use borrow.Author.Needs.{needs}
@@ -93,20 +93,20 @@ array-share-prefix-bytes c = search needs
 
 slice-aggregate-write-packets : tie.Need-slice-aggregate-write-packets
 slice-aggregate-write-packets c =
-    sym (length-take-le _ _ (bytes-fit (c .before .before .before .before .before .before)))
+    length-sliced _ _ (bytes-fit (c .before .before .before .before .before .before))
 
 array-share-prefix-sizes : tie.Need-array-share-prefix-sizes
 array-share-prefix-sizes c = search needs
 
 slice-aggregate-write-packets-2 : tie.Need-slice-aggregate-write-packets-2
 slice-aggregate-write-packets-2 c =
-    sym (length-take-le _ _ (sizes-fit (c .before .before .before .before .before .before .before)))
+    length-sliced _ _ (sizes-fit (c .before .before .before .before .before .before .before))
 
 write-packets-requires : tie.Need-write-packets-requires
 write-packets-requires c κs =
     let bytes = c .before .before in
     let g = bytes .before .before .before .before .before .before in
-    let few = length-take-le (g .gather .result .bytes) (g .gather .last .1 .1 .1 .1 .1 .0) (bytes-fit g) in
+    let few = length-sliced (g .gather .last .1 .1 .1 .1 .1 .0) (g .gather .result .bytes) (bytes-fit g) in
     (omega (arith, few, g .gather .ensures .1 .0), start (sound (first-room (rooms g)) .before) .pre)
 
 same-length-2 : tie.Need-same-length-2
