@@ -6,15 +6,24 @@ use mathlib.Core.List.{List, [], _∷_, _++_, map, append-nil, append-assoc}
 use native.Mathlib.Omega.{arith}
 use native.Mathlib.Nat.{not-suc-le-zero, le-of-suc-le-suc}
 use lib.Dec.{leb}
-use lib.ListN.{length, drop, length-append, take-append-drop}
-use lib.Seq.{drop-at}
+use lib.ListN.{length, length-append}
 use borrow.Author.Tests.{leb-true, le-leb}
 use Rattle.octets.specs.Bytes.{byteAt, be16At, two, AllBytes}
 use Rattle.octets.specs.Each.{Each}
 use Rattle.octets.specs.Stretch.{part, rest, joined}
 use Rattle.octets.proofs.Numbers.{two-reads-back, two-read}
-use Rattle.octets.proofs.Stretches.{length-part, part-between, part-part-front, length-rest, byte-rest}
+use Rattle.octets.proofs.Stretches.{length-part, part-between, part-part-front, part-and-rest, length-rest, byte-rest, rest-append}
+use Rattle.octets.proofs.Stretches.{joined-none, joined-cons, length-joined-none, length-joined}
 use Rattle.frames.specs.Frames.{lengthBytes, packed, framesFile, standsWhole, frontFrame, behindFront, wholeFrames, leftBehind}
+
+-- the file of no frames, and of one before others
+pub pack-none : framesFile [] ≡ []
+unfolding framesFile
+pack-none = joined-none
+
+pub pack-cons : (f : List ℕ) (fs : List (List ℕ)) → framesFile (f ∷ fs) ≡ packed f ++ framesFile fs
+unfolding framesFile
+pack-cons f fs = joined-cons (packed f) (map packed fs)
 
 -- what a whole frame at the front says of lengths
 pub stands-long : (file : List ℕ) → standsWhole file ≡ true → (lengthBytes ≤ length file) × (lengthBytes + be16At file 0 ≤ length file)
@@ -52,28 +61,29 @@ module _ (f behind : List ℕ) (short : Sayable f) where
   front-there = ap (part file lengthBytes) says ∙ part-between (two (length f)) f behind
 
   behind-there : behindFront file ≡ behind
-  unfolding rest
   behind-there =
-      ap (λ (n : ℕ). drop (lengthBytes + n) file) says ∙ drop-at (two (length f) ++ f) behind (lengthBytes + length f) (omega arith)
+      let place : lengthBytes + length f ≡ length (packed f) = omega arith in
+      ap (λ (n : ℕ). rest file (lengthBytes + n)) says ∙ ap (rest file) place ∙ rest-append (packed f) behind
 
 -- Reading back what was written gives the frames, and leaves nothing.
 pub unpack-pack : (n : ℕ) (fs : List (List ℕ)) → Each Sayable fs → length fs ≤ n →
     (wholeFrames n (framesFile fs) ≡ fs) × (leftBehind n (framesFile fs) ≡ [])
-unfolding wholeFrames leftBehind framesFile joined
-unpack-pack zero [] s l = (refl, refl)
+unfolding wholeFrames leftBehind
+unpack-pack zero [] s l = (refl, pack-none)
 unpack-pack zero (f ∷ fs) s l = absurd (not-suc-le-zero l)
-unpack-pack (suc n) [] s l = (refl, refl)
+unpack-pack (suc n) [] s l = (ap (wholeFrames (suc n)) pack-none, ap (leftBehind (suc n)) pack-none)
 unpack-pack (suc n) (f ∷ fs) s l =
     let r = unpack-pack n fs (s .1) (le-of-suc-le-suc l) in
-    let behind = joined (map packed fs) in (
-      rw (whole-there f behind (s .0), front-there f behind (s .0), behind-there f behind (s .0))
-          (ap (λ (x : List (List ℕ)). f ∷ x) (r .0)),
-      rw (whole-there f behind (s .0), behind-there f behind (s .0)) (r .1),
+    let behind = framesFile fs in
+    let front = front-there f behind (s .0) in
+    let next = behind-there f behind (s .0) in (
+      ap (wholeFrames (suc n)) (pack-cons f fs)
+          ∙ rw (whole-there f behind (s .0), front, next) (ap (λ (x : List (List ℕ)). f ∷ x) (r .0)),
+      ap (leftBehind (suc n)) (pack-cons f fs) ∙ rw (whole-there f behind (s .0), next) (r .1),
     )
 
 -- A whole frame at the front, written again, and what stands behind it are the file.
 packed-front : (file : List ℕ) → AllBytes file → standsWhole file ≡ true → packed (frontFrame file) ++ behindFront file ≡ file
-unfolding part rest
 packed-front file bytes stands =
     let size = be16At file 0 in
     let there = stands-long file stands in
@@ -81,15 +91,15 @@ packed-front file bytes stands =
     let said : two (length (frontFrame file)) ≡ part file 0 lengthBytes = ap two long ∙ two-read file 0 bytes (there .0) in
     ap (λ (head : List ℕ). head ++ frontFrame file ++ behindFront file) said
     ∙ ap (λ (front : List ℕ). front ++ behindFront file) (part-part-front file lengthBytes size)
-    ∙ take-append-drop (lengthBytes + size) file
+    ∙ part-and-rest file (lengthBytes + size)
 
 bytes-rest : (l : List ℕ) (from : ℕ) → AllBytes l → AllBytes (rest l from)
 bytes-rest l from bytes i = rw (byte-rest l from i) (bytes (from + i))
 
 -- Writing what was read, with what is left behind it, gives the file.
 pub pack-unpack-left : (n : ℕ) (file : List ℕ) → AllBytes file → framesFile (wholeFrames n file) ++ leftBehind n file ≡ file
-unfolding framesFile wholeFrames leftBehind joined
-pack-unpack-left zero file bytes = refl
+unfolding wholeFrames leftBehind
+pack-unpack-left zero file bytes = ap (λ (x : List ℕ). x ++ file) pack-none
 pack-unpack-left (suc n) file bytes =
     by (standsWhole file) refl (pack-unpack-left n (behindFront file) (bytes-rest file (lengthBytes + be16At file 0) bytes))
   where
@@ -100,10 +110,11 @@ pack-unpack-left (suc n) file bytes =
         framesFile (wholeFrames (suc n) file) ++ leftBehind (suc n) file ≡ file
     by true e more =
         rw e
-        (append-assoc (packed (frontFrame file)) (framesFile (wholeFrames n next)) (leftBehind n next)
+        (ap (λ (x : List ℕ). x ++ leftBehind n next) (pack-cons (frontFrame file) (wholeFrames n next))
+        ∙ append-assoc (packed (frontFrame file)) (framesFile (wholeFrames n next)) (leftBehind n next)
         ∙ ap (λ (x : List ℕ). packed (frontFrame file) ++ x) more
         ∙ packed-front file bytes e)
-    by false e more = rw e refl
+    by false e more = rw e (ap (λ (x : List ℕ). x ++ file) pack-none)
 
 -- So a file of bytes that leaves nothing behind is what writing its frames gives.
 pub pack-unpack : (n : ℕ) (file : List ℕ) → AllBytes file → leftBehind n file ≡ [] → framesFile (wholeFrames n file) ≡ file
@@ -114,17 +125,16 @@ pack-unpack n file bytes none =
 
 -- How long a file is, and how much is read from one.
 pub length-pack : (fs : List (List ℕ)) → length (framesFile fs) ≡ length (joined fs) + lengthBytes * length fs
-unfolding framesFile joined
-length-pack [] = refl
+length-pack [] = omega (arith, ap length pack-none, length-joined-none)
 length-pack (f ∷ fs) =
-    omega (arith, length-pack fs, length-append (packed f) (framesFile fs), length-append f (joined fs))
+    omega (arith, length-pack fs, ap length (pack-cons f fs), length-append (packed f) (framesFile fs), length-joined f fs)
 
 abbrev allRead : ℕ → List ℕ → ℕ
 allRead n file = length (joined (wholeFrames n file)) + lengthBytes * length (wholeFrames n file) + length (leftBehind n file)
 
 pub length-unpack : (n : ℕ) (file : List ℕ) → allRead n file ≡ length file
-unfolding wholeFrames leftBehind joined
-length-unpack zero file = omega arith
+unfolding wholeFrames leftBehind
+length-unpack zero file = omega (arith, length-joined-none)
 length-unpack (suc n) file = by (standsWhole file) refl (length-unpack n (behindFront file))
   where
     next : List ℕ
@@ -136,9 +146,9 @@ length-unpack (suc n) file = by (standsWhole file) refl (length-unpack n (behind
         let there = stands-long file e in
         let long = length-part file lengthBytes size (there .1) in
         let left = length-rest file (lengthBytes + size) in
-        let all = length-append (frontFrame file) (joined (wholeFrames n next)) in
+        let all = length-joined (frontFrame file) (wholeFrames n next) in
         rw e (omega (arith, more, long, left, all, there .1))
-    by false e more = rw e (omega arith)
+    by false e more = rw e (omega (arith, length-joined-none))
 
 pub unpack-few : (n : ℕ) (file : List ℕ) → length (wholeFrames n file) ≤ n
 unfolding wholeFrames

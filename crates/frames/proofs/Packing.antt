@@ -9,8 +9,9 @@ use Rattle.octets.specs.Count.{sumTo}
 use Rattle.octets.specs.Stretch.{part, put, joined, cutBy}
 use Rattle.octets.proofs.Counts.{sum-none, sum-more, sum-within, sum-below}
 use Rattle.octets.proofs.Stretches.{length-part, length-put, put-nil, put-put, put-put-front, part-none, part-all, part-more}
-use Rattle.octets.proofs.Stretches.{joined-map-more, cut-more, total, total-part}
+use Rattle.octets.proofs.Stretches.{joined-map-more, cut-none, cut-more, total, total-part}
 use Rattle.frames.specs.Frames.{lengthBytes, packed, framesFile, PermitsPack}
+use Rattle.frames.proofs.Laws.{pack-none}
 
 -- the file of the first k frames
 abbrev pub written : List ℕ → List ℕ → ℕ → List ℕ
@@ -24,9 +25,9 @@ pub record Packing (file₀ file bytes lengths : List ℕ) (from at k : ℕ) : T
   pub so-far : file ≡ put file₀ 0 (written bytes lengths k)
 
 pub pack-begin : (file bytes lengths : List ℕ) → Packing file file bytes lengths 0 0 0
-unfolding framesFile cutBy joined
 pack-begin file bytes lengths =
-    let nothing : written bytes lengths 0 ≡ [] = ap (λ (l : List ℕ). framesFile (cutBy l bytes)) (part-none lengths 0) in
+    let nothing : written bytes lengths 0 ≡ [] =
+    ap (λ (l : List ℕ). framesFile (cutBy l bytes)) (part-none lengths 0) ∙ ap framesFile (cut-none bytes) ∙ pack-none in
     record {
       within = omega arith;
       from-is = sym (sum-none (byteAt lengths));

@@ -7,13 +7,13 @@ use mathlib.Core.List.{List, [], _∷_, _++_, append-nil, append-assoc}
 use native.Mathlib.Omega.{arith}
 use native.Mathlib.Nat.{add-zero}
 use lib.Dec.{leb, ltb}
-use lib.ListN.{length, drop, set, length-append}
-use lib.Seq.{drop-drop}
+use lib.ListN.{length, set, length-append}
 use borrow.Author.Tests.{leb-true, leb-false, ltb-true, ltb-false, lt-leb, le-leb}
 use Rattle.octets.specs.Bytes.{byteAt, be16At}
 use Rattle.octets.specs.Stretch.{part, rest, put, joined, lengthsOf}
 use Rattle.octets.proofs.Stretches.{length-part, length-rest, byte-rest, part-rest, length-put, put-nil, put-put-front, set-put}
-use Rattle.octets.proofs.Stretches.{joined-one-more, lengthsOf-append, length-lengthsOf}
+use Rattle.octets.proofs.Stretches.{rest-none, rest-rest, joined-none, joined-one-more, lengthsOf-none, lengthsOf-cons}
+use Rattle.octets.proofs.Stretches.{lengthsOf-append, length-joined-none, length-lengthsOf}
 use Rattle.frames.specs.declared.Unpacked.{Unpacked}
 use Rattle.frames.specs.Frames.{lengthBytes, standsWhole, frontFrame, behindFront, wholeFrames, leftBehind, PermitsUnpack}
 use Rattle.frames.proofs.Laws.{stands-long}
@@ -53,10 +53,9 @@ module _ (file : List ℕ) (at : ℕ) (inside : at ≤ length file) where
     front-is = ap (part (rest file at) lengthBytes) (be16-rest file at) ∙ part-rest file at lengthBytes (be16At file at)
 
     behind-is : behindFront (rest file at) ≡ rest file (at + lengthBytes + be16At file at)
-    unfolding rest
     behind-is =
         let place : at + (lengthBytes + be16At (rest file at) 0) ≡ at + lengthBytes + be16At file at = omega (arith, be16-rest file at) in
-        drop-drop (lengthBytes + be16At (rest file at) 0) at file ∙ ap (λ (n : ℕ). drop n file) place
+        rest-rest file at (lengthBytes + be16At (rest file at) 0) ∙ ap (rest file) place
 
 -- as many frames are asked for as there are lengths
 pub record Unpacking (file bytes₀ lengths₀ bytes lengths : List ℕ) (count total at : ℕ) : Type 0 where
@@ -72,18 +71,18 @@ pub record Unpacking (file bytes₀ lengths₀ bytes lengths : List ℕ) (count 
   pub short : total ≤ at
 
 pub unpack-begin : (file bytes lengths : List ℕ) → Unpacking file bytes lengths bytes lengths 0 0 0
-unfolding joined lengthsOf rest
 unpack-begin file bytes lengths =
     let all : length lengths ≡ length lengths - 0 = omega arith in
+    let whole : file ≡ rest file 0 = sym (rest-none file) in
     record {
       taken = [];
-      frames-are = ap (λ (n : ℕ). wholeFrames n file) all;
-      left-are = ap (λ (n : ℕ). leftBehind n file) all;
+      frames-are = ap (λ (n : ℕ). wholeFrames n file) all ∙ ap (wholeFrames (length lengths - 0)) whole;
+      left-are = ap (λ (n : ℕ). leftBehind n file) all ∙ ap (leftBehind (length lengths - 0)) whole;
       counted = refl;
       few = omega arith;
-      total-is = refl;
-      bytes-now = sym (put-nil bytes 0);
-      lengths-now = sym (put-nil lengths 0);
+      total-is = sym length-joined-none;
+      bytes-now = sym (ap (put bytes 0) joined-none ∙ put-nil bytes 0);
+      lengths-now = sym (ap (put lengths 0) lengthsOf-none ∙ put-nil lengths 0);
       inside = omega arith;
       short = omega arith;
     }
@@ -106,7 +105,7 @@ module _ {file bytes₀ lengths₀ bytes lengths : List ℕ} {count total at : �
     pub unpack-turn : (size : ℕ) (bytes′ lengths′ : List ℕ) → size ≡ be16At file at →
         bytes′ ≡ put bytes total (part file (at + lengthBytes) size) → lengths′ ≡ set lengths count size →
         Unpacking file bytes₀ lengths₀ bytes′ lengths′ (count + 1) (total + size) (at + lengthBytes + size)
-    unfolding wholeFrames leftBehind joined lengthsOf
+    unfolding wholeFrames leftBehind
     unpack-turn size bytes′ lengths′ e b l =
         let f = part file (at + lengthBytes) size in
         let there = frame-there file at (u .inside) stands in
@@ -124,7 +123,9 @@ module _ {file bytes₀ lengths₀ bytes lengths : List ℕ} {count total at : �
         ap (λ (n : ℕ). leftBehind n (rest file at)) more ∙ rw (stands, behind-next) refl in
         let joined-more : joined (u .taken ++ (f ∷ [])) ≡ J ++ f = joined-one-more (u .taken) f in
         let lengths-more : lengthsOf (u .taken ++ (f ∷ [])) ≡ L ++ (size ∷ []) =
-        lengthsOf-append (u .taken) (f ∷ []) ∙ ap (λ (n : ℕ). L ++ (n ∷ [])) long in
+        lengthsOf-append (u .taken) (f ∷ [])
+        ∙ ap (λ (l : List ℕ). L ++ l) (lengthsOf-cons f [] ∙ ap (λ (l : List ℕ). length f ∷ l) lengthsOf-none)
+        ∙ ap (λ (n : ℕ). L ++ (n ∷ [])) long in
         record {
           taken = u .taken ++ (f ∷ []);
           frames-are = u .frames-are ∙ ap (λ (x : List (List ℕ)). u .taken ++ x) next-frames ∙ sym (append-assoc (u .taken) (f ∷ []) _);

@@ -12,7 +12,7 @@ use Rattle.octets.specs.Bytes.{byteAt}
 use Rattle.octets.specs.Count.{sumTo}
 use Rattle.octets.specs.Stretch.{part, put, joined, lengthsOf, cutBy}
 use Rattle.octets.proofs.Counts.{true-or-false}
-use Rattle.octets.proofs.Stretches.{part-put, length-lengthsOf, cut-joined, total, total-lengthsOf, total-part, part-all}
+use Rattle.octets.proofs.Stretches.{sliced-front, part-put, length-lengthsOf, cut-joined, total, total-lengthsOf, total-part, part-all}
 use Rattle.text.specs.Text.{Wrote}
 use Rattle.tool.specs.Refused.{refusedLine}
 use Rattle.mpeg.specs.declared.reader.ReadBack.{ReadBack}
@@ -111,16 +111,18 @@ module _ (call : Call) where
     count-is = ap (λ (x : ReadOutcome). x .answer .frames) is-back
 
     front-bytes : take (r .bytes) output′ ≡ joined frames
-    unfolding got-back part
+    unfolding got-back
     front-bytes =
-        ap (λ (x : ReadOutcome). part (x .output) 0 (r .bytes)) is-back
+        sliced-front output′ (r .bytes)
+        ∙ ap (λ (x : ReadOutcome). part (x .output) 0 (r .bytes)) is-back
         ∙ ap (part (put output 0 (joined frames)) 0) bytes-are
         ∙ part-put output 0 (joined frames) (omega (arith, bytes-fit, call .output-long))
 
     front-lengths : take (r .frames) lengths′ ≡ lengthsOf frames
-    unfolding got-back part
+    unfolding got-back
     front-lengths =
-        ap (λ (x : ReadOutcome). part (x .lengths) 0 (r .frames)) is-back
+        sliced-front lengths′ (r .frames)
+        ∙ ap (λ (x : ReadOutcome). part (x .lengths) 0 (r .frames)) is-back
         ∙ ap (part (put lengths 0 (lengthsOf frames)) 0) (count-is ∙ sym (length-lengthsOf frames))
         ∙ part-put lengths 0 (lengthsOf frames) (omega (arith, length-lengthsOf frames, frames-fit, call .lengths-long))
 

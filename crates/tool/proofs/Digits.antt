@@ -6,14 +6,12 @@ use mathlib.Core.Bool.{Bool, true, false, cond, _&&_, _||_, true≢false}
 use mathlib.Core.List.{List, [], _∷_}
 use native.Mathlib.Omega.{arith}
 use native.Mathlib.Nat.{mul-suc, mul-le-mul-left, mul-le-mul-right}
-use native.Mathlib.Numerals.{add-one}
 use lib.Dec.{eqb, leb, ltb}
-use lib.ListN.{length, drop}
-use lib.Seq.{drop-cons}
+use lib.ListN.{length}
 use borrow.Author.Tests.{leb-true, ltb-true, lt-ltb, le-ltb}
 use Rattle.octets.specs.Bytes.{byteAt}
 use Rattle.octets.specs.Stretch.{rest}
-use Rattle.octets.proofs.Stretches.{length-rest}
+use Rattle.octets.proofs.Stretches.{length-rest, rest-byte, rest-past}
 use Rattle.tool.specs.declared.number.Given.{Given}
 use Rattle.tool.specs.Number.{digitOf, areDigits, valueFrom, valueOf, none, saidBy, isHexadecimal, said}
 
@@ -32,18 +30,6 @@ value-grows base value [] h = omega arith
 value-grows base value (byte ∷ more) h =
     let times : 1 * value ≤ base * value = mul-le-mul-right value h in
     omega (arith, times, value-grows base (base * value + digitOf byte) more h)
-
--- the digits that are left, the first and those behind it
-rest-more : (l : List ℕ) (i : ℕ) → i < length l → rest l i ≡ byteAt l i ∷ rest l (i + 1)
-unfolding rest
-rest-more l i h = drop-cons l i 0 h ∙ ap (λ (n : ℕ). byteAt l i ∷ drop n l) (sym (add-one i))
-
-rest-end : (l : List ℕ) (i : ℕ) → length l ≤ i → rest l i ≡ []
-rest-end l i h = empty (rest l i) (omega (arith, length-rest l i))
-  where
-    empty : (x : List ℕ) → length x ≡ 0 → x ≡ []
-    empty [] e = refl
-    empty (a ∷ x) e = absurd (omega (arith, e))
 
 pub record Reading (base greatest : ℕ) (text : List ℕ) (from value i : ℕ) : Type 0 where
   pub inside : i ≤ length text
@@ -70,7 +56,7 @@ module _ (base greatest : ℕ) (text : List ℕ) (from : ℕ) (some : 1 ≤ base
       pub read-turn : digit < base → value ≤ greatest → Reading base greatest text from (base * value + digit) (i + 1)
       unfolding areDigits valueFrom
       read-turn small room =
-          let next = rest-more text i more in
+          let next = rest-byte text i more in
           let is-digit : ltb (digitOf (byteAt text i)) base ≡ true = ap (λ (d : ℕ). ltb d base) (sym e) ∙ lt-ltb digit base small in
           let room-left : base * suc value ≤ limit = mul-le-mul-left base (omega (arith, room)) in
           record {
@@ -90,7 +76,7 @@ module _ (base greatest : ℕ) (text : List ℕ) (from : ℕ) (some : 1 ≤ base
       read-other large =
           let no-digit : ltb (digitOf (byteAt text i)) base ≡ false = ap (λ (d : ℕ). ltb d base) (sym e) ∙ le-ltb digit base large in
           let wrong : areDigits base digits ≡ false =
-          r .digits-left ∙ ap (areDigits base) (rest-more text i more)
+          r .digits-left ∙ ap (areDigits base) (rest-byte text i more)
           ∙ ap (λ (t : Bool). t && areDigits base (rest text (i + 1))) no-digit in
           rw wrong (by (ltb 0 (length digits)))
         where
@@ -100,7 +86,7 @@ module _ (base greatest : ℕ) (text : List ℕ) (from : ℕ) (some : 1 ≤ base
 
       said-next : valueOf base digits ≡ valueFrom base (base * value + digitOf (byteAt text i)) (rest text (i + 1))
       unfolding valueFrom
-      said-next = r .value-left ∙ ap (valueFrom base value) (rest-more text i more)
+      said-next = r .value-left ∙ ap (valueFrom base value) (rest-byte text i more)
 
       read-long : greatest < value → none ≡ saidBy base limit digits
       unfolding saidBy
@@ -126,7 +112,7 @@ module _ (base greatest : ℕ) (text : List ℕ) (from : ℕ) (some : 1 ≤ base
     -- no digit more
     module _ (past : length text ≤ i) where
       at-end : rest text i ≡ []
-      at-end = rest-end text i past
+      at-end = rest-past text i past
 
       pub read-none : length text ≤ from → none ≡ saidBy base limit digits
       unfolding saidBy

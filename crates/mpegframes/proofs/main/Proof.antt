@@ -1,7 +1,6 @@
 -- `mpegframes::main` is safe since what is written out lies in the room for it.
-use mathlib.Core.Path.{sym}
 use native.Mathlib.Omega.{arith}
-use lib.Seq.{length-take-le}
+use Rattle.octets.proofs.Stretches.{length-sliced}
 use Rattle.text.proofs.Writing.{wrote-length}
 use borrow.Author.Needs.{needs}
 use Rattle.mpegframes.proofs.main.Statement.{statement}
@@ -43,7 +42,7 @@ array-share-prefix-text c = search needs
 slice-aggregate-write-output : tie.Need-slice-aggregate-write-output
 slice-aggregate-write-output c =
     let w = c .before .before .get-back .ensures in
-    sym (length-take-le _ _ (omega (arith, w .next-place, w .inside, wrote-length w)))
+    length-sliced _ _ (omega (arith, w .next-place, w .inside, wrote-length w))
 
 write-output-requires : tie.Need-write-output-requires
 write-output-requires c κs = search needs

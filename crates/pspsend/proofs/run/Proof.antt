@@ -1,8 +1,6 @@
 -- `pspsend::run` is safe since the frames lie in the room for them.
-use mathlib.Core.Path.{sym}
 use native.Mathlib.Omega.{arith}
-use lib.ListN.{length-take}
-use lib.Seq.{length-take-le}
+use Rattle.octets.proofs.Stretches.{length-sliced}
 use borrow.Author.Needs.{needs}
 use Rattle.pspsend.proofs.run.Statement.{statement}
 use Rattle.pspsend.proofs.run.Tie as tie
@@ -41,20 +39,21 @@ array-share-prefix-bytes : tie.Need-array-share-prefix-bytes
 array-share-prefix-bytes c = search needs
 
 slice-aggregate-send : tie.Need-slice-aggregate-send
-slice-aggregate-send c = sym (length-take-le _ _ (array-share-prefix-bytes (c .before)))
+slice-aggregate-send c = length-sliced _ _ (array-share-prefix-bytes (c .before))
 
 array-share-prefix-lengths : tie.Need-array-share-prefix-lengths
 array-share-prefix-lengths c = search needs
 
 slice-aggregate-send-2 : tie.Need-slice-aggregate-send-2
-slice-aggregate-send-2 c = sym (length-take-le _ _ (array-share-prefix-lengths (c .before)))
+slice-aggregate-send-2 c = length-sliced _ _ (array-share-prefix-lengths (c .before))
 
 send-requires : tie.Need-send-requires
 send-requires c κs =
     let taken = c .before .before .before .before in
     let with-bytes = taken .before .before .before .before .before in
     let u = taken .take-frames in
-    omega (arith, length-take (u .result .bytes) (u .last .1 .0), u .kept .1 .0, with-bytes .file-room2 .ensures)
+    let front = slice-aggregate-send (c .before .before) in
+    omega (arith, front, u .ensures .short, u .kept .1 .0, with-bytes .file-room2 .ensures)
 
 returns : tie.Need-returns
 returns c = search needs

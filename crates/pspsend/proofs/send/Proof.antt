@@ -1,6 +1,5 @@
 -- `pspsend::send` is safe since what is made lies in the rooms for it.
-use mathlib.Core.Path.{sym}
-use lib.Seq.{length-take-le}
+use Rattle.octets.proofs.Stretches.{length-sliced}
 use borrow.Author.Needs.{needs}
 use Rattle.pspsend.proofs.send.Statement.{statement}
 use Rattle.pspsend.proofs.send.Tie as tie
@@ -30,7 +29,7 @@ array-share-prefix-contents : tie.Need-array-share-prefix-contents
 array-share-prefix-contents c = search needs
 
 slice-aggregate-write-output : tie.Need-slice-aggregate-write-output
-slice-aggregate-write-output c = sym (length-take-le _ _ (array-share-prefix-contents (c .before)))
+slice-aggregate-write-output c = length-sliced _ _ (array-share-prefix-contents (c .before))
 
 write-output-requires : tie.Need-write-output-requires
 write-output-requires c κs = search needs
@@ -39,7 +38,7 @@ array-share-prefix-bodies : tie.Need-array-share-prefix-bodies
 array-share-prefix-bodies c = search needs
 
 slice-aggregate-write-output-2 : tie.Need-slice-aggregate-write-output-2
-slice-aggregate-write-output-2 c = sym (length-take-le _ _ (array-share-prefix-bodies (c .before)))
+slice-aggregate-write-output-2 c = length-sliced _ _ (array-share-prefix-bodies (c .before))
 
 write-output-requires-2 : tie.Need-write-output-requires-2
 write-output-requires-2 c κs = search needs

@@ -1,6 +1,5 @@
 -- `tool::refuse` is safe since the line lies in the room for it.
-use mathlib.Core.Path.{sym}
-use lib.Seq.{length-take-le}
+use Rattle.octets.proofs.Stretches.{length-sliced}
 use borrow.Author.Needs.{needs}
 use Rattle.tool.proofs.refuse.Statement.{statement}
 use Rattle.tool.proofs.refuse.Tie as tie
@@ -15,7 +14,7 @@ array-share-prefix-text : tie.Need-array-share-prefix-text
 array-share-prefix-text c = search needs
 
 slice-aggregate-write-error : tie.Need-slice-aggregate-write-error
-slice-aggregate-write-error c = sym (length-take-le _ _ (array-share-prefix-text (c .before)))
+slice-aggregate-write-error c = length-sliced _ _ (array-share-prefix-text (c .before))
 
 write-error-requires : tie.Need-write-error-requires
 write-error-requires c κs = search needs

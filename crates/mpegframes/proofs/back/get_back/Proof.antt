@@ -1,7 +1,7 @@
 -- `mpegframes::back::get_back` is right by its two ways out: the packets are refused, or the frames that they bring back are packed.
 use mathlib.Core.Path.{sym}
 use native.Mathlib.Omega.{arith}
-use lib.Seq.{length-take-le}
+use Rattle.octets.proofs.Stretches.{length-sliced}
 use Rattle.text.proofs.Writing.{wrote-as}
 use Rattle.mpegframes.proofs.Enough.{Call, bytes-inside, frames-inside, back-refused, pack-asks, pack-gives}
 use borrow.Author.Needs.{needs}
@@ -73,7 +73,7 @@ array-share-prefix-output c =
     omega (arith, bytes-inside (call b) (c .if1 .left), b .read .kept .1 .0, output-made b .output-room .ensures)
 
 slice-aggregate-pack : tie.Need-slice-aggregate-pack
-slice-aggregate-pack c = sym (length-take-le _ _ (array-share-prefix-output (c .before)))
+slice-aggregate-pack c = length-sliced _ _ (array-share-prefix-output (c .before))
 
 array-share-prefix-lengths : tie.Need-array-share-prefix-lengths
 array-share-prefix-lengths c =
@@ -82,7 +82,7 @@ array-share-prefix-lengths c =
     omega (arith, frames-inside (call b) (test .if1 .left), b .read .kept .1 .1 .0, lengths-made b .lengths-room .ensures)
 
 slice-aggregate-pack-2 : tie.Need-slice-aggregate-pack-2
-slice-aggregate-pack-2 c = sym (length-take-le _ _ (array-share-prefix-lengths (c .before)))
+slice-aggregate-pack-2 c = length-sliced _ _ (array-share-prefix-lengths (c .before))
 
 pack-requires : tie.Need-pack-requires
 pack-requires c κs =
