@@ -40,14 +40,19 @@ unfolding listing listingBy lineAt line columns decimal digits column fileRefusa
     ahead next part rest put joined lengthsOf any least sumTo upTo
 listed = refl
 
-pub traced : trace capture
-    ≡ ascii "n what code frames bytes dropped gap\n"
+-- session 0x101 is open and has received packet A: two bytes are held
+abbrev behind-A : List ℕ
+behind-A =
+    ascii "n what code frames bytes dropped gap\n"
     ++ ascii "0 open 0 0 0 0 0\n"
     ++ ascii " row 0 257 1\n"
     ++ ascii "1 data 0 1 6 0 0\n"
     ++ ascii " frame 111213141516\n"
     ++ ascii " row 0 257 1\n"
     ++ ascii " flow 0 1 0 2 2122\n"
+
+pub traced : trace capture
+    ≡ behind-A
     ++ ascii "2 data 0 1 9 0 0\n"
     ++ ascii " frame 212223242526272829\n"
     ++ ascii " row 0 257 1\n"
@@ -181,13 +186,7 @@ by-either =
     ∷ record { kind = 5; body = [] } ∷ [])
 
 pub either-traced : trace by-either
-    ≡ ascii "n what code frames bytes dropped gap\n"
-    ++ ascii "0 open 0 0 0 0 0\n"
-    ++ ascii " row 0 257 1\n"
-    ++ ascii "1 data 0 1 6 0 0\n"
-    ++ ascii " frame 111213141516\n"
-    ++ ascii " row 0 257 1\n"
-    ++ ascii " flow 0 1 0 2 2122\n"
+    ≡ behind-A
     ++ ascii "2 data 15 0 0 0 0\n"
     ++ ascii " row 0 257 1\n"
     ++ ascii " flow 0 1 0 2 2122\n"

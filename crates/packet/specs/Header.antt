@@ -97,37 +97,37 @@ sub p = rest (p .bytes) (lead p + idLength)
 abbrev pub headerLength : ℕ
 headerLength = 4
 
--- what V and S are worth in their byte, and the lower bit of H
+-- V, S and the lower bit of H: what each is worth in its byte, and what it says
 abbrev pub vBit : ℕ
 vBit = 128
-
-abbrev pub sBit : ℕ
-sBit = 64
-
-abbrev pub hBit : ℕ
-hBit = 16
-
--- how many values H has, the flow ID, and the count of segments; the flow ID and the count stand in the low bits of their bytes
-abbrev pub hValues : ℕ
-hValues = 4
-
-abbrev pub flowValues : ℕ
-flowValues = 8
-
-abbrev pub countValues : ℕ
-countValues = 128
 
 abbrev pub vSet : List ℕ → Bool
 vSet sub = eqb (byteAt sub 0 / vBit % 2) 1
 
+abbrev pub sBit : ℕ
+sBit = 64
+
 abbrev pub sSet : List ℕ → Bool
 sSet sub = eqb (byteAt sub 0 / sBit % 2) 1
+
+abbrev pub hBit : ℕ
+hBit = 16
+
+abbrev pub hValues : ℕ
+hValues = 4
 
 abbrev pub hBits : List ℕ → ℕ
 hBits sub = byteAt sub 0 / hBit % hValues
 
+-- the flow ID and the count of segments, in the low bits of their bytes: how many values each has, and what it says; and the number
+abbrev pub flowValues : ℕ
+flowValues = 8
+
 abbrev pub flowId : List ℕ → ℕ
 flowId sub = byteAt sub 0 % flowValues
+
+abbrev pub countValues : ℕ
+countValues = 128
 
 abbrev pub segmentCount : List ℕ → ℕ
 segmentCount sub = byteAt sub 1 % countValues
