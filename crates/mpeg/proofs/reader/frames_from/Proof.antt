@@ -17,6 +17,20 @@ Inv-loop packets start end standing frames₀ bytes₀ from₀ frames bytes from
 abbrev μ-loop : tie.MeasureT-loop
 μ-loop packets start end standing frames₀ bytes₀ from₀ frames bytes from = end - from
 
+-- The places of a turn: its start, where all bytes have been looked at for 0xFF, and where the length has been read that the frame says; and the way back
+-- from each.
+abbrev Turn : Type 0
+Turn = tie.In-loop Inv-loop μ-loop
+
+abbrev start : Turn → tie.Start Inv-loop μ-loop
+start t = t .before .before .before
+
+abbrev filled : tie.After-all-fill Inv-loop μ-loop → Turn
+filled f = f .before .before .before
+
+abbrev said : tie.After-said-length Inv-loop μ-loop → Turn
+said r = r .before .before .before .before .before
+
 loop-holds : tie.Need-loop-holds Inv-loop μ-loop
 loop-holds c = finding-begin (c .before .pre)
 
@@ -31,19 +45,20 @@ unsound-requires c κs = search needs
 
 returns : tie.Need-returns Inv-loop μ-loop
 returns c =
-    finding-spoilt (c .before .before .before .before .before .before .before .before .pre)
-    (c .before .before .before .before .before .before .loop .inv) (c .before .before .before .before .before .loop-test .taken) (c .unsound .ensures)
-    (c .before .before .before .if1 .taken) (c .before .before .all-fill .result) (c .before .before .all-fill .ensures)
-    (not-true _ (c .before .if2 .taken))
+    let f = c .before .before in
+    let t = filled f in
+    finding-spoilt (start t .pre) (t .before .loop .inv) (t .loop-test .taken) (c .unsound .ensures) (f .before .if1 .taken) (f .all-fill .result)
+    (f .all-fill .ensures) (not-true _ (c .before .if2 .taken))
 
 front-of-none-requires : tie.Need-front-of-none-requires Inv-loop μ-loop
 front-of-none-requires c κs = search needs
 
 returns-2 : tie.Need-returns-2 Inv-loop μ-loop
 returns-2 c =
-    finding-filled (c .before .before .before .before .before .before .before .before .pre)
-    (c .before .before .before .before .before .before .loop .inv) (c .before .before .before .before .before .loop-test .taken)
-    (c .before .before .all-fill .result) (c .before .before .all-fill .ensures) (not-false _ (c .before .if2 .left)) (c .front-of-none .ensures)
+    let f = c .before .before in
+    let t = filled f in
+    finding-filled (start t .pre) (t .before .loop .inv) (t .loop-test .taken) (f .all-fill .result) (f .all-fill .ensures)
+    (not-false _ (c .before .if2 .left)) (c .front-of-none .ensures)
 
 sub-with-bytes : tie.Need-sub-with-bytes Inv-loop μ-loop
 sub-with-bytes c = search needs
@@ -64,47 +79,42 @@ unsound-requires-2 c κs = search needs
 
 returns-3 : tie.Need-returns-3 Inv-loop μ-loop
 returns-3 c =
-    finding-long (c .before .before .before .before .before .before .before .before .before .before .pre)
-    (c .before .before .before .before .before .before .before .before .loop .inv)
-    (c .before .before .before .before .before .before .before .loop-test .taken) (c .before .before .before .before .before .if1 .left)
-    (c .before .before .before .with-bytes .ensures .1 [] (c .before .before .before .before .front-of-none2 .ensures))
-    (c .before .before .said-length .ensures) (c .unsound2 .ensures) (omega (arith, c .before .if3 .taken))
+    let r = c .before .before in
+    let t = said r in
+    finding-long (start t .pre) (t .before .loop .inv) (t .loop-test .taken) (r .before .before .before .if1 .left)
+    (r .before .with-bytes .ensures .1 [] (r .before .before .front-of-none2 .ensures)) (r .said-length .ensures) (c .unsound2 .ensures)
+    (omega (arith, c .before .if3 .taken))
 
 returns-4 : tie.Need-returns-4 Inv-loop μ-loop
 returns-4 c =
-    finding-open (c .before .before .before .before .before .before .before .before .before .before .before .pre)
-    (c .before .before .before .before .before .before .before .before .before .loop .inv)
-    (c .before .before .before .before .before .before .before .before .loop-test .taken)
-    (c .before .before .before .before .before .before .if1 .left)
-    (c .before .before .before .before .with-bytes .ensures .1 [] (c .before .before .before .before .before .front-of-none2 .ensures))
-    (c .before .before .before .said-length .ensures) (c .if4 .taken) (c .before .before .if3 .left)
+    let r = c .before .before .before in
+    let t = said r in
+    finding-open (start t .pre) (t .before .loop .inv) (t .loop-test .taken) (r .before .before .before .if1 .left)
+    (r .before .with-bytes .ensures .1 [] (r .before .before .front-of-none2 .ensures)) (r .said-length .ensures) (c .if4 .taken)
+    (c .before .before .if3 .left)
 
 loop-again : tie.Need-loop-again Inv-loop μ-loop
 loop-again c =
-    finding-turn (c .before .before .before .before .before .before .before .before .before .before .before .pre)
-    (c .before .before .before .before .before .before .before .before .before .loop .inv)
-    (c .before .before .before .before .before .before .before .before .loop-test .taken)
-    (c .before .before .before .before .before .before .if1 .left)
-    (c .before .before .before .before .with-bytes .ensures .1 [] (c .before .before .before .before .before .front-of-none2 .ensures))
-    (c .before .before .before .said-length .ensures) (c .if4 .left) (c .before .before .if3 .left)
+    let r = c .before .before .before in
+    let t = said r in
+    finding-turn (start t .pre) (t .before .loop .inv) (t .loop-test .taken) (r .before .before .before .if1 .left)
+    (r .before .with-bytes .ensures .1 [] (r .before .before .front-of-none2 .ensures)) (r .said-length .ensures) (c .if4 .left)
+    (c .before .before .if3 .left)
 
 add-frames : tie.Need-add-frames Inv-loop μ-loop
 add-frames c =
     let t = loop-again c in
-    let pre = c .before .before .before .before .before .before .before .before .before .before .before .pre in
-    omega (arith, t .in-packet, t .few-bytes, t .few-frames, pre .in-packets)
+    omega (arith, t .in-packet, t .few-bytes, t .few-frames, start (said (c .before .before .before)) .pre .in-packets)
 
 add-bytes : tie.Need-add-bytes Inv-loop μ-loop
 add-bytes c =
     let t = loop-again c in
-    let pre = c .before .before .before .before .before .before .before .before .before .before .before .pre in
-    omega (arith, t .in-packet, t .few-bytes, t .few-frames, pre .in-packets)
+    omega (arith, t .in-packet, t .few-bytes, t .few-frames, start (said (c .before .before .before)) .pre .in-packets)
 
 add-from : tie.Need-add-from Inv-loop μ-loop
 add-from c =
     let t = loop-again c in
-    let pre = c .before .before .before .before .before .before .before .before .before .before .before .pre in
-    omega (arith, t .in-packet, t .few-bytes, t .few-frames, pre .in-packets)
+    omega (arith, t .in-packet, t .few-bytes, t .few-frames, start (said (c .before .before .before)) .pre .in-packets)
 
 loop-less : tie.Need-loop-less Inv-loop μ-loop
 loop-less c = let t = loop-again c in omega (arith, t .in-packet, c .before .before .before .said-length .ensures)

@@ -6,6 +6,19 @@ use borrow.Author.Needs.{needs}
 use Rattle.mpeg.proofs.reader.without_flag.Statement.{statement}
 use Rattle.mpeg.proofs.reader.without_flag.Tie as tie
 
+-- The places: where the frame's length has been read, and where the next count is known; and the way back from each.
+abbrev Said : Type 0
+Said = tie.After-said-length
+
+abbrev Counted : Type 0
+Counted = tie.After-next-count
+
+abbrev start : Said → tie.Start
+start r = r .before .before .before .before .before .before
+
+abbrev said : Counted → Said
+said n = n .before .before .before
+
 unsound-requires : tie.Need-unsound-requires
 unsound-requires c κs = search needs
 
@@ -29,12 +42,12 @@ unsound-requires-2 c κs = search needs
 
 returns-2 : tie.Need-returns-2
 returns-2 c =
-    let a = c .before .before .before .before .before .before .before .before .before .args in
+    let r = c .before .before .before in
+    let a = start r .args in
     λ s may is.
-    flagless-spoilt (a .packets .now) (a .at) (c .before .before .before .before .before .before .before .before .before .pre .0) s may is
-    (c .before .before .before .before .before .if1 .left)
-    (c .before .before .before .before .with-bytes .ensures .1 (s .begun) (ap (λ (st : Standing). st .begun) is))
-    (c .before .before .before .said-length .ensures) (c .before .if2 .taken) (c .unsound2 .ensures)
+    flagless-spoilt (a .packets .now) (a .at) (start r .pre .0) s may is (r .before .before .if1 .left)
+    (r .before .with-bytes .ensures .1 (s .begun) (ap (λ (st : Standing). st .begun) is)) (r .said-length .ensures) (c .before .if2 .taken)
+    (c .unsound2 .ensures)
 
 next-count-requires : tie.Need-next-count-requires
 next-count-requires c κs = search needs
@@ -50,26 +63,23 @@ add-t15 c = search needs
 
 returns-3 : tie.Need-returns-3
 returns-3 c =
-    let a = c .before .before .before .before .before .before .before .before .before .before .before .before .before .before .args in
+    let n = c .before .before .before .before .before in
+    let r = said n in
+    let a = start r .args in
     λ s may is.
-    flagless-ended (a .packets .now) (a .at)
-    (c .before .before .before .before .before .before .before .before .before .before .before .before .before .before .pre .0) s may is
-    (c .before .before .before .before .before .before .before .before .before .before .if1 .left)
-    (c .before .before .before .before .before .before .before .before .before .with-bytes .ensures .1 (s .begun) (ap (λ (st : Standing). st .begun) is))
-    (c .before .before .before .before .before .before .before .before .said-length .ensures)
-    (c .before .before .before .before .before .before .if2 .left) (c .before .before .before .before .before .next-count .ensures)
-    (c .before .before .before .if3 .taken) (c .before .before .front-of-none .ensures)
+    flagless-ended (a .packets .now) (a .at) (start r .pre .0) s may is (r .before .before .if1 .left)
+    (r .before .with-bytes .ensures .1 (s .begun) (ap (λ (st : Standing). st .begun) is)) (r .said-length .ensures) (n .before .if2 .left)
+    (n .next-count .ensures) (c .before .before .before .if3 .taken) (c .before .before .front-of-none .ensures)
 
 returns-4 : tie.Need-returns-4
 returns-4 c =
-    let a = c .before .before .before .before .before .before .before .before .before .before .before .args in
+    let n = c .before .before in
+    let r = said n in
+    let a = start r .args in
     λ s may is.
-    flagless-more (a .packets .now) (a .at)
-    (c .before .before .before .before .before .before .before .before .before .before .before .pre .0) s may is
-    (c .before .before .before .before .before .before .before .if1 .left)
-    (c .before .before .before .before .before .before .with-bytes .ensures .1 (s .begun) (ap (λ (st : Standing). st .begun) is))
-    (c .before .before .before .before .before .said-length .ensures) (c .before .before .before .if2 .left) (c .before .before .next-count .ensures)
-    (c .if3 .left)
+    flagless-more (a .packets .now) (a .at) (start r .pre .0) s may is (r .before .before .if1 .left)
+    (r .before .with-bytes .ensures .1 (s .begun) (ap (λ (st : Standing). st .begun) is)) (r .said-length .ensures) (n .before .if2 .left)
+    (n .next-count .ensures) (c .if3 .left)
 
 pub without-flag-spec : {M : Type 1} → statement M
 without-flag-spec =

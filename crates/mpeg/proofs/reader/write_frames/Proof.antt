@@ -14,6 +14,13 @@ Inv-loop packets output₀ total standing₀ at₀ output standing at = Surveyed
 abbrev μ-loop : tie.MeasureT-loop
 μ-loop packets output₀ total standing₀ at₀ output standing at = length packets - at
 
+-- the places of a turn: its packet read, and its bytes written
+abbrev Read : Type 0
+Read = tie.After-read-packet Inv-loop μ-loop
+
+abbrev read : tie.After-slice-known2 Inv-loop μ-loop → Read
+read c = c .before .before .before .before .before .before
+
 at-start-requires : tie.Need-at-start-requires Inv-loop μ-loop
 at-start-requires c κs = search needs
 
@@ -49,22 +56,22 @@ write-bytes-requires c κs =
 
 add-at : tie.Need-add-at Inv-loop μ-loop
 add-at c =
-    let i = c .before .before .before .before .before .before .before .before .loop .inv in
-    let more = c .before .before .before .before .before .before .before .loop-test .taken in
-    omega (arith, pour-inside (i .1) (i .0) more)
+    let turn = read c .before in
+    let i = turn .before .loop .inv in
+    omega (arith, pour-inside (i .1) (i .0) (turn .loop-test .taken))
 
 loop-less : tie.Need-loop-less Inv-loop μ-loop
 loop-less c =
-    let i = c .before .before .before .before .before .before .before .before .loop .inv in
-    let more = c .before .before .before .before .before .before .before .loop-test .taken in
-    omega (arith, pour-inside (i .1) (i .0) more)
+    let turn = read c .before in
+    let i = turn .before .loop .inv in
+    omega (arith, pour-inside (i .1) (i .0) (turn .loop-test .taken))
 
 loop-again : tie.Need-loop-again Inv-loop μ-loop
 loop-again c =
-    let i = c .before .before .before .before .before .before .before .before .loop .inv in
-    let more = c .before .before .before .before .before .before .before .loop-test .taken in
-    let next = c .before .before .before .before .before .before .read-packet in
-    (i .0, pour-turn (i .1) (i .0) more (next .result) (next .ensures) _ (c .before .before .write-bytes .ensures))
+    let turn = read c .before in
+    let i = turn .before .loop .inv in
+    let next = read c .read-packet in
+    (i .0, pour-turn (i .1) (i .0) (turn .loop-test .taken) (next .result) (next .ensures) _ (c .before .before .write-bytes .ensures))
 
 same-length : tie.Need-same-length Inv-loop μ-loop
 same-length c = let i = c .before .loop .inv in pour-long (i .1) (i .0)

@@ -17,6 +17,22 @@ Inv-loop frames lengths place begun₀ start₀ k₀ begun start k = Surveying f
 abbrev μ-loop : tie.MeasureT-loop
 μ-loop frames lengths place begun₀ start₀ k₀ begun start k = length lengths - k
 
+-- The places of a turn: its start, and where the frame's size is known; and the way back from each.
+abbrev Turn : Type 0
+Turn = tie.In-loop Inv-loop μ-loop
+
+abbrev Measured : Type 0
+Measured = tie.After-wide-u16 Inv-loop μ-loop
+
+abbrev start : Turn → tie.Start Inv-loop μ-loop
+start t = t .before .before .before .before
+
+abbrev turnOf : Measured → Turn
+turnOf m = m .before .before
+
+abbrev measured : tie.Else1 Inv-loop μ-loop → Measured
+measured e = e .before .before
+
 loop-holds : tie.Need-loop-holds Inv-loop μ-loop
 loop-holds c = let a = c .before .before .args in survey-begin (a .frames .now) (a .lengths .now) (a .place)
 
@@ -45,19 +61,18 @@ returns c =
 
 -- the frame is sound, so it ends within the bytes
 inside : (c : tie.Else1 Inv-loop μ-loop) →
-    c .before .before .before .before .before .loop .start + c .before .before .wide-u16 .result ≤
-    length (c .before .before .before .before .before .before .before .before .args .frames .now)
+    turnOf (measured c) .before .loop .start + measured c .wide-u16 .result ≤ length (start (turnOf (measured c)) .args .frames .now)
 inside c =
-    let size = c .before .before in
-    let turn = size .before .before in
+    let size = measured c in
+    let turn = turnOf size in
     survey-inside (turn .before .loop .inv) (size .wide-u16 .result) (turn .loop-test .taken) (size .wide-u16 .ensures .0)
     (sym (c .if1 .left) ∙ c .before .bad-frame .ensures)
 
 add-begun : tie.Need-add-begun Inv-loop μ-loop
-add-begun c = omega (arith, inside (c .before), c .before .before .before .before .before .before .before .before .before .good .0 .0)
+add-begun c = omega (arith, inside (c .before), start (turnOf (measured (c .before))) .good .0 .0)
 
 add-start : tie.Need-add-start Inv-loop μ-loop
-add-start c = omega (arith, inside (c .before), c .before .before .before .before .before .before .before .before .before .good .0 .0)
+add-start c = omega (arith, inside (c .before), start (turnOf (measured (c .before))) .good .0 .0)
 
 add-k : tie.Need-add-k Inv-loop μ-loop
 add-k c = search needs

@@ -10,9 +10,15 @@ use borrow.Author.Needs.{needs}
 use Rattle.mpeg.proofs.writer.write_data.Statement.{statement}
 use Rattle.mpeg.proofs.writer.write_data.Tie as tie
 
--- where a pointer is written
+-- The places: behind the header without the flag, where a pointer is written, and behind the header with the flag; and the way back from each.
+abbrev headed : tie.After-write-header → tie.Start
+headed h = h .before .before .before .before .before
+
 abbrev begin : tie.Else1 → tie.Start
 begin c = c .before .before .before
+
+abbrev flagged : tie.After-write-header2 → tie.Else1
+flagged h = h .before .before
 
 near : (c : tie.Else1) → begin c .args .left < payloadLength
 near c = omega (arith, c .if1 .left)
@@ -28,12 +34,13 @@ same-length c = search needs
 
 returns : tie.Need-returns
 returns c =
-    let s = c .before .before .before .before .before .before .before .before .before .before .before in
+    let h = c .before .before .before .before .before .before in
+    let s = headed h in
     let a = s .args in
-    let far = c .before .before .before .before .before .before .before .before .if1 .taken in (
+    let far = h .before .before .if1 .taken in (
       unpointed-carries (a .output .now) (a .frames .now) (a .place) (a .left) (a .count) (s .pre) far,
       unpointed-written (a .output .now) (a .frames .now) (a .place) (a .left) (a .count) (s .pre) far _ _
-          (c .before .before .before .before .before .before .write-header .ensures) (c .before .before .copy-long .ensures),
+          (h .write-header .ensures) (c .before .before .copy-long .ensures),
     )
 
 write-header-requires-2 : tie.Need-write-header-requires-2
@@ -56,13 +63,14 @@ same-length-2 c = simp length-set at (c .before .before .write-pointed .kept .0)
 
 returns-2 : tie.Need-returns-2
 returns-2 c =
-    let e = c .before .before .before .before .before .before .before .before in
+    let h = c .before .before .before .before .before .before in
+    let e = flagged h in
     let s = begin e in
     let a = s .args in
     let behind = c .before .before .write-pointed in (
       pointed-carries (a .output .now) (a .frames .now) (a .place) (a .left) (a .count) (s .pre) (near e) (behind .result) (behind .ensures .0),
       pointed-written (a .output .now) (a .frames .now) (a .place) (a .left) (a .count) (s .pre) (near e) _ _
-          (c .before .before .before .before .before .before .write-header2 .ensures) (behind .ensures .1),
+          (h .write-header2 .ensures) (behind .ensures .1),
     )
 
 pub write-data-spec : {M : Type 1} → statement M

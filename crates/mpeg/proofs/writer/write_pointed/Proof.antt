@@ -5,6 +5,13 @@ use borrow.Author.Needs.{needs}
 use Rattle.mpeg.proofs.writer.write_pointed.Statement.{statement}
 use Rattle.mpeg.proofs.writer.write_pointed.Tie as tie
 
+-- where too few bytes wait: behind the copy, and the way back from there
+abbrev few : tie.After-copy → tie.Else1
+few p = p .before .before
+
+abbrev start : tie.Else1 → tie.Start
+start e = e .before .before .before
+
 sub-waiting : tie.Need-sub-waiting
 sub-waiting c = search needs
 
@@ -46,12 +53,13 @@ same-length-2 c = search needs
 
 returns-2 : tie.Need-returns-2
 returns-2 c =
-    let s = c .before .before .before .before .before .before .before .before .before .before .before in
+    let p = c .before .before .before .before .before .before in
+    let s = start (few p) in
     let a = s .args in
-    let few = c .before .before .before .before .before .before .before .before .if1 .left in (
-      omega (arith, few),
-      filled-written (a .output .now) (a .frames .now) (a .place) (s .pre .0) (s .pre .1) _ _ (omega (arith, few))
-          (c .before .before .before .before .before .before .copy .ensures) (c .before .before .fill .ensures),
+    let less = few p .if1 .left in (
+      omega (arith, less),
+      filled-written (a .output .now) (a .frames .now) (a .place) (s .pre .0) (s .pre .1) _ _ (omega (arith, less))
+          (p .copy .ensures) (c .before .before .fill .ensures),
     )
 
 pub write-pointed-spec : {M : Type 1} → statement M
