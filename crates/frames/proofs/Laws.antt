@@ -8,11 +8,12 @@ use native.Mathlib.Nat.{not-suc-le-zero, le-of-suc-le-suc}
 use lib.Dec.{leb}
 use lib.ListN.{length, length-append}
 use borrow.Author.Tests.{leb-true, le-leb}
-use Rattle.octets.specs.Bytes.{byteAt, be16At, two, AllBytes}
+use Rattle.octets.specs.Bytes.{be16At, two, AllBytes}
 use Rattle.octets.specs.Each.{Each}
 use Rattle.octets.specs.Stretch.{part, rest, joined}
+use Rattle.octets.proofs.Bytes.{bytes-rest}
 use Rattle.octets.proofs.Numbers.{two-reads-back, two-read}
-use Rattle.octets.proofs.Stretches.{length-part, part-between, part-part-front, part-and-rest, length-rest, byte-rest, rest-append}
+use Rattle.octets.proofs.Stretches.{length-part, part-between, part-part-front, part-and-rest, length-rest, rest-append}
 use Rattle.octets.proofs.Stretches.{joined-none, joined-cons, length-joined-none, length-joined}
 use Rattle.frames.specs.Frames.{lengthBytes, packed, framesFile, standsWhole, frontFrame, behindFront, wholeFrames, leftBehind}
 
@@ -92,9 +93,6 @@ packed-front file bytes stands =
     ap (λ (head : List ℕ). head ++ frontFrame file ++ behindFront file) said
     ∙ ap (λ (front : List ℕ). front ++ behindFront file) (part-part-front file lengthBytes size)
     ∙ part-and-rest file (lengthBytes + size)
-
-bytes-rest : (l : List ℕ) (from : ℕ) → AllBytes l → AllBytes (rest l from)
-bytes-rest l from bytes i = rw (byte-rest l from i) (bytes (from + i))
 
 -- Writing what was read, with what is left behind it, gives the file.
 pub pack-unpack-left : (n : ℕ) (file : List ℕ) → AllBytes file → framesFile (wholeFrames n file) ++ leftBehind n file ≡ file
