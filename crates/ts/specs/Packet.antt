@@ -1,11 +1,15 @@
--- The MPEG transport packet (ISO/IEC 13818-1, section 2.4.3.2), as D-MPT carries it (DEPI I05, section 8.2) and as the modulator takes it (DRFI, section 7):
--- 188 bytes, of which the first four are a header.
+-- The MPEG transport packet (ISO/IEC 13818-1, section 2.4.3.2), as D-MPT carries it (DEPI I05, section 8.2) and as the modulator takes it
+-- (DRFI, section 7): 188 bytes, of which the first four are a header, and behind it the payload.
 --
---   |     0x47      |E S P . . . . .  PID  . . . . .|c c a a  count |   and behind it 184 bytes, the payload
+--    0                   1                   2                   3
+--    0 1 2 3 4 5 6 7 8 9 0 1 2 3 4 5 6 7 8 9 0 1 2 3 4 5 6 7 8 9 0 1
+--   +-+-+-+-+-+-+-+-+-+-+-+-+-+-+-+-+-+-+-+-+-+-+-+-+-+-+-+-+-+-+-+-+
+--   |     0x47      |E|S|P|           PID           | c | a | count |   then the payload, of 184 bytes
+--   +-+-+-+-+-+-+-+-+-+-+-+-+-+-+-+-+-+-+-+-+-+-+-+-+-+-+-+-+-+-+-+-+
 --
--- Each byte is drawn from its top bit on. The PID has 13 bits: the low five of byte 1, and byte 2. S, the payload-start flag, says that something starts in the
--- payload. E (an error on the way) and P (priority) are a bit each, and we write them as 0. Of byte 3, c and a are two bits each: 00 for c, not scrambled, and 01
--- for a, payload and nothing else, so that 0x10 stands beside the count, which goes round from 0 to 15.
+-- Each byte is drawn from its top bit on. S, the payload-start flag, says that something starts in the payload. E (an error on the way) and P
+-- (priority) are written as 0. c is 00, not scrambled, and a is 01, payload and nothing else, so that 0x10 stands beside the count, which
+-- goes round from 0 to 15.
 use Prim.Native.Nat.{ℕ, _+_, _-_, _*_, _/_, _%_}
 use mathlib.Core.Bool.{Bool, true, false, cond, _&&_}
 use mathlib.Core.List.{List, [], _∷_, _++_}
