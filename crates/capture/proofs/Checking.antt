@@ -14,7 +14,9 @@ use Rattle.octets.specs.Stretch.{part}
 use Rattle.octets.proofs.Counts.{or-false-right, or-same, any-none, any-more, none-at, sum-none, sum-more, sum-within}
 use Rattle.octets.proofs.Stretches.{length-part}
 use Rattle.capture.specs.declared.reader.Surveyed.{Surveyed}
-use Rattle.capture.specs.File.{headLength, entryLength, longestFile, mostEntries, idBody, exactly, anyLength, noKind, kinds, bodyIn, isKind, takesLength, entryCount, kindAt, secondAt, bodyLength, bodyStart, wrongParts, wrongEntry, fileRefusals, fileRefusal, nthEntry, StandsAt}
+use Rattle.capture.specs.File.{headLength, entryLength, longestFile, mostEntries, idBody, exactly, anyLength, noKind, kinds, bodyIn}
+use Rattle.capture.specs.File.{isKind, takesLength, entryCount, kindAt, secondAt, bodyLength, bodyStart, wrongParts, wrongEntry}
+use Rattle.capture.specs.File.{fileRefusals, fileRefusal, nthEntry, StandsAt}
 
 -- an entry's parts are wrong: the table of kinds, looked up number by number, comes to this
 wrong-by-numbers : (psp dmpt close over-ip over-udp zero-second : Bool) (size : ℕ) →
@@ -55,7 +57,8 @@ pub start-first : (file : List ℕ) → bodyStart headLength entryLength file 0 
 unfolding bodyStart
 start-first file = let z = sum-none (bodyLength headLength entryLength file) in omega (arith, z)
 
-pub start-next : (file : List ℕ) (k : ℕ) → bodyStart headLength entryLength file (k + 1) ≡ bodyStart headLength entryLength file k + bodyLength headLength entryLength file k
+pub start-next : (file : List ℕ) (k : ℕ) →
+    bodyStart headLength entryLength file (k + 1) ≡ bodyStart headLength entryLength file k + bodyLength headLength entryLength file k
 unfolding bodyStart
 start-next file k = let m = sum-more (bodyLength headLength entryLength file) k in omega (arith, m)
 
@@ -69,7 +72,8 @@ survey-begin file count few e =
       small = omega (arith, few);
     }
 
-pub survey-turn : {file : List ℕ} {count end : ℕ} {wrong : Bool} {k kind second size : ℕ} {w : Bool} → Surveying file count end wrong k → k < count →
+pub survey-turn : {file : List ℕ} {count end : ℕ} {wrong : Bool} {k kind second size : ℕ} {w : Bool} →
+    Surveying file count end wrong k → k < count →
     kind ≡ kindAt headLength entryLength file k → second ≡ secondAt headLength entryLength file k →
     (size ≡ bodyLength headLength entryLength file k) × (size ≤ 65535) → w ≡ wrongParts kind second size →
     Surveying file count (end + size) (wrong || w) (k + 1)
@@ -109,7 +113,12 @@ module _ (file : List ℕ) where
       unfolding fileRefusal
       too-many-entries h =
           let many : mostEntries < entryCount headLength file = omega (arith, e) in
-          rw (le-ltb longestFile (length file) short, le-ltb (length file) headLength headed, lt-leb (entryCount headLength file) mostEntries many, lt-ltb mostEntries (entryCount headLength file) many) refl
+          rw (
+            le-ltb longestFile (length file) short,
+            le-ltb (length file) headLength headed,
+            lt-leb (entryCount headLength file) mostEntries many,
+            lt-ltb mostEntries (entryCount headLength file) many,
+          ) refl
 
       module _ (few : count ≤ mostEntries) where
         few-entries : entryCount headLength file ≤ mostEntries
@@ -119,7 +128,12 @@ module _ (file : List ℕ) where
         unfolding fileRefusal
         contents-cut h =
             let cut : length file < headLength + entryLength * entryCount headLength file = omega (arith, e, h) in
-            rw (le-ltb longestFile (length file) short, le-ltb (length file) headLength headed, le-leb (entryCount headLength file) mostEntries few-entries, lt-ltb (length file) (headLength + entryLength * entryCount headLength file) cut) refl
+            rw (
+              le-ltb longestFile (length file) short,
+              le-ltb (length file) headLength headed,
+              le-leb (entryCount headLength file) mostEntries few-entries,
+              lt-ltb (length file) (headLength + entryLength * entryCount headLength file) cut,
+            ) refl
 
         module _ (whole : headLength + entryLength * count ≤ length file) (s : Surveyed)
             (es : s ≡ found (bodyStart headLength entryLength file count) (any (wrongEntry headLength entryLength file) count)) where
@@ -152,7 +166,8 @@ module _ (file : List ℕ) where
           module _ (right : s .wrong ≡ false) where
             pub not-filled : (s .end ≡ length file → ⊥) → 45 ≡ fileRefusal file
             not-filled h =
-                let apart = ne-eqb (bodyStart headLength entryLength file (entryCount headLength file)) (length file) (λ z. h (end-is ∙ z)) in
+                let apart =
+                ne-eqb (bodyStart headLength entryLength file (entryCount headLength file)) (length file) (λ z. h (end-is ∙ z)) in
                 sym (contents-pass ∙ rw (sym wrong-is ∙ right, apart) refl)
 
             pub sound-file : s .end ≡ length file → 0 ≡ fileRefusal file
@@ -181,9 +196,13 @@ is-sound file z =
     record {
       short = ltb-false longestFile (length file) (none .0);
       few = its-few;
-      contents-inside = ltb-false (length file) (headLength + entryLength * entryCount headLength file) (rw (le-leb (entryCount headLength file) mostEntries its-few) at inside);
+      contents-inside =
+          ltb-false (length file) (headLength + entryLength * entryCount headLength file)
+          (rw (le-leb (entryCount headLength file) mostEntries its-few) at inside);
       none-wrong = none .1 .1 .1 .0;
-      ends = eqb-true (bodyStart headLength entryLength file (entryCount headLength file)) (length file) (not-false its-end (none .1 .1 .1 .1 .0));
+      ends =
+          eqb-true (bodyStart headLength entryLength file (entryCount headLength file)) (length file)
+          (not-false its-end (none .1 .1 .1 .1 .0));
     }
 
 -- .. and a sound file is not refused
@@ -193,7 +212,11 @@ sound-passes file sound =
     let n = entryCount headLength file in
     let long : headLength ≤ length file = omega (arith, sound .contents-inside) in
     let too-short : (ltb (length file) headLength || (leb n mostEntries && ltb (length file) (headLength + entryLength * n))) ≡ false =
-    rw (le-ltb (length file) headLength long, le-leb n mostEntries (sound .few), le-ltb (length file) (headLength + entryLength * n) (sound .contents-inside)) refl in
+    rw (
+      le-ltb (length file) headLength long,
+      le-leb n mostEntries (sound .few),
+      le-ltb (length file) (headLength + entryLength * n) (sound .contents-inside),
+    ) refl in
     none-first (fileRefusals headLength entryLength file) (
       le-ltb longestFile (length file) (sound .short),
       (
@@ -209,16 +232,19 @@ sound-passes file sound =
     )
 
 -- where a walk stands, the entry and its body lie in the file
-starts-before : (file : List ℕ) (k n : ℕ) → k < n → bodyStart headLength entryLength file k + bodyLength headLength entryLength file k ≤ bodyStart headLength entryLength file n
+starts-before : (file : List ℕ) (k n : ℕ) → k < n →
+    bodyStart headLength entryLength file k + bodyLength headLength entryLength file k ≤ bodyStart headLength entryLength file n
 unfolding bodyStart
 starts-before file k n below = let w = sum-within (bodyLength headLength entryLength file) k n below in omega (arith, w)
 
-pub entry-inside : {file : List ℕ} {index start : ℕ} → StandsAt file index start → (headLength + entryLength * index + entryLength ≤ length file) × (index ≤ mostEntries)
+pub entry-inside : {file : List ℕ} {index start : ℕ} → StandsAt file index start →
+    (headLength + entryLength * index + entryLength ≤ length file) × (index ≤ mostEntries)
 entry-inside {file} {index} {start} s =
     let f = is-sound file (s .sound) in
     (omega (arith, f .contents-inside, s .not-past), omega (arith, f .few, s .not-past))
 
-pub body-inside : {file : List ℕ} {index start size : ℕ} → StandsAt file index start → size ≡ bodyLength headLength entryLength file index → start + size ≤ length file
+pub body-inside : {file : List ℕ} {index start size : ℕ} → StandsAt file index start → size ≡ bodyLength headLength entryLength file index →
+    start + size ≤ length file
 body-inside {file} {index} {start} {size} s e =
     let f = is-sound file (s .sound) in
     omega (arith, f .ends, s .its-start, e, starts-before file index (entryCount headLength file) (s .not-past))
@@ -226,9 +252,11 @@ body-inside {file} {index} {start} {size} s e =
 pub body-is : {file : List ℕ} {index start size : ℕ} → StandsAt file index start → size ≡ bodyLength headLength entryLength file index →
     part file start size ≡ (nthEntry file index) .body
 unfolding nthEntry
-body-is {file} {index} {start} {size} s e = ap (λ (x : ℕ). part file x size) (s .its-start) ∙ ap (part file (bodyStart headLength entryLength file index)) e
+body-is {file} {index} {start} {size} s e =
+    ap (λ (x : ℕ). part file x size) (s .its-start) ∙ ap (part file (bodyStart headLength entryLength file index)) e
 
-pub body-long : {file : List ℕ} {index start : ℕ} → StandsAt file index start → length (nthEntry file index .body) ≡ bodyLength headLength entryLength file index
+pub body-long : {file : List ℕ} {index start : ℕ} → StandsAt file index start →
+    length (nthEntry file index .body) ≡ bodyLength headLength entryLength file index
 body-long {file} {index} {start} s =
     sym (ap length (body-is s refl)) ∙ length-part file start (bodyLength headLength entryLength file index) (body-inside s refl)
 
@@ -239,6 +267,8 @@ entry-right {file} {index} {start} s =
     let kind = kindAt headLength entryLength file index in
     let second = secondAt headLength entryLength file index in
     let size = bodyLength headLength entryLength file index in
-    let right : wrongParts kind second size ≡ false = none-at (wrongEntry headLength entryLength file) (entryCount headLength file) index (is-sound file (s .sound) .none-wrong) (s .not-past) in
+    let right : wrongParts kind second size ≡ false =
+    none-at (wrongEntry headLength entryLength file) (entryCount headLength file) index (is-sound file (s .sound) .none-wrong)
+    (s .not-past) in
     let last = or-false-right (not (isKind (bodyIn kinds kind)) || not (eqb second 0)) (not (takesLength (bodyIn kinds kind) size)) right in
     ap (takesLength (bodyIn kinds kind)) (body-long s) ∙ not-false (takesLength (bodyIn kinds kind) size) last

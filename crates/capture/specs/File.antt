@@ -1,7 +1,7 @@
--- A capture file (document 01, "Capture file and listing"): contents first, then bodies. Two bytes say how many entries there are; then comes
--- an entry for each, of four bytes: its kind, a zero byte and the length of its body; then the bodies back to back. Kinds 1 to 3 have a
--- session ID as body, and a data entry has a packet. How many bytes stand before the entries, and how many an entry has, are parameters of
--- all that reads a file by place and of its refusals: `head` and `width`. From `fileRefusal` on they are those of this form, 2 and 4.
+-- A capture file (document 01, "Capture file and listing"): contents first, then bodies. Two bytes say how many entries there are; then
+-- comes an entry for each, of four bytes: its kind, a zero byte and the length of its body; then the bodies back to back. Kinds 1 to 3 have
+-- a session ID as body, and a data entry has a packet. How many bytes stand before the entries, and how many an entry has, are parameters
+-- of all that reads a file by place and of its refusals: `head` and `width`. From `fileRefusal` on they are those of this form, 2 and 4.
 --
 --    0                   1                   2                   3
 --    0 1 2 3 4 5 6 7 8 9 0 1 2 3 4 5 6 7 8 9 0 1 2 3 4 5 6 7 8 9 0 1
@@ -156,8 +156,8 @@ bodyOf e = e .body
 unfoldable pub fileOf : List Entry → List ℕ
 fileOf es = two (length es) ++ joined (map contentOf es) ++ joined (map bodyOf es)
 
--- What the check permits; and an entry's body, handed out as the stretch of the file that it is: `ptr` is where a slice stands in memory, the
--- block and the place in it, and `now` the bytes there. A copy, or equal bytes from elsewhere in the file, will not do.
+-- What the check permits; and an entry's body, handed out as the stretch of the file that it is: `ptr` is where a slice stands in memory,
+-- the block and the place in it, and `now` the bytes there. A copy, or equal bytes from elsewhere in the file, will not do.
 abbrev pub PermitsCheck : List ℕ → ℕ → Type 0
 PermitsCheck file answer = answer ≡ fileRefusal file
 

@@ -11,7 +11,8 @@ use Rattle.refusal.specs.Refusal.{Refusal, _when_}
 use Rattle.octets.specs.Stretch.{put, joined}
 use Rattle.octets.specs.Each.{Each}
 use Rattle.capture.specs.declared.Writer.{Writer}
-use Rattle.capture.specs.File.{headLength, entryLength, longestFile, mostEntries, kinds, bodyIn, isKind, takesLength, Entry, contentOf, bodyOf, fileOf}
+use Rattle.capture.specs.File.{headLength, entryLength, longestFile, mostEntries, kinds, bodyIn, isKind, takesLength, Entry}
+use Rattle.capture.specs.File.{contentOf, bodyOf, fileOf}
 
 -- room for one more entry
 pub record Fits (contents bodies : List ℕ) (w : Writer) (body : List ℕ) : Type 0 where
@@ -29,7 +30,8 @@ fileLength w = headLength + entryLength * w .entries + w .bytes
 abbrev pub within : Writer → Bool
 within w = leb (w .entries) mostEntries && leb (fileLength w) longestFile
 
--- the order of document 01. (42 and 45 cannot apply to a file that is written here; 44 does not, where every entry is `Right`: `written-sound`.)
+-- the order of document 01. (42 and 45 cannot apply to a file that is written here; 44 does not, where every entry is `Right`:
+-- `written-sound`.)
 abbrev pub writeRefusals : Writer → List Refusal
 writeRefusals w =
     41 when ltb longestFile (fileLength w)
@@ -66,7 +68,8 @@ pub record Right (e : Entry) : Type 0 where
   pub its-kind : isKind (bodyIn kinds (e .kind)) ≡ true
   pub its-length : takesLength (bodyIn kinds (e .kind)) (length (e .body)) ≡ true
 
--- Entries that may be written as a file. (That two bytes can say the length of each body need not be asked: no body is longer than the file.)
+-- Entries that may be written as a file. (That two bytes can say the length of each body need not be asked: no body is longer than the
+-- file.)
 pub record Writable (es : List Entry) : Type 0 where
   pub few : length es ≤ mostEntries
   pub short : length (fileOf es) ≤ longestFile

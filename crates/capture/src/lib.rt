@@ -85,7 +85,8 @@ pub fn refuse(writer: Writer) -> u32
 pub fn add(contents: &mut [u8], bodies: &mut [u8], writer: Writer, kind: u8, body: &[u8]) -> Writer
     requires { ⌜ Roomy (now contents) (now bodies) × Countable writer (now body) ⌝ }
     ensures { λ r. ⌜ r ≡ added writer (now (body .entry)) ⌝ }
-    ensures { λ _. ⌜ now (contents .exit) ≡ contentsAfter (now (contents .entry)) writer (record { kind = kind; body = now (body .entry) }) ⌝ }
+    ensures { λ _. ⌜ now (contents .exit)
+        ≡ contentsAfter (now (contents .entry)) writer (record { kind = kind; body = now (body .entry) }) ⌝ }
     ensures { λ _. ⌜ now (bodies .exit) ≡ bodiesAfter (now (bodies .entry)) writer (record { kind = kind; body = now (body .entry) }) ⌝ }
 {
     let entries = writer.entries + 1;

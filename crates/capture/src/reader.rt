@@ -4,7 +4,8 @@ ghost use mathlib.Core.Path.{_≡_};
 ghost use Prim.Native.Nat.{_+_, _*_, _≤_};
 ghost use lib.ListN.{length};
 ghost use Rattle.octets.specs.Count.{any};
-ghost use Rattle.capture.specs.File.{headLength, entryLength, mostEntries, entryCount, kindAt, bodyLength, bodyStart, wrongParts, wrongEntry, PermitsCheck, PermitsBody, StandsAt};
+ghost use Rattle.capture.specs.File.{headLength, entryLength, mostEntries, entryCount, kindAt, bodyLength, bodyStart, wrongParts};
+ghost use Rattle.capture.specs.File.{wrongEntry, PermitsCheck, PermitsBody, StandsAt};
 use crate::CLOSE;
 use crate::DATA;
 use crate::DATA_OVER_UDP;
@@ -60,7 +61,10 @@ struct Surveyed {
 fn survey(file: &[u8], count: usize) -> Surveyed
     requires { ⌜ (headLength + entryLength * count ≤ length (now file)) × (count ≤ mostEntries) ⌝ }
     requires { ⌜ count ≡ entryCount headLength (now file) ⌝ }
-    ensures { λ r. ⌜ r ≡ record { end = bodyStart headLength entryLength (now (file .entry)) count; wrong = any (wrongEntry headLength entryLength (now (file .entry))) count } ⌝ }
+    ensures { λ r. ⌜ r ≡ record {
+      end = bodyStart headLength entryLength (now (file .entry)) count;
+      wrong = any (wrongEntry headLength entryLength (now (file .entry))) count;
+    } ⌝ }
 {
     let mut end = HEAD_LENGTH + ENTRY_LENGTH * count;
     let mut wrong = false;

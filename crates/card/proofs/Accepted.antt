@@ -18,7 +18,8 @@ use Rattle.table.specs.Broken.{broken}
 use Rattle.table.specs.Calls.{isOpen}
 use Rattle.join.specs.Slices.{Slices}
 use Rattle.card.specs.Hear.{judgedOf}
-use Rattle.card.specs.Receive.{rowOf, flowTo, flowOf, heardBy, tooSmall, earlyRefusals, packetRefusals, flowRefusals, dataRefusals, carriedOut, refused, receivedBy, received}
+use Rattle.card.specs.Receive.{rowOf, flowTo, flowOf, heardBy, tooSmall, earlyRefusals, packetRefusals, flowRefusals, dataRefusals}
+use Rattle.card.specs.Receive.{carriedOut, refused, receivedBy, received}
 use Rattle.card.proofs.ByKind.{numbered-packet, flow-in-row}
 
 -- The answer's number is that of the order.

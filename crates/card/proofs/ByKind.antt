@@ -35,7 +35,8 @@ pub fate-unnumbered : (terms : Terms) (gap : ℕ) (held sub : List ℕ) → isDm
     fateOf terms gap held sub ≡ unnumberedFate (terms .longest) held (segments (widthIn (terms .kind)) sub)
 fate-unnumbered terms gap held sub d clear = rw (d, clear) refl
 
-pub refusals-dmpt : (terms : Terms) (sub : List ℕ) → isDmpt (terms .kind) ≡ true → first (packetRefusals terms sub) ≡ first (dmptRefusals sub)
+pub refusals-dmpt : (terms : Terms) (sub : List ℕ) → isDmpt (terms .kind) ≡ true →
+    first (packetRefusals terms sub) ≡ first (dmptRefusals sub)
 refusals-dmpt terms sub d = rw d refl
 
 pub refusals-psp : (terms : Terms) (sub : List ℕ) → isDmpt (terms .kind) ≡ false →

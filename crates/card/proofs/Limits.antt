@@ -24,7 +24,7 @@ use Rattle.packet.proofs.Passing.{SegmentsPassed, psp-passed, dmpt-passed, mpeg
 use Rattle.table.specs.declared.Kind.{Kind}
 use Rattle.table.specs.declared.Table.{Table}
 use Rattle.table.specs.declared.Terms.{Terms}
-use Rattle.table.specs.Rows.{isDmpt, termsAt, rowAt}
+use Rattle.table.specs.Rows.{isDmpt, termsAt}
 use Rattle.join.specs.Join.{Fate, pspFate}
 use Rattle.join.specs.Slices.{mostFrames, mostBytes, Slices}
 use Rattle.join.proofs.Account.{told}
@@ -127,17 +127,24 @@ module _ (t : Table) (p : Packet) (s : Slices) (a : call.Accepted t p s) where
 
   pub held-none : isDmpt (termsAt t r .kind) ≡ true → heldBy t r after s ≡ []
   held-none d =
-      ap (part (s .holding) (placeOf r (flowTo t r after))) (dmpt-bare t r (flowTo t r after) (a .whole) (a .found) (call.flow-there t p s a) d)
+      ap (part (s .holding) (placeOf r (flowTo t r after)))
+      (dmpt-bare t r (flowTo t r after) (a .whole) (a .found) (call.flow-there t p s a) d)
       ∙ part-none (s .holding) (placeOf r (flowTo t r after))
 
-  pub accepted-bounded : Bounded (termsAt t r .longest) (flowOf t r after .held + bodyBytes (termsAt t r .kind) after) (heardBy t r after s .fate)
+  pub accepted-bounded : Bounded (termsAt t r .longest) (flowOf t r after .held + bodyBytes (termsAt t r .kind) after)
+      (heardBy t r after s .fate)
   unfolding hear
   accepted-bounded =
       let k = call.flow-there t p s a in
       let few = held-fits t r (flowTo t r after) (a .whole) (a .found) k in
       let b = fate-bounded (termsAt t r) (judgedOf (flowOf t r after) after .gap) (heldBy t r after s) after (a .passed)
       (omega (arith, held-length, few)) (omega arith) held-none (call.sub-short t p s a) in
-      record { all = omega (arith, b .all, held-length); bytes-few = omega (arith, b .bytes-few, held-length); frames-few = b .frames-few; held-few = b .held-few }
+      record {
+        all = omega (arith, b .all, held-length);
+        bytes-few = omega (arith, b .bytes-few, held-length);
+        frames-few = b .frames-few;
+        held-few = b .held-few;
+      }
 
 -- Every call.
 gap-by : (set : Bool) (f : Flow) (n : ℕ) → judgedBy set f n .gap < half
@@ -177,7 +184,8 @@ lengths-by zero t p s e =
     let a = call.accepted t p s e in
     let b = accepted-bounded t p s a in
     let frames = heardBy t (rowOf t p) (sub p) s .fate .delivered in
-    let few : length (lengthsOf frames) ≤ length (s .lengths) = omega (arith, length-lengthsOf frames, b .frames-few, large-enough s (a .large) .lengths-enough) in
+    let few : length (lengthsOf frames) ≤ length (s .lengths) =
+    omega (arith, length-lengthsOf frames, b .frames-few, large-enough s (a .large) .lengths-enough) in
     let kept = length-put (s .lengths) 0 (lengthsOf frames) (omega (arith, few)) in
     rw (call.received-accepted t p s e)
     (sym (total-part (put (s .lengths) 0 (lengthsOf frames)) (length frames) (omega (arith, few, kept, length-lengthsOf frames)))

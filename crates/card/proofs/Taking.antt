@@ -10,7 +10,7 @@ use lib.ListN.{length}
 use borrow.Author.Tests.{ltb-false}
 use Rattle.refusal.specs.Refusal.{_when_, first}
 use Rattle.refusal.proofs.Laws.{first-passed, first-stopped}
-use Rattle.octets.specs.Stretch.{part, joined}
+use Rattle.octets.specs.Stretch.{joined}
 use Rattle.octets.proofs.Counts.{or-false-left, or-false-right}
 use Rattle.flow.specs.declared.Judged.{Judged}
 use Rattle.flow.specs.Flow.{flows}

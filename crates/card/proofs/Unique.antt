@@ -12,7 +12,8 @@ pub receive-permitted : (t : Table) (p : Packet) (s : Slices) → PermitsReceive
 receive-permitted t packet s = permits refl
 
 -- an outcome is what it is made of
-same : {code code′ frames frames′ bytes bytes′ dropped dropped′ gap gap′ : ℕ} {table table′ : Table} {holding holding′ output output′ lengths lengths′ : List ℕ} →
+same : {code code′ frames frames′ bytes bytes′ dropped dropped′ gap gap′ : ℕ} {table table′ : Table}
+    {holding holding′ output output′ lengths lengths′ : List ℕ} →
     code ≡ code′ → frames ≡ frames′ → bytes ≡ bytes′ → dropped ≡ dropped′ → gap ≡ gap′ → table ≡ table′ →
     holding ≡ holding′ → output ≡ output′ → lengths ≡ lengths′ →
     _≡_ {A = Outcome}

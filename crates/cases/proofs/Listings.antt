@@ -2,7 +2,6 @@
 -- listing is the paper's own, word for word.
 use Prim.Native.Nat.{ℕ}
 use mathlib.Core.Path.{_≡_, refl}
-use mathlib.Core.Bool.{true}
 use mathlib.Core.List.{List, [], _∷_, _++_}
 use lib.ListN.{length, replicate}
 use Rattle.octets.specs.Stretch.{part, rest, put, joined, lengthsOf, cutBy}
@@ -35,8 +34,10 @@ pub listed : listing capture
     ++ ascii "2 data 0 1 9 0 0\n"
     ++ ascii "3 data 12 0 0 0 0\n"
     ++ ascii "4 close 0 0 0 0 0\n"
-unfolding listing listingBy lineAt line columns decimal digits column fileRefusal bodyStart nthEntry begin runOne standing answerAt answer after
-    opened closed broken received receivedBy carriedOut refused hear pspFate settledBy settled fateBy fate atGap inOrder wanted bodyAt segmentAt segments
+unfolding listing listingBy lineAt line columns decimal digits column fileRefusal bodyStart nthEntry begin runOne standing answerAt
+    answer after
+    opened closed broken received receivedBy carriedOut refused hear pspFate settledBy settled fateBy fate atGap inOrder wanted bodyAt
+    segmentAt segments
     ahead next part rest put joined lengthsOf any least sumTo upTo
 listed = refl
 
@@ -61,13 +62,15 @@ pub traced : trace capture
     ++ ascii " row 0 257 1\n"
     ++ ascii " flow 0 1 1 0 -\n"
     ++ ascii "4 close 0 0 0 0 0\n"
-unfolding trace traceBy tracedAt framesText frameLine rowsText rowText rowLine flowText flowLine hex cutBy lineAt line columns decimal digits column fileRefusal bodyStart nthEntry begin runOne standing answerAt answer after
-    opened closed broken received receivedBy carriedOut refused hear pspFate settledBy settled fateBy fate atGap inOrder wanted bodyAt segmentAt segments
+unfolding trace traceBy tracedAt framesText frameLine rowsText rowText rowLine flowText flowLine hex cutBy lineAt line columns decimal
+    digits column fileRefusal bodyStart nthEntry begin runOne standing answerAt answer after
+    opened closed broken received receivedBy carriedOut refused hear pspFate settledBy settled fateBy fate atGap inOrder wanted bodyAt
+    segmentAt segments
     ahead next part rest put joined lengthsOf any least sumTo upTo
 traced = refl
 
--- Two channels use the same flow number at the same time, and each has half a frame: the frame of the first comes out whole, and the close of
--- the second drops the byte that it held. A D-MPT session takes the row that came free, and what is closed cannot be closed again.
+-- Two channels use the same flow number at the same time, and each has half a frame: the frame of the first comes out whole, and the close
+-- of the second drops the byte that it held. A D-MPT session takes the row that came free, and what is closed cannot be closed again.
 abbrev opening : ℕ → ℕ → Entry
 opening kind id = record { kind = kind; body = 0x00 ∷ 0x00 ∷ 0x01 ∷ id ∷ [] }
 
@@ -115,8 +118,10 @@ pub two-traced : trace two-channels
     ++ ascii " row 0 257 1\n"
     ++ ascii " flow 0 1 7 0 -\n"
     ++ ascii " row 1 259 2\n"
-unfolding trace traceBy tracedAt framesText frameLine rowsText rowText rowLine flowText flowLine hex cutBy lineAt line columns decimal digits column fileOf fileRefusal bodyStart nthEntry begin runOne standing answerAt answer after
-    opened closed broken received receivedBy carriedOut refused hear pspFate settledBy settled fateBy fate atGap inOrder wanted bodyAt segmentAt segments
+unfolding trace traceBy tracedAt framesText frameLine rowsText rowText rowLine flowText flowLine hex cutBy lineAt line columns decimal
+    digits column fileOf fileRefusal bodyStart nthEntry begin runOne standing answerAt answer after
+    opened closed broken received receivedBy carriedOut refused hear pspFate settledBy settled fateBy fate atGap inOrder wanted bodyAt
+    segmentAt segments
     ahead next part rest put joined lengthsOf any least sumTo upTo
 two-traced = refl
 
@@ -141,7 +146,11 @@ gapped =
     (record { kind = 1; body = 0x00 ∷ 0x01 ∷ 0x01 ∷ 0x01 ∷ [] }
     ∷ record { kind = 4; body = 0x00 ∷ 0x01 ∷ 0x01 ∷ 0x01 ∷ 0x43 ∷ 0x01 ∷ 0x00 ∷ 0x05 ∷ 0x80 ∷ 0x01 ∷ 0xAA ∷ [] }
     ∷ record { kind = 1; body = 0x00 ∷ 0x00 ∷ 0x01 ∷ 0x01 ∷ [] }
-    ∷ record { kind = 4; body = 0x00 ∷ 0x01 ∷ 0x01 ∷ 0x01 ∷ 0x43 ∷ 0x03 ∷ 0x00 ∷ 0x08 ∷ 0xC0 ∷ 0x02 ∷ 0xC0 ∷ 0x01 ∷ 0x80 ∷ 0x01 ∷ 0xB1 ∷ 0xB2 ∷ 0xB3 ∷ 0xB4 ∷ [] }
+    ∷ record {
+      kind = 4;
+      body = 0x00 ∷ 0x01 ∷ 0x01 ∷ 0x01 ∷ 0x43 ∷ 0x03 ∷ 0x00 ∷ 0x08 ∷ 0xC0 ∷ 0x02 ∷ 0xC0 ∷ 0x01 ∷ 0x80 ∷ 0x01 ∷ 0xB1
+          ∷ 0xB2 ∷ 0xB3 ∷ 0xB4 ∷ [];
+    }
     ∷ record { kind = 4; body = [] }
     ∷ record { kind = 3; body = 0x00 ∷ 0x01 ∷ 0x01 ∷ 0x01 ∷ [] } ∷ [])
 
@@ -168,8 +177,10 @@ pub gap-traced : trace gapped
     ++ ascii " row 1 257 1\n"
     ++ ascii "5 close 0 0 0 1 0\n"
     ++ ascii " row 1 257 1\n"
-unfolding trace traceBy tracedAt framesText frameLine rowsText rowText rowLine flowText flowLine hex cutBy lineAt line columns decimal digits column fileOf fileRefusal bodyStart nthEntry begin runOne standing answerAt answer after
-    opened closed broken received receivedBy carriedOut refused hear pspFate settledBy settled fateBy fate atGap inOrder wanted bodyAt segmentAt segments
+unfolding trace traceBy tracedAt framesText frameLine rowsText rowText rowLine flowText flowLine hex cutBy lineAt line columns decimal
+    digits column fileOf fileRefusal bodyStart nthEntry begin runOne standing answerAt answer after
+    opened closed broken received receivedBy carriedOut refused hear pspFate settledBy settled fateBy fate atGap inOrder wanted bodyAt
+    segmentAt segments
     ahead next part rest put joined lengthsOf any least sumTo upTo
 gap-traced = refl
 
@@ -220,6 +231,7 @@ pub six-rows : rowsText (record {
   };
   holding = [];
 })
-    ≡ ascii " row 0 1 1\n row 1 2 1\n row 2 3 1\n row 3 4 1\n row 4 5 1\n row 5 6 1\n flow 5 0 10 0 -\n flow 5 1 11 0 -\n flow 5 2 12 0 -\n flow 5 3 13 0 -\n"
+    ≡ ascii " row 0 1 1\n row 1 2 1\n row 2 3 1\n row 3 4 1\n row 4 5 1\n row 5 6 1\n"
+    ++ ascii " flow 5 0 10 0 -\n flow 5 1 11 0 -\n flow 5 2 12 0 -\n flow 5 3 13 0 -\n"
 unfolding rowsText rowText rowLine flowText flowLine hex column decimal digits joined upTo part
 six-rows = refl

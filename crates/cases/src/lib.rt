@@ -1,1 +1,2 @@
-// No code: whole data calls and whole listings, computed by the definitions of the crates below and held against what document 01 says of them.
+// No code: whole data calls and whole listings, computed by the definitions of the crates below and held against what document 01 says of
+// them.

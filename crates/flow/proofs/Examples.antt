@@ -46,7 +46,8 @@ fresh-is-not-waiting : (judge fresh 0x8000) .late ≡ false
 fresh-is-not-waiting = refl
 
 -- a late number leaves the whole record as it was, with gap 0
-late-leaves : judge (record { heard = 1; expected = 5; held = 2 }) 3 ≡ record { flow = record { heard = 1; expected = 5; held = 2 }; gap = 0; late = true }
+late-leaves : judge (record { heard = 1; expected = 5; held = 2 }) 3
+    ≡ record { flow = record { heard = 1; expected = 5; held = 2 }; gap = 0; late = true }
 unfolding ahead next
 late-leaves = refl
 

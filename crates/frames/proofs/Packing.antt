@@ -1,12 +1,12 @@
 -- A frames file, written frame by frame: after k turns the first k frames are written (`Packing`, the loop's invariant).
 use Prim.Native.Nat.{ℕ, _+_, _*_, _<_, _≤_}
-use mathlib.Core.Path.{_≡_, refl, sym, ap, _∙_}
+use mathlib.Core.Path.{_≡_, sym, ap, _∙_}
 use mathlib.Core.List.{List, [], _∷_, _++_}
 use native.Mathlib.Omega.{arith}
 use lib.ListN.{length, length-append}
 use Rattle.octets.specs.Bytes.{byteAt, two}
 use Rattle.octets.specs.Count.{sumTo}
-use Rattle.octets.specs.Stretch.{part, put, joined, cutBy}
+use Rattle.octets.specs.Stretch.{part, put, cutBy}
 use Rattle.octets.proofs.Counts.{sum-none, sum-more, sum-within, sum-below}
 use Rattle.octets.proofs.Stretches.{length-part, length-put, put-nil, put-put, put-put-front, part-none, part-all, part-more}
 use Rattle.octets.proofs.Stretches.{joined-map-more, cut-none, cut-more, total, total-part}

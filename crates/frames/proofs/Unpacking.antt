@@ -8,13 +8,12 @@ use native.Mathlib.Omega.{arith}
 use native.Mathlib.Nat.{add-zero}
 use lib.Dec.{leb, ltb}
 use lib.ListN.{length, set, length-append}
-use borrow.Author.Tests.{leb-true, leb-false, ltb-true, ltb-false, lt-leb, le-leb}
+use borrow.Author.Tests.{leb-true, leb-false, ltb-false, lt-leb, le-leb}
 use Rattle.octets.specs.Bytes.{byteAt, be16At}
 use Rattle.octets.specs.Stretch.{part, rest, put, joined, lengthsOf}
 use Rattle.octets.proofs.Stretches.{length-part, length-rest, byte-rest, part-rest, length-put, put-nil, put-put-front, set-put}
 use Rattle.octets.proofs.Stretches.{rest-none, rest-rest, joined-none, joined-one-more, lengthsOf-none, lengthsOf-cons}
 use Rattle.octets.proofs.Stretches.{lengthsOf-append, length-joined-none, length-lengthsOf}
-use Rattle.frames.specs.declared.Unpacked.{Unpacked}
 use Rattle.frames.specs.Frames.{lengthBytes, standsWhole, frontFrame, behindFront, wholeFrames, leftBehind, PermitsUnpack}
 use Rattle.frames.proofs.Laws.{stands-long}
 

@@ -57,8 +57,8 @@ pub record PermitsPack (bytes lengths file : List ℕ) (r : ℕ) (file′ : List
   pub its-length : r ≡ length (framesFile (cutBy lengths bytes))
   pub its-file : file′ ≡ put file 0 (framesFile (cutBy lengths bytes))
 
--- What reading permits, whole: as many frames are read as there are lengths lent, or fewer; their bytes and their lengths stand at the front
--- of the two slices.
+-- What reading permits, whole: as many frames are read as there are lengths lent, or fewer; their bytes and their lengths stand at the
+-- front of the two slices.
 pub record PermitsUnpack (file bytes lengths : List ℕ) (r : Unpacked) (bytes′ lengths′ : List ℕ) : Type 0 where
   pub its-count : r .count ≡ length (wholeFrames (length lengths) file)
   pub its-size : r .bytes ≡ length (joined (wholeFrames (length lengths) file))

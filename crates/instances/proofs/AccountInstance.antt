@@ -1,5 +1,5 @@
--- A closed instance of the byte account, of each byte, of never broken and within limits: a history that takes 18 body bytes, delivers 15, holds 3 and then
--- drops them at the close. It cites definitions alone, so that it can be held against wrong ones.
+-- A closed instance of the byte account, of each byte, of never broken and within limits: a history that takes 18 body bytes, delivers 15,
+-- holds 3 and then drops them at the close. It cites definitions alone, so that it can be held against wrong ones.
 use Prim.Native.Nat.{ℕ}
 use mathlib.Core.Path.{_≡_, refl}
 use mathlib.Core.Bool.{false}
@@ -21,7 +21,8 @@ use Rattle.pass.specs.Pass.{passAll, dmptFate}
 use Rattle.card.specs.Hear.{hear}
 use Rattle.card.specs.Receive.{carriedOut, refused, receivedBy, received}
 use Rattle.card.specs.History.{Call, opens, closes, answer, after, afterAll, emptyCard, hands}
-use Rattle.promises.specs.Account.{Lent, cardFor, tableAfterAll, countedBy, bytesTaken, bytesDelivered, bytesDropped, heldInAll, takenBy, deliveredBy, droppedBy, gathered, bytesHeld}
+use Rattle.promises.specs.Account.{Lent, cardFor, tableAfterAll, countedBy, bytesTaken, bytesDelivered, bytesDropped, heldInAll, takenBy}
+use Rattle.promises.specs.Account.{deliveredBy, droppedBy, gathered, bytesHeld}
 use Rattle.promises.specs.Marked.{A, B, single, hand}
 
 -- the beginning of a frame behind a gap of 4
@@ -49,7 +50,8 @@ byte-account-instance : (countedBy bytesTaken empty slices-change ≡ 18)
     × (countedBy bytesDelivered empty slices-change ≡ 15)
     × (countedBy bytesDropped empty slices-change ≡ 0)
     × (heldInAll (tableAfterAll empty slices-change) ≡ 3)
-unfolding part rest put joined lengthsOf cutBy any least sumTo upTo ahead next bodyAt segmentAt segments wanted broken opened settledBy settled fateBy fate atGap inOrder pspFate hear carriedOut refused receivedBy received answer after countedBy tableAfterAll
+unfolding part rest put joined lengthsOf cutBy any least sumTo upTo ahead next bodyAt segmentAt segments wanted broken opened settledBy
+    settled fateBy fate atGap inOrder pspFate hear carriedOut refused receivedBy received answer after countedBy tableAfterAll
 byte-account-instance = (refl, refl, refl, refl)
 
 -- the slice that is a byte short was refused by 1
@@ -60,14 +62,16 @@ abbrev before-it : List Lent
 before-it = with-slice [] (opens (asking kind.Psp 0x101)) ∷ with-slice (replicate 49152 0) (hand-udp A) ∷ []
 
 refused-by-1 : (answer (cardFor (tableAfterAll empty before-it) short-slice) (hand B)) .code ≡ 1
-unfolding part rest put joined lengthsOf cutBy any least sumTo upTo ahead next bodyAt segmentAt segments wanted broken opened settledBy settled fateBy fate atGap inOrder pspFate hear carriedOut refused receivedBy received answer after tableAfterAll
+unfolding part rest put joined lengthsOf cutBy any least sumTo upTo ahead next bodyAt segmentAt segments wanted broken opened settledBy
+    settled fateBy fate atGap inOrder pspFate hear carriedOut refused receivedBy received answer after tableAfterAll
 refused-by-1 = refl
 
 -- then a D-MPT session with a packet over UDP, of two MPEG packets, one of which carries nothing, and the close of the other session, which
 -- drops the 3 bytes
 abbrev mpegs-come : List ℕ
 mpegs-come =
-    0x00 ∷ 0x00 ∷ 0x01 ∷ 0x03 ∷ 0x00 ∷ 0x00 ∷ 0x00 ∷ 0x00 ∷ 0x47 ∷ 0x1F ∷ 0xFF ∷ (replicate 185 0xB1 ++ (0x47 ∷ 0x00 ∷ 0x10 ∷ replicate 185 0xA1))
+    0x00 ∷ 0x00 ∷ 0x01 ∷ 0x03 ∷ 0x00 ∷ 0x00 ∷ 0x00 ∷ 0x00 ∷ 0x47 ∷ 0x1F ∷ 0xFF
+    ∷ (replicate 185 0xB1 ++ (0x47 ∷ 0x00 ∷ 0x10 ∷ replicate 185 0xA1))
 
 abbrev and-closes : List Lent
 and-closes =
@@ -87,7 +91,8 @@ unfolding part rest put joined lengthsOf cutBy any least sumTo upTo ahead next b
 closes-counted = (refl, refl, refl, refl)
 
 never-broken-instance : (broken (tableAfterAll empty slices-change) ≡ false) × (length (tableAfterAll empty slices-change .rows) ≡ 6)
-unfolding part rest put joined lengthsOf cutBy any least sumTo upTo ahead next bodyAt segmentAt segments wanted broken opened settledBy settled fateBy fate atGap inOrder pspFate hear carriedOut refused receivedBy received answer after tableAfterAll
+unfolding part rest put joined lengthsOf cutBy any least sumTo upTo ahead next bodyAt segmentAt segments wanted broken opened settledBy
+    settled fateBy fate atGap inOrder pspFate hear carriedOut refused receivedBy received answer after tableAfterAll
 never-broken-instance = (refl, refl)
 
 -- one slice through all calls, and the close: which bytes come in, are delivered, are dropped, and that none is held at the end
@@ -100,14 +105,17 @@ each-byte-instance : (gathered takenBy (emptyCard (replicate 49152 0)) calls
     ≡ 0x11 ∷ 0x12 ∷ 0x13 ∷ 0x14 ∷ 0x15 ∷ 0x16 ∷ 0x21 ∷ 0x22 ∷ 0x23 ∷ 0x24 ∷ 0x25 ∷ 0x26 ∷ 0x27 ∷ 0x28 ∷ 0x29 ∷ [])
     × (gathered droppedBy (emptyCard (replicate 49152 0)) calls ≡ 0x71 ∷ 0x72 ∷ 0x73 ∷ [])
     × (bytesHeld (afterAll (emptyCard (replicate 49152 0)) calls) ≡ [])
-unfolding part rest put joined lengthsOf cutBy any least sumTo upTo ahead next bodyAt segmentAt segments wanted broken opened closed settledBy settled fateBy fate atGap inOrder pspFate hear carriedOut refused receivedBy received answer after afterAll gathered
+unfolding part rest put joined lengthsOf cutBy any least sumTo upTo ahead next bodyAt segmentAt segments wanted broken opened closed
+    settledBy settled fateBy fate atGap inOrder pspFate hear carriedOut refused receivedBy received answer after afterAll gathered
 each-byte-instance = (refl, refl, refl, refl)
 
 closed-unbroken : broken (afterAll (emptyCard (replicate 49152 0)) calls .table) ≡ false
-unfolding part rest put joined lengthsOf cutBy any least sumTo upTo ahead next bodyAt segmentAt segments wanted broken opened closed settledBy settled fateBy fate atGap inOrder pspFate hear carriedOut refused receivedBy received answer after afterAll
+unfolding part rest put joined lengthsOf cutBy any least sumTo upTo ahead next bodyAt segmentAt segments wanted broken opened closed
+    settledBy settled fateBy fate atGap inOrder pspFate hear carriedOut refused receivedBy received answer after afterAll
 closed-unbroken = refl
 
 -- a close is not given the holding slice: what was held stands there still, in the place of row 0, flow 1, which begins at 2,048
 close-leaves-places : part (afterAll (emptyCard (replicate 49152 0)) calls .holding) 2048 4 ≡ 0x71 ∷ 0x72 ∷ 0x73 ∷ 0 ∷ []
-unfolding part rest put joined lengthsOf cutBy any least sumTo upTo ahead next bodyAt segmentAt segments wanted broken opened closed settledBy settled fateBy fate atGap inOrder pspFate hear carriedOut refused receivedBy received answer after afterAll
+unfolding part rest put joined lengthsOf cutBy any least sumTo upTo ahead next bodyAt segmentAt segments wanted broken opened closed
+    settledBy settled fateBy fate atGap inOrder pspFate hear carriedOut refused receivedBy received answer after afterAll
 close-leaves-places = refl

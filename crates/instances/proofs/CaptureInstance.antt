@@ -1,5 +1,5 @@
--- A closed instance of reads-back: the paper's capture of 84 bytes, read and written again; and its entries, written and read. It cites definitions alone, so that
--- it can be held against wrong ones.
+-- A closed instance of reads-back: the paper's capture of 84 bytes, read and written again; and its entries, written and read. It cites
+-- definitions alone, so that it can be held against wrong ones.
 use Prim.Native.Nat.{ℕ}
 use mathlib.Core.Path.{_≡_, refl}
 use mathlib.Core.List.{List, [], _∷_, _++_}

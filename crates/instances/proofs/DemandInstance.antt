@@ -1,12 +1,12 @@
--- A closed instance of demand 3, of what the gaps tell, and of one lost fewer: the premises are met, and the conclusion is computed. It cites definitions
--- alone, so that it can be held against wrong ones.
+-- A closed instance of demand 3, of what the gaps tell, and of one lost fewer: the premises are met, and the conclusion is computed. It
+-- cites definitions alone, so that it can be held against wrong ones.
 use Rattle.table.specs.declared.Kind.the-variants as kind
 use Prim.Native.Nat.{ℕ, zero, suc, _<_, _≤_}
 use mathlib.Core.Path.{_≡_, refl, sym}
 use mathlib.Core.Bool.{Bool, true, false, true≢false}
 use mathlib.Core.List.{List, [], _∷_, map}
 use native.Mathlib.Omega.{arith}
-use lib.ListN.{length, getD, drop, replicate, length-replicate}
+use lib.ListN.{length, drop, replicate, length-replicate}
 use Rattle.octets.specs.Stretch.{part, rest, put, joined, lengthsOf, cutBy}
 use Rattle.octets.specs.Count.{any, least, sumTo, upTo}
 use Rattle.octets.specs.Each.{Each}
@@ -62,7 +62,8 @@ abbrev pub packets : List Packet
 packets = packet0 ∷ packet1 ∷ packet2 ∷ packet3 ∷ []
 
 pub keeps : KeepsRules (record { session = 0x101; flow = 1; start = 0xFFFE }) frames ((0x51 ∷ []) ∷ []) packets
-unfolding part rest joined any sumTo upTo bodyAt segmentAt segments wanted check checkRefusals numberAt wholeFrame begunFrame inTurn allSegments
+unfolding part rest joined any sumTo upTo bodyAt segmentAt segments wanted check checkRefusals numberAt wholeFrame begunFrame
+    inTurn allSegments
 keeps =
     record {
       sizes = ((omega arith, omega arith), ((omega arith, omega arith), ((omega arith, omega arith), ((omega arith, omega arith), tt))));
@@ -128,7 +129,8 @@ abbrev pub before : List Call
 before = opens (asking kind.Psp 0x102) ∷ hand (inUdp others-half) ∷ []
 
 pub opens-101 : (answer (afterAll (emptyCard (replicate 49152 0)) before) (opens (asking kind.Psp 0x101))) .code ≡ 0
-unfolding part rest put joined lengthsOf any least sumTo upTo ahead next bodyAt segmentAt segments wanted broken opened settledBy settled fateBy fate atGap inOrder pspFate hear carriedOut refused receivedBy received answer after afterAll
+unfolding part rest put joined lengthsOf any least sumTo upTo ahead next bodyAt segmentAt segments wanted broken opened settledBy settled
+    fateBy fate atGap inOrder pspFate hear carriedOut refused receivedBy received answer after afterAll
 opens-101 = refl
 
 pub overtaken-long : LongEnough kind.Psp 0x101 1 (replicate 49152 0) overtaken-calls
@@ -167,14 +169,17 @@ overtaken =
 
 -- The first, second and fourth frame come out, as they were; the third does not, for its second packet came after a later one.
 pub demand-3-instance : comesOut sending overtaken ≡ (0x11 ∷ 0x12 ∷ 0x13 ∷ []) ∷ (0x21 ∷ []) ∷ (0x41 ∷ 0x42 ∷ []) ∷ []
-unfolding part rest put joined lengthsOf cutBy any least sumTo upTo ahead next bodyAt segmentAt segments wanted broken opened closed settledBy settled fateBy fate atGap inOrder pspFate hear carriedOut refused receivedBy received answer after afterAll framesOut
+unfolding part rest put joined lengthsOf cutBy any least sumTo upTo ahead next bodyAt segmentAt segments wanted broken opened closed
+    settledBy settled fateBy fate atGap inOrder pspFate hear carriedOut refused receivedBy received answer after afterAll framesOut
 demand-3-instance = refl
 
-pub their-packets : (carriers frames packets 0 ≡ 0 ∷ 1 ∷ []) × (carriers frames packets 1 ≡ 1 ∷ []) × (carriers frames packets 2 ≡ 1 ∷ 2 ∷ []) × (carriers frames packets 3 ≡ 3 ∷ [])
+pub their-packets : (carriers frames packets 0 ≡ 0 ∷ 1 ∷ []) × (carriers frames packets 1 ≡ 1 ∷ [])
+    × (carriers frames packets 2 ≡ 1 ∷ 2 ∷ []) × (carriers frames packets 3 ≡ 3 ∷ [])
 unfolding part rest sumTo upTo bodyAt segmentAt segments placesFrom carriers
 their-packets = (refl, refl, refl, refl)
 
-pub in-time : (inTime (overtaken .arrivals) 0 ≡ true) × (inTime (overtaken .arrivals) 1 ≡ true) × (inTime (overtaken .arrivals) 2 ≡ false) × (inTime (overtaken .arrivals) 3 ≡ true)
+pub in-time : (inTime (overtaken .arrivals) 0 ≡ true) × (inTime (overtaken .arrivals) 1 ≡ true) × (inTime (overtaken .arrivals) 2 ≡ false)
+    × (inTime (overtaken .arrivals) 3 ≡ true)
 unfolding inTime
 in-time = (refl, refl, refl, refl)
 
@@ -189,15 +194,16 @@ overtaken-verdicts =
     ∷ []
 
 pub gaps-instance : verdictsOut kind.Psp 0x101 1 (openedCard sending overtaken) overtaken-calls ≡ overtaken-verdicts
-unfolding part rest put joined lengthsOf cutBy any least sumTo upTo ahead next bodyAt segmentAt segments wanted broken opened closed settledBy settled fateBy fate atGap inOrder pspFate hear carriedOut refused receivedBy received answer after afterAll verdictsOut
+unfolding part rest put joined lengthsOf cutBy any least sumTo upTo ahead next bodyAt segmentAt segments wanted broken opened closed
+    settledBy settled fateBy fate atGap inOrder pspFate hear carriedOut refused receivedBy received answer after afterAll verdictsOut
 gaps-instance = refl
 
 pub gaps-expected : verdictsOf (overtaken .arrivals) ≡ overtaken-verdicts
 unfolding verdictsOf verdictsFrom
 gaps-expected = refl
 
--- One lost fewer: in the worse run the third packet is lost, in the better one nothing is. The frame that it carries an end of comes out of the second only,
--- and the others come out of both.
+-- One lost fewer: in the worse run the third packet is lost, in the better one nothing is. The frame that it carries an end of comes out of
+-- the second only, and the others come out of both.
 abbrev pub worse-calls : List Call
 worse-calls = hand packet0 ∷ hand packet1 ∷ hand packet3 ∷ []
 
@@ -226,7 +232,8 @@ worse-long = (omega (arith, length-replicate {A = ℕ} 49152 0), (long-slices tr
 
 pub better-long : LongEnough kind.Psp 0x101 1 (replicate 49152 0) better-calls
 unfolding rest
-better-long = (omega (arith, length-replicate {A = ℕ} 49152 0), (long-slices true, (long-slices true, (long-slices true, (long-slices true, tt)))))
+better-long =
+    (omega (arith, length-replicate {A = ℕ} 49152 0), (long-slices true, (long-slices true, (long-slices true, (long-slices true, tt)))))
 
 abbrev pub worse : Run sending
 worse =
@@ -260,5 +267,6 @@ better =
 
 pub fewer-lost-instance : (comesOut sending worse ≡ (0x11 ∷ 0x12 ∷ 0x13 ∷ []) ∷ (0x21 ∷ []) ∷ (0x41 ∷ 0x42 ∷ []) ∷ [])
     × (comesOut sending better ≡ (0x11 ∷ 0x12 ∷ 0x13 ∷ []) ∷ (0x21 ∷ []) ∷ (0x31 ∷ 0x32 ∷ 0x33 ∷ []) ∷ (0x41 ∷ 0x42 ∷ []) ∷ [])
-unfolding part rest put joined lengthsOf cutBy any least sumTo upTo ahead next bodyAt segmentAt segments wanted broken opened closed settledBy settled fateBy fate atGap inOrder pspFate hear carriedOut refused receivedBy received answer after afterAll framesOut
+unfolding part rest put joined lengthsOf cutBy any least sumTo upTo ahead next bodyAt segmentAt segments wanted broken opened closed
+    settledBy settled fateBy fate atGap inOrder pspFate hear carriedOut refused receivedBy received answer after afterAll framesOut
 fewer-lost-instance = (refl, refl)

@@ -1,4 +1,5 @@
--- A closed instance of what D-MPT delivers, on a card with other sessions. It cites definitions alone, so that it can be held against wrong ones.
+-- A closed instance of what D-MPT delivers, on a card with other sessions. It cites definitions alone, so that it can be held against wrong
+-- ones.
 use Prim.Native.Nat.{ℕ}
 use mathlib.Core.Path.{_≡_, refl}
 use mathlib.Core.Bool.{true}
@@ -40,7 +41,9 @@ abbrev pub dmpt-packet : List ℕ
 dmpt-packet = 0x00 ∷ 0x00 ∷ 0x01 ∷ 0x03 ∷ 0x00 ∷ 0x05 ∷ 0x12 ∷ 0x34 ∷ (mpeg-some ++ mpeg-null)
 
 abbrev pub dmpt-card : Card
-dmpt-card = afterAll (emptyCard (replicate 49152 0)) (opens (asking kind.Psp 0x102) ∷ hand others-half ∷ opens (asking kind.Dmpt 0x103) ∷ opens (asking kind.Psp 0x101) ∷ [])
+dmpt-card =
+    afterAll (emptyCard (replicate 49152 0))
+    (opens (asking kind.Psp 0x102) ∷ hand others-half ∷ opens (asking kind.Dmpt 0x103) ∷ opens (asking kind.Psp 0x101) ∷ [])
 
 -- This card, told: 0x102 has heard its packet and holds 3 bytes in the place of its flow 1, and the others are fresh.
 abbrev pub dmpt-told : Card
@@ -61,7 +64,8 @@ dmpt-told =
 
 -- The packet is for a D-MPT session ..
 pub dmpt-goes : (dmpt-card ≡ dmpt-told) × (isDmpt (termsAt (dmpt-card .table) (rowOf (dmpt-card .table) (ip dmpt-packet)) .kind) ≡ true)
-unfolding part rest put joined lengthsOf any least sumTo upTo ahead next bodyAt segmentAt segments wanted broken opened settledBy settled fateBy fate atGap inOrder pspFate hear carriedOut refused receivedBy received after afterAll
+unfolding part rest put joined lengthsOf any least sumTo upTo ahead next bodyAt segmentAt segments wanted broken opened settledBy settled
+    fateBy fate atGap inOrder pspFate hear carriedOut refused receivedBy received after afterAll
 dmpt-goes = (refl, refl)
 
 -- .. and accepted: the first MPEG packet is found, the second is dropped, and the card is as it was; over UDP too.

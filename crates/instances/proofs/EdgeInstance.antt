@@ -1,6 +1,6 @@
--- Closed instances at edges that the others do not touch: what is counted of a value, the bound at its two ends, a gap that a session is told, a close of
--- another session and a malformed packet while a frame is half there, flow 3, a row that came free, D-MPT with numbers, both transports,
--- and a frame that is cut twice. It cites definitions alone, so that it can be held against wrong ones.
+-- Closed instances at edges that the others do not touch: what is counted of a value, the bound at its two ends, a gap that a session is
+-- told, a close of another session and a malformed packet while a frame is half there, flow 3, a row that came free, D-MPT with numbers,
+-- both transports, and a frame that is cut twice. It cites definitions alone, so that it can be held against wrong ones.
 use Prim.Native.Nat.{ℕ}
 use mathlib.Core.Path.{_≡_, refl}
 use mathlib.Core.List.{List, [], _∷_, _++_}
@@ -54,7 +54,8 @@ fresh-101 = after (cardAfter (replicate 49152 0) []) (opens (asking kind.Psp 0x1
 
 -- A, and then number 4: four are missing before it, and what A left is dropped.
 gap-is-told : told 0x101 fresh-101 (hand A ∷ hand (whole3 4) ∷ []) ≡ one-frame 6 0 0 of6 ∷ one-frame 3 2 4 of3 ∷ []
-unfolding part rest put joined lengthsOf any least sumTo upTo ahead next bodyAt segmentAt segments wanted broken opened settledBy settled fateBy fate atGap inOrder pspFate hear carriedOut refused receivedBy received answer after afterAll told
+unfolding part rest put joined lengthsOf any least sumTo upTo ahead next bodyAt segmentAt segments wanted broken opened settledBy settled
+    fateBy fate atGap inOrder pspFate hear carriedOut refused receivedBy received answer after afterAll told
 gap-is-told = refl
 
 -- Packets over UDP and over IP on one flow: the session is told the same.
@@ -95,7 +96,8 @@ unfolding part rest put joined lengthsOf any least sumTo upTo ahead next bodyAt 
     fateBy fate atGap inOrder pspFate hear carriedOut refused receivedBy received answer after afterAll told
 too-long-is-told = refl
 
--- Between A and B another session is closed, and a packet with number 3 is refused, whose last byte is cut: B finds what A left, and the number is expected.
+-- Between A and B another session is closed, and a packet with number 3 is refused, whose last byte is cut: B finds what A left, and the
+-- number is expected.
 abbrev half-there : List Call
 half-there = opens (asking kind.Psp 0x102) ∷ hand A ∷ closes 0x102 ∷ hand (take 12 (whole3 3)) ∷ hand B ∷ []
 
@@ -103,31 +105,37 @@ abbrev cut-short : Told
 cut-short = record { code = 10; frames = 0; bytes = 0; dropped = 0; gap = 0; output = []; lengths = [] }
 
 half-is-kept : told 0x101 fresh-101 half-there ≡ one-frame 6 0 0 of6 ∷ cut-short ∷ one-frame 9 0 0 of9 ∷ []
-unfolding part rest put joined lengthsOf any least sumTo upTo ahead next bodyAt segmentAt segments wanted broken opened closed settledBy settled fateBy fate atGap inOrder pspFate hear carriedOut refused receivedBy received answer after afterAll told
+unfolding part rest put joined lengthsOf any least sumTo upTo ahead next bodyAt segmentAt segments wanted broken opened closed settledBy
+    settled fateBy fate atGap inOrder pspFate hear carriedOut refused receivedBy received answer after afterAll told
 half-is-kept = refl
 
--- A gap of 2 forbids the join, as a gap of 1 does: the 2 bytes held and the 7 that came are dropped. What flow 3 holds is dropped by the close.
+-- A gap of 2 forbids the join, as a gap of 1 does: the 2 bytes held and the 7 that came are dropped. What flow 3 holds is dropped by the
+-- close.
 abbrev no-frame : ℕ → ℕ → Told
 no-frame dropped gap = record { code = 0; frames = 0; bytes = 0; dropped = dropped; gap = gap; output = []; lengths = [] }
 
 gap-of-2 : told 0x101 fresh-101 (hand A ∷ hand (set B 7 2) ∷ []) ≡ one-frame 6 0 0 of6 ∷ no-frame 9 2 ∷ []
-unfolding part rest put joined lengthsOf any least sumTo upTo ahead next bodyAt segmentAt segments wanted broken opened settledBy settled fateBy fate atGap inOrder pspFate hear carriedOut refused receivedBy received answer after afterAll told
+unfolding part rest put joined lengthsOf any least sumTo upTo ahead next bodyAt segmentAt segments wanted broken opened settledBy settled
+    fateBy fate atGap inOrder pspFate hear carriedOut refused receivedBy received answer after afterAll told
 gap-of-2 = refl
 
 flow-3-dropped : told 0x101 fresh-101 (hand (set A 4 0x43) ∷ closes 0x101 ∷ []) ≡ one-frame 6 0 0 of6 ∷ no-frame 2 0 ∷ []
-unfolding part rest put joined lengthsOf any least sumTo upTo ahead next bodyAt segmentAt segments wanted broken opened closed settledBy settled fateBy fate atGap inOrder pspFate hear carriedOut refused receivedBy received answer after afterAll told
+unfolding part rest put joined lengthsOf any least sumTo upTo ahead next bodyAt segmentAt segments wanted broken opened closed settledBy
+    settled fateBy fate atGap inOrder pspFate hear carriedOut refused receivedBy received answer after afterAll told
 flow-3-dropped = refl
 
 -- Rows 0 to 5 are taken and row 1 comes free: the next session opens there. A packet of the session that was closed is refused by 5.
 abbrev six-then-one : Card
 six-then-one =
     cardAfter (replicate 49152 0)
-    (opens (asking kind.Psp 1) ∷ opens (asking kind.Psp 0x101) ∷ opens (asking kind.Psp 3) ∷ opens (asking kind.Psp 4) ∷ opens (asking kind.Psp 5) ∷ opens (asking kind.Psp 6) ∷ closes 0x101 ∷ [])
+    (opens (asking kind.Psp 1) ∷ opens (asking kind.Psp 0x101) ∷ opens (asking kind.Psp 3) ∷ opens (asking kind.Psp 4)
+    ∷ opens (asking kind.Psp 5) ∷ opens (asking kind.Psp 6) ∷ closes 0x101 ∷ [])
 
 free-row : (answer six-then-one (opens (asking kind.Psp 7)) .code ≡ 0)
     × (find (after six-then-one (opens (asking kind.Psp 7)) .table) 7 ≡ 1)
     × (answer six-then-one (hand A) .code ≡ 5)
-unfolding part rest put joined lengthsOf any least sumTo upTo ahead next bodyAt segmentAt segments wanted broken opened closed settledBy settled fateBy fate atGap inOrder pspFate hear carriedOut refused receivedBy received answer after afterAll
+unfolding part rest put joined lengthsOf any least sumTo upTo ahead next bodyAt segmentAt segments wanted broken opened closed settledBy
+    settled fateBy fate atGap inOrder pspFate hear carriedOut refused receivedBy received answer after afterAll
 free-row = (refl, refl, refl)
 
 -- D-MPT with S set: the first number is taken as it is, the second lies 4 ahead of the one expected, and the same again is late.
@@ -140,13 +148,15 @@ numbered low = 0x00 ∷ 0x00 ∷ 0x01 ∷ 0x03 ∷ 0x40 ∷ 0x00 ∷ 0x12 ∷ lo
 abbrev too-late : Told
 too-late = record { code = 12; frames = 0; bytes = 0; dropped = 0; gap = 0; output = []; lengths = [] }
 
-dmpt-numbered : told 0x103 (after (cardAfter (replicate 49152 0) []) (opens (asking kind.Dmpt 0x103))) (hand (numbered 0x34) ∷ hand (numbered 0x39) ∷ hand (numbered 0x39) ∷ [])
+dmpt-numbered : told 0x103 (after (cardAfter (replicate 49152 0) []) (opens (asking kind.Dmpt 0x103)))
+    (hand (numbered 0x34) ∷ hand (numbered 0x39) ∷ hand (numbered 0x39) ∷ [])
     ≡ one-frame 188 0 0 mpeg ∷ one-frame 188 0 4 mpeg ∷ too-late ∷ []
 unfolding part rest put joined lengthsOf any least sumTo upTo ahead next mpegAt mpegs broken opened inOrder passAll dmptFate hear carriedOut
     refused receivedBy received answer after afterAll told
 dmpt-numbered = refl
 
--- A frame of 25 bytes with the limit 16, for a session whose ID has four unlike bytes: 10, 10 and 5 bytes, B on the first and E on the last.
+-- A frame of 25 bytes with the limit 16, for a session whose ID has four unlike bytes: 10, 10 and 5 bytes, B on the first and E on the
+-- last.
 abbrev long-job : Job
 long-job = record { session = 0x01020304; flow = 2; bytes = replicate 10 0xAA ++ replicate 10 0xBB ++ replicate 5 0xCC; lengths = 25 ∷ [] }
 
@@ -155,5 +165,6 @@ cut-twice : seriesPackets long-job 7 (startOfFrame 0) (replicate 4 limit16)
     ∷ (0x01 ∷ 0x02 ∷ 0x03 ∷ 0x04 ∷ 0x42 ∷ 0x01 ∷ 0x00 ∷ 0x08 ∷ 0x00 ∷ 0x0A ∷ replicate 10 0xBB)
     ∷ (0x01 ∷ 0x02 ∷ 0x03 ∷ 0x04 ∷ 0x42 ∷ 0x01 ∷ 0x00 ∷ 0x09 ∷ 0x40 ∷ 0x05 ∷ replicate 5 0xCC)
     ∷ []
-unfolding part put joined any sumTo next seriesPackets frameStart cut packetOf sender.cutFor sender.written sender.refused sender.sentBy sender.sent
+unfolding part put joined any sumTo next seriesPackets frameStart cut packetOf sender.cutFor sender.written sender.refused
+    sender.sentBy sender.sent
 cut-twice = refl

@@ -1,5 +1,5 @@
--- Closed instances of isolation and of open-by-ids: one session, told the same whether it is alone on the card or among others; and opens on two tables with the
--- same open IDs in other rows. It cites definitions alone, so that it can be held against wrong ones.
+-- Closed instances of isolation and of open-by-ids: one session, told the same whether it is alone on the card or among others; and opens
+-- on two tables with the same open IDs in other rows. It cites definitions alone, so that it can be held against wrong ones.
 use Rattle.packet.specs.Header.{Packet, ip, udp, inUdp}
 use Prim.Native.Nat.{ℕ}
 use mathlib.Core.Path.{_≡_, refl}
@@ -35,8 +35,8 @@ alone-calls = hand-by (inUdp A) ∷ hand B ∷ hand half-a-frame ∷ closes 0x10
 abbrev one-before : List Call
 one-before = opens (asking kind.Psp 0x109) ∷ []
 
--- The same among others, in row 0, which another session had left. Session 0x102, in row 1, hears the like on its own flow 1, between A and B, and is closed; an
--- open of 0x101 is refused, and so is a control message over UDP; and what is lent is as long, but not the same.
+-- The same among others, in row 0, which another session had left. Session 0x102, in row 1, hears the like on its own flow 1, between A and
+-- B, and is closed; an open of 0x101 is refused, and so is a control message over UDP; and what is lent is as long, but not the same.
 abbrev to-102 : ℕ → List ℕ
 to-102 number = 0x00 ∷ 0x00 ∷ 0x01 ∷ 0x02 ∷ 0x41 ∷ 0x01 ∷ 0x00 ∷ number ∷ 0x80 ∷ 0x03 ∷ 0x91 ∷ 0x92 ∷ 0x93 ∷ []
 
@@ -66,7 +66,8 @@ same-own = refl
 
 opens-both : (answer (cardAfter (replicate 49152 0) one-before) (opens (asking kind.Psp 0x101)) .code ≡ 0)
     × (answer (cardAfter (replicate 49152 5) others-first) (opens (asking kind.Psp 0x101)) .code ≡ 0)
-unfolding part rest put joined lengthsOf any least sumTo upTo ahead next bodyAt segmentAt segments wanted broken opened closed settledBy settled fateBy fate atGap inOrder pspFate hear carriedOut refused receivedBy received answer after afterAll
+unfolding part rest put joined lengthsOf any least sumTo upTo ahead next bodyAt segmentAt segments wanted broken opened closed settledBy
+    settled fateBy fate atGap inOrder pspFate hear carriedOut refused receivedBy received answer after afterAll
 opens-both = (refl, refl)
 
 abbrev answered : List Told
@@ -79,11 +80,12 @@ answered =
 
 isolation-instance : (told 0x101 (after (cardAfter (replicate 49152 0) one-before) (opens (asking kind.Psp 0x101))) alone-calls ≡ answered)
     × (told 0x101 (after (cardAfter (replicate 49152 5) others-first) (opens (asking kind.Psp 0x101))) among-others ≡ answered)
-unfolding part rest put joined lengthsOf any least sumTo upTo ahead next bodyAt segmentAt segments wanted broken opened closed settledBy settled fateBy fate atGap inOrder pspFate hear carriedOut refused receivedBy received answer after afterAll told
+unfolding part rest put joined lengthsOf any least sumTo upTo ahead next bodyAt segmentAt segments wanted broken opened closed settledBy
+    settled fateBy fate atGap inOrder pspFate hear carriedOut refused receivedBy received answer after afterAll told
 isolation-instance = (refl, refl)
 
--- Session 2 is open in row 1 of the one table and in row 0 of the other, and no other session in either: opening 3 succeeds, opening 2 again and opening 0 does not.
--- With six open, a seventh is refused.
+-- Session 2 is open in row 1 of the one table and in row 0 of the other, and no other session in either: opening 3 succeeds, opening 2
+-- again and opening 0 does not. With six open, a seventh is refused.
 abbrev in-row-1 : Card
 in-row-1 = cardAfter [] (opens (asking kind.Psp 1) ∷ opens (asking kind.Dmpt 2) ∷ closes 1 ∷ [])
 
@@ -95,7 +97,9 @@ open-by-ids-instance : (answer in-row-1 (opens (asking kind.Psp 3)) .code ≡ 0)
     × (answer in-row-1 (opens (asking kind.Psp 2)) .code ≡ 22)
     × (answer in-row-0 (opens (asking kind.Psp 2)) .code ≡ 22)
     × (answer in-row-1 (opens (asking kind.Psp 0)) .code ≡ 21)
-    × (answer (cardAfter [] (opens (asking kind.Psp 1) ∷ opens (asking kind.Psp 2) ∷ opens (asking kind.Psp 3) ∷ opens (asking kind.Dmpt 4) ∷ opens (asking kind.Psp 5) ∷ opens (asking kind.Psp 6) ∷ [])) (opens (asking kind.Psp 7)) .code ≡ 23)
+    × (answer (cardAfter []
+    (opens (asking kind.Psp 1) ∷ opens (asking kind.Psp 2) ∷ opens (asking kind.Psp 3) ∷ opens (asking kind.Dmpt 4)
+    ∷ opens (asking kind.Psp 5) ∷ opens (asking kind.Psp 6) ∷ [])) (opens (asking kind.Psp 7)) .code ≡ 23)
     × (isOpen (in-row-1 .table) 2 ≡ true)
     × (isOpen (in-row-0 .table) 2 ≡ true)
     × (isOpen (in-row-1 .table) 1 ≡ false)

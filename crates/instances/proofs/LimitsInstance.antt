@@ -1,5 +1,5 @@
--- Closed instances of the limits and of refusals: a call that delivers 127 frames, one that delivers the longest frame and more, and refused calls. It cites definitions
--- alone, so that it can be held against wrong ones.
+-- Closed instances of the limits and of refusals: a call that delivers 127 frames, one that delivers the longest frame and more, and
+-- refused calls. It cites definitions alone, so that it can be held against wrong ones.
 use Rattle.packet.specs.Header.{Packet, packetBy, ip, udp, inUdp}
 use Prim.Native.Nat.{ℕ, zero, suc}
 use mathlib.Core.Path.{_≡_, refl}
@@ -31,7 +31,8 @@ as-many = 0x00 ∷ 0x00 ∷ 0x01 ∷ 0x01 ∷ 0x41 ∷ 0x7F ∷ 0x00 ∷ 0x00 �
 -- and one of 2,037
 abbrev as-long : List ℕ
 as-long =
-    0x00 ∷ 0x00 ∷ 0x01 ∷ 0x01 ∷ 0x41 ∷ 0x03 ∷ 0x00 ∷ 0x01 ∷ 0x40 ∷ 0x01 ∷ 0xC8 ∷ 0x00 ∷ 0xC7 ∷ 0xF5 ∷ (0x55 ∷ (replicate 2048 0x56 ++ replicate 2037 0x57))
+    0x00 ∷ 0x00 ∷ 0x01 ∷ 0x01 ∷ 0x41 ∷ 0x03 ∷ 0x00 ∷ 0x01 ∷ 0x40 ∷ 0x01 ∷ 0xC8 ∷ 0x00 ∷ 0xC7 ∷ 0xF5
+    ∷ (0x55 ∷ (replicate 2048 0x56 ++ replicate 2037 0x57))
 
 abbrev lent : Packet → Call
 lent packet = hands (record { packet = packet; output = replicate 6144 6; lengths = replicate 127 7 })
@@ -41,7 +42,8 @@ within-limits-instance : ((answer opened-card (hand as-many)) .frames ≡ 127)
     × ((answer (handed-card opened-card (beginning 2047 ∷ [])) (hand as-long)) .frames ≡ 3)
     × ((answer (handed-card opened-card (beginning 2047 ∷ [])) (hand as-long)) .bytes ≡ 6133)
     × ((answer (handed-card opened-card (beginning 2047 ∷ [])) (lent (inUdp as-long))) .bytes ≡ 6133)
-unfolding part rest put joined lengthsOf cutBy any least sumTo upTo ahead next bodyAt segmentAt segments wanted broken opened settledBy settled fateBy fate atGap inOrder pspFate hear carriedOut refused receivedBy received answer after handed-card
+unfolding part rest put joined lengthsOf cutBy any least sumTo upTo ahead next bodyAt segmentAt segments wanted broken opened settledBy
+    settled fateBy fate atGap inOrder pspFate hear carriedOut refused receivedBy received answer after handed-card
 within-limits-instance = (refl, refl, refl, refl, refl)
 
 -- a packet that comes again; one over UDP with T set, and one by a transport that there is not; an open of an open session, a close of a
@@ -58,5 +60,6 @@ refusals-instance : ((answer (handed-card opened-card (A ∷ B ∷ [])) (lent (i
     × ((answer opened-card (closes 0x102)) .code ≡ 25)
     × ((after opened-card (opens (asking kind.Psp 0x101))) .table ≡ opened-card .table)
     × ((after opened-card (closes 0x102)) .table ≡ opened-card .table)
-unfolding part rest put joined lengthsOf cutBy any least sumTo upTo ahead next bodyAt segmentAt segments wanted broken opened closed settledBy settled fateBy fate atGap inOrder pspFate hear carriedOut refused receivedBy received answer after handed-card
+unfolding part rest put joined lengthsOf cutBy any least sumTo upTo ahead next bodyAt segmentAt segments wanted broken opened closed
+    settledBy settled fateBy fate atGap inOrder pspFate hear carriedOut refused receivedBy received answer after handed-card
 refusals-instance = (refl, refl, refl, refl, refl, refl, refl, refl, refl, refl, refl, refl)

@@ -18,9 +18,12 @@ use Rattle.sender.specs.Series.{seriesPackets}
 use Rattle.promises.specs.Marked.{handed-card, Marked, BesidesMarked}
 
 pub marked : Marked
-unfolding part rest put joined lengthsOf cutBy any least sumTo upTo ahead next bodyAt segmentAt segments wanted broken opened settledBy settled fateBy fate atGap inOrder pspFate hear carriedOut refused receivedBy received answer after handed-card seriesPackets frameStart cut packetOf sender.cutFor sender.written sender.refused sender.sentBy sender.sent
+unfolding part rest put joined lengthsOf cutBy any least sumTo upTo ahead next bodyAt segmentAt segments wanted broken opened settledBy
+    settled fateBy fate atGap inOrder pspFate hear carriedOut refused receivedBy received answer after handed-card seriesPackets frameStart
+    cut packetOf sender.cutFor sender.written sender.refused sender.sentBy sender.sent
 marked = (refl, (refl, (refl, (refl, (refl, (refl, (refl, (refl, (refl, (refl, (refl, (refl, tt))))))))))))
 
 pub besides-marked : BesidesMarked
-unfolding part rest put joined lengthsOf cutBy any least sumTo upTo ahead next bodyAt segmentAt segments wanted broken opened settledBy settled fateBy fate atGap inOrder pspFate hear carriedOut refused receivedBy received answer after handed-card
+unfolding part rest put joined lengthsOf cutBy any least sumTo upTo ahead next bodyAt segmentAt segments wanted broken opened settledBy
+    settled fateBy fate atGap inOrder pspFate hear carriedOut refused receivedBy received answer after handed-card
 besides-marked = (refl, (refl, (refl, (refl, (refl, (refl, tt))))))

@@ -1,12 +1,12 @@
--- A closed instance of `core-to-modulator`: the premises are met, and the conclusion is computed. It cites definitions alone, so that it can be held
--- against wrong ones.
+-- A closed instance of `core-to-modulator`: the premises are met, and the conclusion is computed. It cites definitions alone, so that it
+-- can be held against wrong ones.
 use Rattle.table.specs.declared.Kind.the-variants as kind
 use Prim.Native.Nat.{ℕ, zero, suc, _+_, _<_, _≤_}
 use mathlib.Core.Path.{_≡_, refl, subst}
 use mathlib.Core.Bool.{true, false}
 use mathlib.Core.List.{List, [], _∷_, _++_, map}
 use native.Mathlib.Omega.{arith}
-use lib.ListN.{length, getD, replicate, length-replicate}
+use lib.ListN.{length, replicate, length-replicate}
 use Rattle.octets.specs.Bytes.{AllBytes}
 use Rattle.octets.specs.Stretch.{part, rest, put, joined, lengthsOf, cutBy}
 use Rattle.octets.specs.Each.{Each}
@@ -43,8 +43,8 @@ hand packet = hands (record { packet = packet; output = replicate 6144 0; length
 room : (6144 ≤ length {A = ℕ} (replicate 6144 0)) × (127 ≤ length {A = ℕ} (replicate 127 0))
 room = (omega (arith, length-replicate {A = ℕ} 6144 0), omega (arith, length-replicate {A = ℕ} 127 0))
 
--- Three frames that say their own length, 6, 8 and 7 bytes: 0, 2 and 1 in bytes 2 and 3. The second is cut in two, and its second packet is lost.
--- (That one has S clear, which demand 3 does not mind in a packet that does not arrive.)
+-- Three frames that say their own length, 6, 8 and 7 bytes: 0, 2 and 1 in bytes 2 and 3. The second is cut in two, and its second packet is
+-- lost. (That one has S clear, which demand 3 does not mind in a packet that does not arrive.)
 abbrev pub six : List ℕ
 six = 0x00 ∷ 0x00 ∷ 0x00 ∷ 0x00 ∷ 0xA1 ∷ 0xA2 ∷ []
 
@@ -62,7 +62,8 @@ packets =
     ∷ []
 
 pub keeps : KeepsRules (record { session = 0x101; flow = 1; start = 0xFFFF }) frames [] packets
-unfolding part rest joined any sumTo upTo bodyAt segmentAt segments wanted check checkRefusals numberAt wholeFrame begunFrame inTurn allSegments
+unfolding part rest joined any sumTo upTo bodyAt segmentAt segments wanted check checkRefusals numberAt wholeFrame begunFrame
+    inTurn allSegments
 keeps =
     record {
       sizes = ((omega arith, omega arith), ((omega arith, omega arith), ((omega arith, omega arith), tt)));
@@ -79,7 +80,14 @@ keeps =
     counts (suc (suc (suc i))) l = absurd (omega arith)
 
 abbrev pub sending : Sending
-sending = record { line = record { session = 0x101; flow = 1; start = 0xFFFF }; frames = frames; unfinished = []; packets = packets; keeps-rules = keeps }
+sending =
+    record {
+      line = record { session = 0x101; flow = 1; start = 0xFFFF };
+      frames = frames;
+      unfinished = [];
+      packets = packets;
+      keeps-rules = keeps;
+    }
 
 abbrev pub calls : List Call
 calls = hand (packetAt packets 0) ∷ hand (packetAt packets 2) ∷ []
@@ -116,10 +124,12 @@ run =
     }
 
 pub comes-out : six ∷ seven ∷ [] ≡ comesOut sending run
-unfolding part rest put joined lengthsOf cutBy any least sumTo upTo ahead next bodyAt segmentAt segments wanted broken opened closed settledBy settled fateBy fate atGap inOrder pspFate hear carriedOut refused receivedBy received answer after afterAll framesOut
+unfolding part rest put joined lengthsOf cutBy any least sumTo upTo ahead next bodyAt segmentAt segments wanted broken opened closed
+    settledBy settled fateBy fate atGap inOrder pspFate hear carriedOut refused receivedBy received answer after afterAll framesOut
 comes-out = refl
 
--- What comes out of the first call is added before the first packet, what comes out of the second before the third; the second and those behind the third are null packets.
+-- What comes out of the first call is added before the first packet, what comes out of the second before the third; the second and those
+-- behind the third are null packets.
 abbrev pub bursts : List Burst
 bursts = (six ∷ []) ∷ [] ∷ (seven ∷ []) ∷ []
 
@@ -145,16 +155,25 @@ unfolding good
 may-travel =
     subst (λ (out : List (List ℕ)). Each Good out) comes-out (
       (refl, all-bytes six (omega arith, (omega arith, (omega arith, (omega arith, (omega arith, (omega arith, tt))))))),
-      ((refl, all-bytes seven (omega arith, (omega arith, (omega arith, (omega arith, (omega arith, (omega arith, (omega arith, tt)))))))), tt),
+      (
+        (
+          refl,
+          all-bytes seven
+              (omega arith, (omega arith, (omega arith, (omega arith, (omega arith, (omega arith, (omega arith, tt))))))),
+        ),
+        tt,
+      ),
     )
 
 -- The modem gets the first and the third frame.
-pub core-to-modulator-instance : ((reading (leaves sending run modulation)) .sound ≡ true) × ((reading (leaves sending run modulation)) .frames ≡ six ∷ seven ∷ [])
-unfolding part rest joined lengthsOf upTo nullPacket same allFill good mayBegin leftAt packetOf carried countAfter none found withoutFlag withFlag readPacket readFrom packetsIn reading packetNext afterNext runPackets
+pub core-to-modulator-instance : ((reading (leaves sending run modulation)) .sound ≡ true)
+    × ((reading (leaves sending run modulation)) .frames ≡ six ∷ seven ∷ [])
+unfolding part rest joined lengthsOf upTo nullPacket same allFill good mayBegin leftAt packetOf carried countAfter none found withoutFlag
+    withFlag readPacket readFrom packetsIn reading packetNext afterNext runPackets
 core-to-modulator-instance = (refl, refl)
 
--- Bytes that no run gives: a packet of 0xFF alone under the PID of frames; 0xFF between two frames; a null packet while a frame has begun; a count that is not
--- the next one; and a first packet that goes on with a frame.
+-- Bytes that no run gives: a packet of 0xFF alone under the PID of frames; 0xFF between two frames; a null packet while a frame has begun;
+-- a count that is not the next one; and a first packet that goes on with a frame.
 abbrev flagged : ℕ → List ℕ → List ℕ
 flagged count behind = 0x47 ∷ 0x5F ∷ 0xFE ∷ (0x10 + count) ∷ behind
 

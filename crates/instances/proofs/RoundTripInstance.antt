@@ -1,4 +1,5 @@
--- A closed instance of the round trip: premises met, both sides computed. It cites definitions alone, so that it can be held against wrong ones.
+-- A closed instance of the round trip: premises met, both sides computed. It cites definitions alone, so that it can be held against wrong
+-- ones.
 use Rattle.table.specs.declared.Kind.the-variants as kind
 use Prim.Native.Nat.{ℕ, zero, suc, _≤_}
 use mathlib.Core.Path.{_≡_, refl, sym, ap}
@@ -31,7 +32,8 @@ use Rattle.promises.specs.RoundTrip.{Given, framesGiven, packetsGiven, InOrder}
 -- packet: A and B, as in the other cases. A goes over UDP and B over IP. They are handed in on an empty card, on which their session is
 -- opened.
 pub round-trip-sends : seriesPackets m12 0xFFFF (startOfFrame 0) (replicate 15 limit16) ≡ A ∷ B ∷ []
-unfolding part put joined any sumTo next seriesPackets frameStart cut packetOf sender.cutFor sender.written sender.refused sender.sentBy sender.sent
+unfolding part put joined any sumTo next seriesPackets frameStart cut packetOf sender.cutFor sender.written sender.refused
+    sender.sentBy sender.sent
 round-trip-sends = refl
 
 pub all-usable : (n : ℕ) → Each Usable (replicate n limit16)
@@ -86,7 +88,11 @@ in-order-m12 =
     }
 
 -- What comes out is what was given.
-pub round-trip-instance : (framesOut kind.Psp 0x101 1 (after (afterAll (emptyCard (in-order-m12 .holding)) (in-order-m12 .before)) (opens (asking kind.Psp 0x101))) (in-order-m12 .calls) ≡ of6 ∷ of9 ∷ [])
+pub round-trip-instance :
+    (framesOut kind.Psp 0x101 1
+    (after (afterAll (emptyCard (in-order-m12 .holding)) (in-order-m12 .before)) (opens (asking kind.Psp 0x101))) (in-order-m12 .calls)
+    ≡ of6 ∷ of9 ∷ [])
     × (framesGiven given-m12 ≡ of6 ∷ of9 ∷ [])
-unfolding part rest put joined lengthsOf cutBy any least sumTo upTo ahead next bodyAt segmentAt segments wanted broken opened settledBy settled fateBy fate atGap inOrder pspFate hear carriedOut refused receivedBy received answer after afterAll framesOut
+unfolding part rest put joined lengthsOf cutBy any least sumTo upTo ahead next bodyAt segmentAt segments wanted broken opened settledBy
+    settled fateBy fate atGap inOrder pspFate hear carriedOut refused receivedBy received answer after afterAll framesOut
 round-trip-instance = (refl, refl)

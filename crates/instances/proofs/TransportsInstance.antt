@@ -1,13 +1,12 @@
--- A closed instance of same-packet, at the edges: A with every bit set that nobody reads; a segment and where it lies, and one that there is not;
--- 7 bytes from the session ID on, and 4,100; and a session ID whose top bit is set, which over IP is no T. It cites definitions alone, so that it
--- can be held against wrong ones.
+-- A closed instance of same-packet, at the edges: A with every bit set that nobody reads; a segment and where it lies, and one that there
+-- is not; 7 bytes from the session ID on, and 4,100; and a session ID whose top bit is set, which over IP is no T. It cites definitions
+-- alone, so that it can be held against wrong ones.
 use Prim.Native.Nat.{ℕ}
 use mathlib.Core.Path.{_≡_, refl}
 use mathlib.Core.List.{List, [], _∷_, _++_}
 use lib.ListN.{take, set, replicate}
 use Rattle.octets.specs.Stretch.{part, rest}
 use Rattle.octets.specs.Count.{any, sumTo}
-use Rattle.packet.specs.declared.Extent.{Extent}
 use Rattle.packet.specs.Header.{Packet, ip, udp, inUdp}
 use Rattle.packet.specs.Segments.{bodyAt}
 use Rattle.packet.specs.Psp.{wanted}

@@ -39,7 +39,8 @@ pub record Roomy (place : ℕ) (s : Slices) : Type 0 where
   pub output-long : mostBytes ≤ length (s .output)
   pub lengths-long : mostFrames ≤ length (s .lengths)
 
--- There is room for a piece of `size` bytes more, whatever becomes of it: all bytes that the call has met so far, and these, are few enough.
+-- There is room for a piece of `size` bytes more, whatever becomes of it: all bytes that the call has met so far, and these, are few
+-- enough.
 pub record Fits (size : ℕ) (tally : Tally) : Type 0 where
   pub held-few : tally .held ≤ longest
   pub bytes-few : tally .held + tally .bytes + tally .dropped + size ≤ mostBytes

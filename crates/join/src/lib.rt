@@ -3,7 +3,7 @@
 //
 // The place is written at most once a call, by the last segment: every segment before it has E, or the packet would have been refused
 // (11). A frame that is delivered or dropped leaves the holding slice as it was.
-ghost use mathlib.Core.Bool.{true, cond};
+ghost use mathlib.Core.Bool.{cond};
 ghost use mathlib.Core.List.{_++_};
 ghost use mathlib.Core.Path.{_≡_};
 ghost use Prim.Native.Nat.{_+_, _*_, _%_, _≤_};
@@ -218,8 +218,8 @@ fn write_lengths(
     Run { frames, bytes }
 }
 
-// All segments of a packet that 9 to 11 do not refuse, in order, on a flow that holds so many bytes. Behind a segment nothing is held but at the
-// end, and whole frames lie in the packet as they must in the output: so those behind it are copied together.
+// All segments of a packet that 9 to 11 do not refuse, in order, on a flow that holds so many bytes. Behind a segment nothing is held but
+// at the end, and whole frames lie in the packet as they must in the output: so those behind it are copied together.
 pub fn walk(
     holding: &mut [u8],
     place: usize,

@@ -16,11 +16,13 @@ use Rattle.listing.specs.Listing.{heading, lineAt, listingBy, listing}
 use Rattle.listing.specs.Inside.{headingRoom, lineRoom, listingRoom}
 
 -- The lines of a sound file, one after another, from the place behind the heading on.
-pub record Listing (file heading-text : List ℕ) (first : ℕ) (text : List ℕ) (next : ℕ) (w : Walk) (holding output lengths : List ℕ) : Type 0 where
+pub record Listing (file heading-text : List ℕ) (first : ℕ) (text : List ℕ) (next : ℕ) (w : Walk)
+    (holding output lengths : List ℕ) : Type 0 where
   pub stands : Stands file w holding output lengths
   pub lines : Pieces (lineAt file) (entryCount headLength file) lineRoom heading-text first text next (w .index)
 
-pub listing-begin : {file heading-text : List ℕ} {first : ℕ} {w : Walk} {holding output lengths : List ℕ} → Stands file w holding output lengths → w .index ≡ 0 →
+pub listing-begin : {file heading-text : List ℕ} {first : ℕ} {w : Walk} {holding output lengths : List ℕ} →
+    Stands file w holding output lengths → w .index ≡ 0 →
     first ≤ length heading-text → Listing file heading-text first heading-text first w holding output lengths
 listing-begin {file} {heading-text} {first} {w} s z inside =
     record {
@@ -32,13 +34,15 @@ listing-begin {file} {heading-text} {first} {w} s z inside =
 
 module _ {file heading-text : List ℕ} {first : ℕ} {text : List ℕ} {next : ℕ} {w : Walk} {holding output lengths : List ℕ}
     (l : Listing file heading-text first text next w holding output lengths) where
-  pub line-room : w .index < entryCount headLength file → listingRoom ≤ length heading-text → first ≤ headingRoom → next + lineRoom ≤ length text
+  pub line-room : w .index < entryCount headLength file → listingRoom ≤ length heading-text → first ≤ headingRoom →
+      next + lineRoom ≤ length text
   line-room more room short =
       pieces-room (l .lines) more (omega (arith, room, short, is-sound file (l .stands .sound) .few))
 
   pub listing-turn : {text′ : List ℕ} {next′ : ℕ} {w′ : Walk} {holding′ output′ lengths′ : List ℕ} → w .index < entryCount headLength file →
       Wrote text text′ next next′ (lineAt file (w .index)) → next′ ≤ next + lineRoom →
-      Stands file w′ holding′ output′ lengths′ → w′ .index ≡ w .index + 1 → Listing file heading-text first text′ next′ w′ holding′ output′ lengths′
+      Stands file w′ holding′ output′ lengths′ → w′ .index ≡ w .index + 1 →
+      Listing file heading-text first text′ next′ w′ holding′ output′ lengths′
   listing-turn {text′} {next′} {w′} more wrote few s further =
       record {
         stands = s;
@@ -47,7 +51,8 @@ module _ {file heading-text : List ℕ} {first : ℕ} {text : List ℕ} {next : 
             (pieces-turn (l .lines) more wrote few);
       }
 
-  pub listing-end : {before : List ℕ} → Wrote before heading-text 0 first heading → entryCount headLength file ≤ w .index → Wrote before text 0 next (listing file)
+  pub listing-end : {before : List ℕ} → Wrote before heading-text 0 first heading → entryCount headLength file ≤ w .index →
+      Wrote before text 0 next (listing file)
   unfolding listing listingBy
   listing-end headed past =
       wrote-as (ap (λ (c : ℕ). listingBy c file) (sym (l .stands .sound))) (wrote-then headed (pieces-end (l .lines) past .0))

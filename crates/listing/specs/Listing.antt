@@ -1,6 +1,6 @@
--- The listing (document 01, "Capture file and listing"): a heading, and a line for each entry with its index, whether it is an open, a close
--- or data, its refusal number or 0, and the frames, bytes delivered, bytes dropped and gap that the call answered. A refused file prints one
--- line: the word, a space and the number.
+-- The listing (document 01, "Capture file and listing"): a heading, and a line for each entry with its index, whether it is an open, a
+-- close or data, its refusal number or 0, and the frames, bytes delivered, bytes dropped and gap that the call answered. A refused file
+-- prints one line: the word, a space and the number.
 use Prim.Native.Nat.{ℕ, zero, suc}
 use mathlib.Core.Bool.{cond, _||_}
 use mathlib.Core.List.{List, _++_}

@@ -38,7 +38,8 @@ fn list_entry(
 ) -> Listed
     requires { ⌜ Stands (now file) walk (now holding) (now output) (now lengths) × (walk .index < entryCount headLength (now file)) ⌝ }
     requires { ⌜ at + lineRoom ≤ length (now text) ⌝ }
-    ensures { λ r. ⌜ Wrote (now (text .entry)) (now (text .exit)) at (r .next) (lineAt (now (file .entry)) (walk .index)) × (r .next ≤ at + lineRoom) ⌝ }
+    ensures { λ r. ⌜ Wrote (now (text .entry)) (now (text .exit)) at (r .next) (lineAt (now (file .entry)) (walk .index))
+        × (r .next ≤ at + lineRoom) ⌝ }
     ensures { λ r. ⌜ Stands (now (file .entry)) (r .walk) (now (holding .exit)) (now (output .exit)) (now (lengths .exit)) ⌝ }
     ensures { λ r. ⌜ r .walk .index ≡ walk .index + 1 ⌝ }
 {

@@ -59,7 +59,11 @@ module _ (a : AskedRead) where
     frames-is = ap (λ (s : Standing). s .frames) e
 
     pub answers-53 : standing .sound ≡ false →
-        _≡_ {A = ReadOutcome} (record { answer = record { code = 53; frames = 0; bytes = 0 }; output = a .output; lengths = a .lengths }) (read a)
+        _≡_ {A = ReadOutcome} (record {
+          answer = record { code = 53; frames = 0; bytes = 0 };
+          output = a .output;
+          lengths = a .lengths;
+        }) (read a)
     unfolding notRead
     answers-53 s = read-unsound (sym sound-is ∙ s)
 
@@ -75,7 +79,11 @@ module _ (a : AskedRead) where
       all-sound = sym sound-is ∙ sound
 
       pub answers-51 : tooSmall ≡ true →
-          _≡_ {A = ReadOutcome} (record { answer = record { code = 51; frames = 0; bytes = 0 }; output = a .output; lengths = a .lengths }) (read a)
+          _≡_ {A = ReadOutcome} (record {
+            answer = record { code = 51; frames = 0; bytes = 0 };
+            output = a .output;
+            lengths = a .lengths;
+          }) (read a)
       unfolding notRead
       answers-51 t = read-small all-sound (small-is ∙ t)
 
@@ -111,7 +119,11 @@ module _ (a : AskedRead) where
                 ∙ ap (put (a .lengths) 0) (said-lengths (framesRead a) behind (frames-good (a .packets) all-sound))
 
             pub answers-frames : _≡_ {A = ReadOutcome}
-                (record { answer = record { code = 0; frames = standing .frames; bytes = standing .bytes }; output = output′; lengths = lengths′ })
+                (record {
+                  answer = record { code = 0; frames = standing .frames; bytes = standing .bytes };
+                  output = output′;
+                  lengths = lengths′;
+                })
                 (read a)
             unfolding gotBack
             answers-frames = same-outcome refl frames-is bytes-is w lengths-is ∙ read-all all-sound (small-is ∙ room)

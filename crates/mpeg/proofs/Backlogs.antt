@@ -1,5 +1,6 @@
--- Where a run of the writer stands between two packets (W3). Of the frames that have been added some are done, one may have begun, and the others wait:
--- `At` says so of a backlog. Then what the next call of the writer is given, the packet that it writes and what it leaves are known from these pieces.
+-- Where a run of the writer stands between two packets (W3). Of the frames that have been added some are done, one may have begun, and the
+-- others wait: `At` says so of a backlog. Then what the next call of the writer is given, the packet that it writes and what it leaves are
+-- known from these pieces.
 use mathlib.Core.Path.{_≡_, refl, sym, ap, _∙_}
 use Prim.Native.Nat.{ℕ, suc, _+_, _-_, _≤_, _<_}
 use native.Mathlib.Omega.{arith}
@@ -11,8 +12,8 @@ use borrow.Author.Tests.{le-leb, lt-leb, ne-eqb}
 use Rattle.octets.specs.Each.{Each}
 use Rattle.octets.specs.Stretch.{part, rest, joined, lengthsOf}
 use Rattle.octets.proofs.Stretches.{length-part, length-part-min, length-rest, part-and-rest, part-append-within, part-append-past}
-use Rattle.octets.proofs.Stretches.{rest-append, rest-append-behind, joined-none, joined-one, joined-append, length-joined, length-joined-none}
-use Rattle.octets.proofs.Stretches.{lengthsOf-none, lengthsOf-cons}
+use Rattle.octets.proofs.Stretches.{rest-append, rest-append-behind, joined-none, joined-one, joined-append, length-joined}
+use Rattle.octets.proofs.Stretches.{length-joined-none, lengthsOf-none, lengthsOf-cons}
 use Rattle.ts.specs.Packet.{payloadLength, nextCount, header, fillByte}
 use Rattle.mpeg.specs.Packet.{framesPid, pointedLength, filledTo}
 use Rattle.mpeg.specs.Write.{leftAt, packetOf, carried, countAfter, dataPacket, carries}
@@ -39,7 +40,8 @@ joined-begun (within x b y t) = joined-one (x ∷ b ++ y ∷ t)
 
 -- What a call is given: the bytes that wait.
 pub rest-done : (done fs : List (List ℕ)) (k : ℕ) → rest (joined (done ++ fs)) (length (joined done) + k) ≡ rest (joined fs) k
-rest-done done fs k = ap (λ (l : List ℕ). rest l (length (joined done) + k)) (joined-append done fs) ∙ rest-append-behind (joined done) (joined fs) k
+rest-done done fs k =
+    ap (λ (l : List ℕ). rest l (length (joined done) + k)) (joined-append done fs) ∙ rest-append-behind (joined done) (joined fs) k
 
 rest-begun : {b t : List ℕ} (waiting : List (List ℕ)) → Mid b t → rest (joined (one b t ++ waiting)) (length b) ≡ t ++ joined waiting
 rest-begun {b} {t} waiting m =
@@ -123,7 +125,8 @@ module _ (t behind : List ℕ) (h : length t < payloadLength) (some : 0 < length
       let n : pointedLength - length (t ++ front) ≡ pointedLength - length t - length front = omega (arith, length-append t front) in
       packet-some count (length t) (t ++ behind) some
       ∙ rw (lt-leb payloadLength (length t) h, part-ends, n)
-      (ap (λ (l : List ℕ). header true framesPid count ++ (length t ∷ l)) (append-assoc t front (replicate (pointedLength - length t - length front) fillByte)))
+      (ap (λ (l : List ℕ). header true framesPid count ++ (length t ∷ l))
+      (append-assoc t front (replicate (pointedLength - length t - length front) fillByte)))
 
   pub carried-ends : carried (length t) (t ++ behind) ≡ length t + length (part behind 0 (pointedLength - length t))
   carried-ends =
@@ -255,7 +258,8 @@ module _ {q : Backlog} {done waiting : List (List ℕ)} {b t : List ℕ} (at : A
       }
 
   -- it ends in the packet, which takes whole frames of those that wait, and then the front of one or nothing
-  pub at-ends : length t < payloadLength → 0 < length (t ++ joined waiting) → (whole : List (List ℕ)) (front back : List ℕ) (behind : List (List ℕ)) →
+  pub at-ends : length t < payloadLength → 0 < length (t ++ joined waiting) →
+      (whole : List (List ℕ)) (front back : List ℕ) (behind : List (List ℕ)) →
       Mid front back → waiting ≡ whole ++ (one front back ++ behind) →
       part (joined waiting) 0 (pointedLength - length t) ≡ joined whole ++ front →
       At (afterNext q) (done ++ one b t ++ whole) front back behind
@@ -264,7 +268,8 @@ module _ {q : Backlog} {done waiting : List (List ℕ)} {b t : List ℕ} (at : A
       let long : length (joined (done ++ one b t ++ whole)) ≡ length (joined done) + (length b + length t) + length (joined whole) =
       ap length
       (joined-append (done ++ one b t) whole
-      ∙ ap (λ (l : List ℕ). l ++ joined whole) (joined-append done (one b t) ∙ ap (λ (l : List ℕ). joined done ++ l) (joined-begun (at .mid))))
+      ∙ ap (λ (l : List ℕ). l ++ joined whole)
+      (joined-append done (one b t) ∙ ap (λ (l : List ℕ). joined done ++ l) (joined-begun (at .mid))))
       ∙ omega (arith, length-append (joined done ++ (b ++ t)) (joined whole), length-append (joined done) (b ++ t), length-append b t) in
       let sent : carried (length t) (t ++ joined waiting) ≡ length t + (length (joined whole) + length front) =
       carried-ends t (joined waiting) h some

@@ -1,5 +1,6 @@
--- A run before what a run gives: from a frame that has begun, and a run that gives the packets behind the next one, a run that gives that one too. So
--- whoever goes through packets from the last to the first gets the run that gives them, and with it how each frame goes on that has begun.
+-- A run before what a run gives: from a frame that has begun, and a run that gives the packets behind the next one, a run that gives that
+-- one too. So whoever goes through packets from the last to the first gets the run that gives them, and with it how each frame goes on that
+-- has begun.
 use Prim.Native.Nat.{ℕ, _+_, _-_, _<_}
 use mathlib.Core.Path.{_≡_, refl, sym, ap, _∙_}
 use mathlib.Core.Bool.{true, false}
@@ -19,7 +20,8 @@ use Rattle.mpeg.specs.Frame.{saidLength, mayBegin, Good}
 use Rattle.mpeg.specs.Write.{packetOf, countAfter}
 use Rattle.mpeg.specs.Read.{anyCount}
 use Rattle.mpeg.specs.Run.{Backlog, Burst, GoodBursts, added, packetNext, afterNext, runPackets}
-use Rattle.mpeg.proofs.Backlogs.{Mid, between, within, one, joined-begun, one-some, mid-some, At, at-next, at-added, count-next, at-none, at-on, at-whole, at-ends, packet-on, packet-ends, count-some}
+use Rattle.mpeg.proofs.Backlogs.{Mid, between, within, one, joined-begun, one-some, mid-some, At, at-next, at-added, count-next}
+use Rattle.mpeg.proofs.Backlogs.{at-none, at-on, at-whole, at-ends, packet-on, packet-ends, count-some}
 use Rattle.mpeg.proofs.Frames.{begin-says, completed-good}
 
 -- A frame that has begun, or none, and how it goes on.
@@ -27,7 +29,8 @@ pub record Goes (b t : List ℕ) : Type 0 where
   pub middle : Mid b t
   pub good-frame : Each Good (one b t)
 
--- How a run gives packets, with this frame begun and this count expected: a backlog that stands there, with nothing else waiting, gives them by these bursts.
+-- How a run gives packets, with this frame begun and this count expected: a backlog that stands there, with nothing else waiting, gives
+-- them by these bursts.
 pub record RunOf (begun : List ℕ) (expected : ℕ) (packets : List (List ℕ)) : Type 0 where
   pub count : ℕ
   pub fits : (expected ≡ anyCount) ⊎ (count ≡ expected)
@@ -81,7 +84,8 @@ run-ends b expected h bytes =
     }
 
 -- A packet and a run behind it.
-next-packet : (q : Backlog) (burst : Burst) (bursts : List Burst) (packet : List ℕ) (more : List (List ℕ)) → packetNext (added q burst) ≡ packet →
+next-packet : (q : Backlog) (burst : Burst) (bursts : List Burst) (packet : List ℕ) (more : List (List ℕ)) →
+    packetNext (added q burst) ≡ packet →
     runPackets (afterNext (added q burst)) bursts ≡ more → runPackets q (burst ∷ bursts) ≡ packet ∷ more
 unfolding runPackets
 next-packet q burst bursts packet more e f = rw (e, f) refl
@@ -129,7 +133,8 @@ module _ (q : Backlog) (done : List (List ℕ)) (x : ℕ) (b payload : List ℕ)
       let front : part (payload ++ t) 0 payloadLength ≡ payload = ap (part (payload ++ t) 0) (sym long) ∙ part-append payload t in
       let back : rest (payload ++ t) payloadLength ≡ t = ap (rest (payload ++ t)) (sym long) ∙ rest-append payload t in
       let packet : packetNext (added q []) ≡ header false framesPid (q .count) ++ payload =
-      at-next next ∙ packet-on (payload ++ t) (joined []) (omega arith) (q .count) ∙ ap (λ (l : List ℕ). header false framesPid (q .count) ++ l) front in
+      at-next next ∙ packet-on (payload ++ t) (joined []) (omega arith) (q .count)
+      ∙ ap (λ (l : List ℕ). header false framesPid (q .count) ++ l) front in
       let stands : At after done ((x ∷ b) ++ payload) t [] = rw (front, back) at (at-on next left) in
       let waits : 0 < length waiting = omega (arith, length-append (payload ++ t) (joined [])) in
       let counted : after .count ≡ nextCount (q .count) = count-next next ∙ count-some (q .count) waiting waits in
@@ -144,7 +149,8 @@ module _ (q : Backlog) (done : List (List ℕ)) (x : ℕ) (b payload : List ℕ)
       let waiting = payload ++ joined [] in
       let front : part payload 0 payloadLength ≡ payload = ap (part payload 0) (sym long) ∙ part-all payload in
       let packet : packetNext (added q []) ≡ header false framesPid (q .count) ++ payload =
-      at-next next ∙ packet-on payload (joined []) (omega arith) (q .count) ∙ ap (λ (l : List ℕ). header false framesPid (q .count) ++ l) front in
+      at-next next ∙ packet-on payload (joined []) (omega arith) (q .count)
+      ∙ ap (λ (l : List ℕ). header false framesPid (q .count) ++ l) front in
       let waits : 0 < length waiting = omega (arith, length-append payload (joined [])) in
       let counted : after .count ≡ nextCount (q .count) = count-next next ∙ count-some (q .count) waiting waits in
       next-packet q [] bursts (header false framesPid (q .count) ++ payload) more packet (behind after (at-whole next long) counted)
@@ -167,11 +173,13 @@ module _ (x : ℕ) (b payload : List ℕ) (expected c : ℕ) (more : List (List 
         bursts = [] ∷ r .bursts;
         good-bursts = (tt, r .good-bursts);
         gives = λ q done at e.
-            on-gives q done x b payload (r .bursts) more long t some at (λ p stands f. r .gives p done stands (f ∙ ap nextCount e ∙ sym known))
+            on-gives q done x b payload (r .bursts) more long t some at
+            (λ p stands f. r .gives p done stands (f ∙ ap nextCount e ∙ sym known))
             ∙ ap (λ (k : ℕ). (header false framesPid k ++ payload) ∷ more) e;
       }
 
-  pub run-finished : Good ((x ∷ b) ++ payload) → RunOf [] (nextCount c) more → RunOf (x ∷ b) expected ((header false framesPid c ++ payload) ∷ more)
+  pub run-finished : Good ((x ∷ b) ++ payload) → RunOf [] (nextCount c) more →
+      RunOf (x ∷ b) expected ((header false framesPid c ++ payload) ∷ more)
   run-finished g r =
       let empty : r .tail ≡ [] = mid-none (r .goes .middle) refl in
       let known = count-known c (r .count) (r .fits) in
@@ -188,8 +196,8 @@ module _ (x : ℕ) (b payload : List ℕ) (expected c : ℕ) (more : List (List 
             ∙ ap (λ (k : ℕ). (header false framesPid k ++ payload) ∷ more) e;
       }
 
--- With the flag: t ends the frame that has begun, whole frames follow, and then one begins, or 0xFF fills the packet. The burst before it is these frames, and
--- the one that begins is whole in it. First: what a packet takes of the bytes that wait.
+-- With the flag: t ends the frame that has begun, whole frames follow, and then one begins, or 0xFF fills the packet. The burst before it
+-- is these frames, and the one that begins is whole in it. First: what a packet takes of the bytes that wait.
 takes : (n room : ℕ) (bytes behind : List ℕ) → length bytes + n ≡ room → (behind ≡ []) ⊎ (n ≡ 0) → part (bytes ++ behind) 0 room ≡ bytes
 takes n room bytes behind long (inl e) =
     let all : bytes ++ behind ≡ bytes = ap (λ (l : List ℕ). bytes ++ l) e ∙ append-nil bytes in
@@ -201,7 +209,8 @@ module _ (b t : List ℕ) (whole : List (List ℕ)) (front : List ℕ) (fill : �
   abbrev pub flagged : ℕ → List ℕ
   flagged c = header true framesPid c ++ (length t ∷ (t ++ (joined whole ++ front ++ replicate fill fillByte)))
 
-  module _ (all : length t + length (joined whole ++ front) + fill ≡ pointedLength) (some : 0 < length t + length (joined whole ++ front)) where
+  module _ (all : length t + length (joined whole ++ front) + fill ≡ pointedLength)
+      (some : 0 < length t + length (joined whole ++ front)) where
     flag-gives : (q : Backlog) (done : List (List ℕ)) (back : List ℕ) (bursts : List Burst) (more : List (List ℕ)) → Mid front back →
         (back ≡ []) ⊎ (fill ≡ 0) → At q done b t [] →
         ((p : Backlog) → At p (done ++ one b t ++ whole) front back [] → p .count ≡ nextCount (q .count) → runPackets p bursts ≡ more) →
@@ -214,8 +223,10 @@ module _ (b t : List ℕ) (whole : List (List ℕ)) (front : List ℕ) (fill : �
         let room = pointedLength - length t in
         let short : length t < payloadLength = omega arith in
         let joins : joined burst ≡ bytes ++ back =
-        joined-append whole (one front back) ∙ ap (λ (l : List ℕ). joined whole ++ l) (joined-begun mid) ∙ sym (append-assoc (joined whole) front back) in
-        let waits : 0 < length (t ++ joined burst) = omega (arith, length-append t (joined burst), ap length joins, length-append bytes back) in
+        joined-append whole (one front back) ∙ ap (λ (l : List ℕ). joined whole ++ l) (joined-begun mid)
+        ∙ sym (append-assoc (joined whole) front back) in
+        let waits : 0 < length (t ++ joined burst) =
+        omega (arith, length-append t (joined burst), ap length joins, length-append bytes back) in
         let taken : part (joined burst) 0 room ≡ bytes =
         ap (λ (l : List ℕ). part l 0 room) joins ∙ takes fill room bytes back (omega arith) one-of-them in
         let left : room - length bytes ≡ fill = omega arith in

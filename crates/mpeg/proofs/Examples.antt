@@ -1,5 +1,5 @@
--- Packets of W3, worked out by hand from the paper's text, by computation: the definitions answer what the paper says. Each line would be refused
--- with another number in it.
+-- Packets of W3, worked out by hand from the paper's text, by computation: the definitions answer what the paper says. Each line would be
+-- refused with another number in it.
 use Prim.Native.Nat.{ℕ, _+_, _/_, _%_}
 use mathlib.Core.Path.{_≡_, refl}
 use mathlib.Core.Bool.{true, false}
@@ -10,7 +10,8 @@ use Rattle.octets.specs.Stretch.{part, rest, put}
 use Rattle.octets.specs.Tests.{none}
 use Rattle.ts.specs.Packet.{nullPacket}
 use Rattle.mpeg.specs.Frame.{good}
-use Rattle.mpeg.specs.Write.{Asked, WriteOutcome, badFrames, leftAt, packetOf, carried, countAfter, wrote, refused, writtenBy, written}
+use Rattle.mpeg.specs.Write.{Asked, WriteOutcome, badFrames, leftAt, packetOf, carried, countAfter, wrote, refused, writtenBy}
+use Rattle.mpeg.specs.Write.{written}
 use Rattle.mpeg.specs.HandOut.{source, handedLength, PermitsHandOut}
 
 -- the shortest frame, and one of n + 6 bytes
@@ -22,7 +23,8 @@ long n = 0xC0 ∷ 0x01 ∷ n / 256 ∷ n % 256 ∷ replicate (n + 2) 0xAA
 
 -- these frames, and what the call makes of them; the output is a packet long, or as long as is said
 abbrev asked : ℕ → List ℕ → List ℕ → ℕ → ℕ → Asked
-asked space bytes lengths place count = record { bytes = bytes; lengths = lengths; place = place; count = count; output = replicate space 0 }
+asked space bytes lengths place count =
+    record { bytes = bytes; lengths = lengths; place = place; count = count; output = replicate space 0 }
 
 abbrev outcome : List ℕ → List ℕ → ℕ → ℕ → WriteOutcome
 outcome bytes lengths place count = written (asked 188 bytes lengths place count)
@@ -53,8 +55,8 @@ counted : (outcome short (6 ∷ []) 0 15 ≡ sent 6 0 (0x47 ∷ 0x5F ∷ 0xFE �
 unfolding written writtenBy wrote badFrames good leftAt packetOf carried countAfter none part rest put
 counted = (refl, refl, refl)
 
--- A frame of 400 bytes and one of 6 behind it. Of the first, with so many bytes sent, r are left: at its start 0, then 399; 184 and 183; 1 before its
--- end, and 0 behind it; then 5 of the second.
+-- A frame of 400 bytes and one of 6 behind it. Of the first, with so many bytes sent, r are left: at its start 0, then 399; 184 and 183; 1
+-- before its end, and 0 behind it; then 5 of the second.
 abbrev both : List ℕ
 both = long 394 ++ short
 
@@ -81,7 +83,8 @@ goes-on = (refl, refl, refl, refl)
 
 -- r = 182: the second frame begins in the packet's last byte; the packet behind it has pointer 5 and the other five
 last-byte : (outcome both bothLengths 218 4 ≡ sent 401 5 (0x47 ∷ 0x5F ∷ 0xFE ∷ 0x14 ∷ 0xB6 ∷ (replicate 182 0xAA ++ (0xC0 ∷ []))))
-    × (outcome both bothLengths 401 5 ≡ sent 406 6 (0x47 ∷ 0x5F ∷ 0xFE ∷ 0x15 ∷ 0x05 ∷ 0x01 ∷ 0x00 ∷ 0x00 ∷ 0x11 ∷ 0x22 ∷ replicate 178 0xFF))
+    × (outcome both bothLengths 401 5
+    ≡ sent 406 6 (0x47 ∷ 0x5F ∷ 0xFE ∷ 0x15 ∷ 0x05 ∷ 0x01 ∷ 0x00 ∷ 0x00 ∷ 0x11 ∷ 0x22 ∷ replicate 178 0xFF))
 unfolding written writtenBy wrote badFrames good leftAt packetOf carried countAfter none part rest put
 last-byte = (refl, refl)
 
@@ -91,13 +94,15 @@ three-in-one : outcome (short ++ short ++ long 394) (6 ∷ 6 ∷ 400 ∷ []) 4 9
 unfolding written writtenBy wrote badFrames good leftAt packetOf carried countAfter none part rest put
 three-in-one = refl
 
--- Frames that may not be written, and what their bytes and lengths have otherwise: the first byte is 0xFF; the field says one byte more, one byte less;
--- 5 bytes, and none; 2,049 bytes, where 2,048 may be; the lengths are one byte short of the bytes, and one byte beyond them; the second frame is bad.
+-- Frames that may not be written, and what their bytes and lengths have otherwise: the first byte is 0xFF; the field says one byte more,
+-- one byte less; 5 bytes, and none; 2,049 bytes, where 2,048 may be; the lengths are one byte short of the bytes, and one byte beyond them;
+-- the second frame is bad.
 abbrev answer : List ℕ → List ℕ → ℕ
 answer bytes lengths = (outcome bytes lengths 0 0) .answer .code
 
 judged : (answer (set short 0 0xFE) (6 ∷ []) ≡ 0) × (answer (set short 0 0xFF) (6 ∷ []) ≡ 52) × (answer (set short 3 1) (6 ∷ []) ≡ 52)
-    × (answer (0xC0 ∷ 0x01 ∷ 0x00 ∷ 0x00 ∷ 0x11 ∷ 0x22 ∷ 0x33 ∷ []) (7 ∷ []) ≡ 52) × (answer (0xC0 ∷ 0x01 ∷ 0x00 ∷ 0x00 ∷ 0x11 ∷ []) (5 ∷ []) ≡ 52)
+    × (answer (0xC0 ∷ 0x01 ∷ 0x00 ∷ 0x00 ∷ 0x11 ∷ 0x22 ∷ 0x33 ∷ []) (7 ∷ []) ≡ 52)
+    × (answer (0xC0 ∷ 0x01 ∷ 0x00 ∷ 0x00 ∷ 0x11 ∷ []) (5 ∷ []) ≡ 52)
     × (answer short (0 ∷ 6 ∷ []) ≡ 52) × (answer (long 2042) (2048 ∷ []) ≡ 0) × (answer (long 2043) (2049 ∷ []) ≡ 52)
     × (answer (short ++ (0x33 ∷ [])) (6 ∷ []) ≡ 52) × (answer (0xC0 ∷ 0x01 ∷ 0x00 ∷ 0x01 ∷ 0x11 ∷ 0x22 ∷ []) (7 ∷ []) ≡ 52)
     × (answer (short ++ set short 0 0xFF) (6 ∷ 6 ∷ []) ≡ 52) × (answer short [] ≡ 52) × (answer [] (6 ∷ []) ≡ 52)
@@ -105,8 +110,10 @@ unfolding written writtenBy wrote refused badFrames good leftAt packetOf carried
 judged = (refl, refl, refl, refl, refl, refl, refl, refl, refl, refl, refl, refl, refl)
 
 -- the output is a byte too short: 51, and nothing has changed; a bad frame comes first
-too-small : (written (asked 187 short (6 ∷ []) 3 7) ≡ record { answer = record { code = 51; place = 3; count = 7; null = false }; output = replicate 187 0 })
-    × (written (asked 187 short (5 ∷ []) 3 7) ≡ record { answer = record { code = 52; place = 3; count = 7; null = false }; output = replicate 187 0 })
+too-small : (written (asked 187 short (6 ∷ []) 3 7)
+    ≡ record { answer = record { code = 51; place = 3; count = 7; null = false }; output = replicate 187 0 })
+    × (written (asked 187 short (5 ∷ []) 3 7)
+    ≡ record { answer = record { code = 52; place = 3; count = 7; null = false }; output = replicate 187 0 })
     × ((written (asked 187 [] [] 0 7)) .answer .code ≡ 51)
 unfolding written writtenBy refused badFrames good part rest
 too-small = (refl, refl, refl)
@@ -116,7 +123,8 @@ handed-lengths : (handedLength (replicate 187 0) ≡ 0) × (handedLength null �
 unfolding handedLength
 handed-lengths = (refl, refl, refl)
 
--- from a queue of two packets, of one, of a byte less, and of none; and where the null packet is not whole either. A slice is where it points and its bytes
+-- from a queue of two packets, of one, of a byte less, and of none; and where the null packet is not whole either. A slice is where it
+-- points and its bytes
 abbrev at : ℕ → List ℕ → RefT (List ℕ)
 at block bytes = record { ptr = (block, 5); name = 0; now = bytes }
 

@@ -1,6 +1,6 @@
--- Frames from a frame's start to the end of a packet (`found`). The code finds them in a loop; its invariant, `Finding`, is that what it has counted so far,
--- with what `found` gives on the rest, is what `found` gives on the whole. The definition looks first whether all bytes are 0xFF and the code at the first
--- byte; they agree, since no frame begins with 0xFF.
+-- Frames from a frame's start to the end of a packet (`found`). The code finds them in a loop; its invariant, `Finding`, is that what it
+-- has counted so far, with what `found` gives on the rest, is what `found` gives on the whole. The definition looks first whether all bytes
+-- are 0xFF and the code at the first byte; they agree, since no frame begins with 0xFF.
 use Prim.Native.Nat.{ℕ, _+_, _-_, _*_, _≤_, _<_}
 use mathlib.Core.Path.{_≡_, refl, sym, ap, _∙_}
 use mathlib.Core.Bool.{Bool, true, false}
@@ -73,8 +73,10 @@ pub finding-end : {packets : List ℕ} {start end : ℕ} {standing : Standing} {
 finding-end {packets} {start} {end} {standing} {frames} {bytes} {from} {front} f h e =
     let gone : end - from ≡ 0 = omega arith in
     let empty : foundBetween packets from end ≡ foundWell [] [] =
-    ap (λ (n : ℕ). found pointedLength (part packets from n)) gone ∙ ap (found pointedLength) (part-none packets from) ∙ found-none pointedLength in
-    rw e (with-nothing (standing .expected) frames bytes ∙ ap (standingWith (standing .expected) frames bytes) (sym empty) ∙ sym (f .so-far))
+    ap (λ (n : ℕ). found pointedLength (part packets from n)) gone ∙ ap (found pointedLength) (part-none packets from)
+    ∙ found-none pointedLength in
+    rw e (with-nothing (standing .expected) frames bytes ∙ ap (standingWith (standing .expected) frames bytes) (sym empty)
+    ∙ sym (f .so-far))
 
 module _ {packets : List ℕ} {start end : ℕ} {standing : Standing} (s : Starts packets start end standing) {frames bytes from : ℕ}
     (f : Finding packets start end standing frames bytes from) (going : from < end) where
@@ -90,7 +92,8 @@ module _ {packets : List ℕ} {start end : ℕ} {standing : Standing} (s : Start
   not-filled e = not-all-fill (part packets from (end - from)) (omega (arith, here-long)) (λ q. e (sym here-first ∙ q))
 
   -- 0xFF to the end
-  pub finding-filled : {front : Front} (filled : Bool) → filled ≡ allFill (part packets from (end - from)) → filled ≡ true → front ≡ frontOf [] →
+  pub finding-filled : {front : Front} (filled : Bool) → filled ≡ allFill (part packets from (end - from)) → filled ≡ true →
+      front ≡ frontOf [] →
       _≡_ {A = Standing} (record { sound = true; expected = standing .expected; begun = front; frames = frames; bytes = bytes })
       (standingWith (standing .expected) (standing .frames) (standing .bytes) (foundBetween packets start end))
   finding-filled {front} filled is all e =

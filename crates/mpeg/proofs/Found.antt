@@ -1,5 +1,5 @@
--- What the reader finds from a frame's start on (`found`): its steps, one for each outcome of its tests; which bytes spoil it; and what it takes bytes apart into
--- where it does find something, `Apart`.
+-- What the reader finds from a frame's start on (`found`): its steps, one for each outcome of its tests; which bytes spoil it; and what it
+-- takes bytes apart into where it does find something, `Apart`.
 use Prim.Native.Nat.{ℕ, zero, suc, _≤_, _<_}
 use mathlib.Core.Path.{_≡_, refl, sym, ap, _∙_}
 use mathlib.Core.Bool.{Bool, true, false, _&&_}
@@ -56,7 +56,8 @@ module _ {A : Type 0} (b : List ℕ) (filled : allFill b ≡ true → A) (frame 
   by-tests =
       ⊎-elim filled
       (λ (e : allFill b ≡ false).
-      ⊎-elim (λ (t : leb (saidLength b) (length b) ≡ true). frame e (leb-true _ _ t)) (λ (t : leb (saidLength b) (length b) ≡ false). begun e (leb-false _ _ t))
+      ⊎-elim (λ (t : leb (saidLength b) (length b) ≡ true). frame e (leb-true _ _ t))
+      (λ (t : leb (saidLength b) (length b) ≡ false). begun e (leb-false _ _ t))
       (true-or-false (leb (saidLength b) (length b))))
       (true-or-false (allFill b))
 
@@ -74,7 +75,8 @@ more-steps (suc n) b h =
     (λ e. found-filled n b e ∙ sym (found-filled (suc n) b e))
     (λ e k.
     let behind : length (rest b (saidLength b)) ≤ n = omega (arith, length-rest b (saidLength b)) in
-    found-frame n b e k ∙ ap (withFrame (part b 0 (saidLength b))) (more-steps n (rest b (saidLength b)) behind) ∙ sym (found-frame (suc n) b e k))
+    found-frame n b e k ∙ ap (withFrame (part b 0 (saidLength b))) (more-steps n (rest b (saidLength b)) behind)
+    ∙ sym (found-frame (suc n) b e k))
     (λ e k. found-open n b e k ∙ sym (found-open (suc n) b e k))
 
 -- Bytes that do not begin as a frame: the first is 0xFF and not all are; or it says more than the longest.
@@ -83,7 +85,8 @@ module _ (n : ℕ) (b : List ℕ) (some : allFill b ≡ false) where
   spoils whole begun =
       ⊎-elim
       (λ (t : leb (saidLength b) (length b) ≡ true).
-      ap (λ (f : Found). f .well) (found-frame n b some (leb-true _ _ t)) ∙ ap (λ (g : Bool). g && (found n (rest b (saidLength b))) .well) whole)
+      ap (λ (f : Found). f .well) (found-frame n b some (leb-true _ _ t))
+      ∙ ap (λ (g : Bool). g && (found n (rest b (saidLength b))) .well) whole)
       (λ (t : leb (saidLength b) (length b) ≡ false). ap (λ (f : Found). f .well) (found-open n b some (leb-false _ _ t)) ∙ begun)
       (true-or-false (leb (saidLength b) (length b)))
 
@@ -92,7 +95,8 @@ module _ (n : ℕ) (b : List ℕ) (some : allFill b ≡ false) where
 
   pub spoils-long : longest < saidLength b → (found (suc n) b) .well ≡ false
   spoils-long h =
-      spoils (not-good-over (part b 0 (saidLength b)) (let q : longest < saidLength (part b 0 (saidLength b)) = omega (arith, said-part b) in q))
+      spoils (not-good-over (part b 0 (saidLength b))
+      (let q : longest < saidLength (part b 0 (saidLength b)) = omega (arith, said-part b) in q))
       (not-begin-long b h)
 
 -- What it takes bytes apart into: good frames, then the front of one, or 0xFF to the end.
@@ -103,7 +107,8 @@ pub record Apart (bytes : List ℕ) (f : Found) : Type 0 where
   pub may-begin : mayBegin (f .open-end) ≡ true
   pub one-of-them : (f .open-end ≡ []) ⊎ (fill ≡ 0)
 
-apart-none : (well : Bool) (n : ℕ) (bytes : List ℕ) → bytes ≡ replicate n fillByte → Apart bytes (record { well = well; whole = []; open-end = [] })
+apart-none : (well : Bool) (n : ℕ) (bytes : List ℕ) → bytes ≡ replicate n fillByte →
+    Apart bytes (record { well = well; whole = []; open-end = [] })
 apart-none well n bytes e =
     record { fill = n; all = rw joined-none (sym e); good-frames = tt; may-begin = may-begin-none; one-of-them = inl refl }
 
@@ -117,7 +122,8 @@ apart-frame bytes n f behind h =
     let frame = part bytes 0 n in
     let a : Apart (rest bytes n) f = behind (and-right (good frame) (f .well) h) in
     let fills = replicate (a .fill) fillByte in
-    let in-order : frame ++ joined (f .whole) ++ f .open-end ++ fills ≡ frame ++ (joined (f .whole) ++ f .open-end ++ fills) = simp append-assoc in
+    let in-order : frame ++ joined (f .whole) ++ f .open-end ++ fills ≡ frame ++ (joined (f .whole) ++ f .open-end ++ fills) =
+    simp append-assoc in
     record {
       fill = a .fill;
       all =
@@ -138,7 +144,8 @@ found-apart (suc n) bytes h =
     (λ e k.
     let said = saidLength bytes in
     let step = found-frame n bytes e k in
-    rw step (apart-frame bytes said (found n (rest bytes said)) (found-apart n (rest bytes said)) (sym (ap (λ (f : Found). f .well) step) ∙ h)))
+    rw step (apart-frame bytes said (found n (rest bytes said)) (found-apart n (rest bytes said))
+    (sym (ap (λ (f : Found). f .well) step) ∙ h)))
     (λ e k.
     let step = found-open n bytes e k in
     rw step (apart-end bytes (mayBegin bytes) (sym (ap (λ (f : Found). f .well) step) ∙ h)))
@@ -162,4 +169,6 @@ module _ {bytes : List ℕ} {f : Found} (a : Apart bytes f) where
     end-bytes = bytes-back (joined (f .whole)) (f .open-end) pieces-bytes
 
     pub frames-good : Each Good (f .whole)
-    frames-good = each-zip GoodFrame AllBytes (f .whole) (a .good-frames) (bytes-joined (f .whole) (bytes-front (joined (f .whole)) (f .open-end) pieces-bytes))
+    frames-good =
+        each-zip GoodFrame AllBytes (f .whole) (a .good-frames)
+        (bytes-joined (f .whole) (bytes-front (joined (f .whole)) (f .open-end) pieces-bytes))

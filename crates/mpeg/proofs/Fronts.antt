@@ -1,5 +1,5 @@
--- The reader's smallest steps: one byte of a frame that comes in two stretches, its front, and a header. Each is a law over the packets and a place in
--- them.
+-- The reader's smallest steps: one byte of a frame that comes in two stretches, its front, and a header. Each is a law over the packets and
+-- a place in them.
 use Prim.Native.Nat.{ℕ, _+_, _-_, _*_, _≤_, _<_}
 use mathlib.Core.Path.{_≡_, refl, sym, ap, _∙_}
 use mathlib.Core.Bool.{Bool, _&&_, _||_}
@@ -30,9 +30,11 @@ pub byte-among : (packets : List ℕ) (from n : ℕ) {size place : ℕ} (begun :
 byte-among packets from n {size} {place} begun above below long =
     let more = part packets from n in
     let split : length begun + (place - size) ≡ place = omega arith in
-    sym (ap (byteAt (begun ++ more)) (sym split) ∙ byte-append-behind begun more (place - size) ∙ byte-part packets from n (place - size) (omega arith))
+    sym (ap (byteAt (begun ++ more)) (sym split) ∙ byte-append-behind begun more (place - size)
+    ∙ byte-part packets from n (place - size) (omega arith))
 
-pub byte-behind : (packets : List ℕ) (from n : ℕ) {size place : ℕ} (begun : List ℕ) → from + n ≤ length packets → size + n ≤ place → size ≡ length begun →
+pub byte-behind : (packets : List ℕ) (from n : ℕ) {size place : ℕ} (begun : List ℕ) → from + n ≤ length packets → size + n ≤ place →
+    size ≡ length begun →
     0 ≡ byteAt (begun ++ part packets from n) place
 byte-behind packets from n {size} {place} begun inside above long =
     sym (byte-past (begun ++ part packets from n) place
@@ -48,7 +50,8 @@ front-with packets from n {size} {high} {low} begun inside long is-high is-low =
     rw (all, is-high, is-low) refl
 
 -- A header, byte for byte.
-pub headed-is : (packets : List ℕ) (at second expected : ℕ) {count : ℕ} → at + mpegLength ≤ length packets → count ≡ countOf (part packets at mpegLength) →
+pub headed-is : (packets : List ℕ) (at second expected : ℕ) {count : ℕ} → at + mpegLength ≤ length packets →
+    count ≡ countOf (part packets at mpegLength) →
     (eqb (byteAt packets at) syncByte && eqb (byteAt packets (at + 1)) second && eqb (byteAt packets (at + 2)) 0xFE
     && eqb (byteAt packets (at + 3)) (payloadOnly + count) && (eqb expected counts || eqb expected count))
     ≡ headed second expected (part packets at mpegLength)

@@ -1,5 +1,5 @@
--- Lengths read back from frames that lie back to back: one frame more, the loop that does it (`Telling`, with a begin, a turn and an end), and that
--- good frames say their lengths (`said-lengths`, `frames-laid`).
+-- Lengths read back from frames that lie back to back: one frame more, the loop that does it (`Telling`, with a begin, a turn and an end),
+-- and that good frames say their lengths (`said-lengths`, `frames-laid`).
 use Prim.Native.Nat.{ℕ, zero, suc, _+_, _≤_, _<_}
 use mathlib.Core.Path.{_≡_, refl, sym, ap, _∙_}
 use mathlib.Core.Bool.{true}
@@ -29,7 +29,8 @@ end-suc zero bytes = rw (rest-none bytes) (omega arith)
 end-suc (suc k) bytes =
     let n = saidLength bytes in
     let more = rest bytes n in
-    let same : saidLength (rest more (saidEnd k more)) ≡ saidLength (rest bytes (n + saidEnd k more)) = ap saidLength (rest-rest bytes n (saidEnd k more)) in
+    let same : saidLength (rest more (saidEnd k more)) ≡ saidLength (rest bytes (n + saidEnd k more)) =
+    ap saidLength (rest-rest bytes n (saidEnd k more)) in
     omega (arith, end-suc k more, same)
 
 lengths-suc : (k : ℕ) (bytes : List ℕ) → saidLengths (suc k) bytes ≡ saidLengths k bytes ++ (saidAt k bytes ∷ [])
@@ -137,20 +138,24 @@ module _ (frame : List ℕ) (frames : List (List ℕ)) (behind : List ℕ) (g : 
       ap (rest (joined (frame ∷ frames) ++ behind)) said-first ∙ ap (λ (l : List ℕ). rest l (length frame)) first-is
       ∙ rest-append frame (joined frames ++ behind)
 
-pub said-lengths : (frames : List (List ℕ)) (behind : List ℕ) → Each GoodFrame frames → saidLengths (length frames) (joined frames ++ behind) ≡ lengthsOf frames
+pub said-lengths : (frames : List (List ℕ)) (behind : List ℕ) → Each GoodFrame frames →
+    saidLengths (length frames) (joined frames ++ behind) ≡ lengthsOf frames
 unfolding saidLengths
 said-lengths [] behind g = sym lengthsOf-none
 said-lengths (f ∷ frames) behind g =
     rw (said-others f frames behind (g .0), said-first f frames behind (g .0))
     (ap (λ (l : List ℕ). length f ∷ l) (said-lengths frames behind (g .1)) ∙ sym (lengthsOf-cons f frames))
 
-said-end : (frames : List (List ℕ)) (behind : List ℕ) → Each GoodFrame frames → saidEnd (length frames) (joined frames ++ behind) ≡ length (joined frames)
+said-end : (frames : List (List ℕ)) (behind : List ℕ) → Each GoodFrame frames →
+    saidEnd (length frames) (joined frames ++ behind) ≡ length (joined frames)
 unfolding saidEnd
 said-end [] behind g = sym length-joined-none
 said-end (f ∷ frames) behind g =
-    rw (said-others f frames behind (g .0), said-first f frames behind (g .0)) (omega (arith, said-end frames behind (g .1), length-joined f frames))
+    rw (said-others f frames behind (g .0), said-first f frames behind (g .0))
+    (omega (arith, said-end frames behind (g .1), length-joined f frames))
 
-said-short : (frames : List (List ℕ)) (behind : List ℕ) → Each GoodFrame frames → (k : ℕ) → k < length frames → saidAt k (joined frames ++ behind) ≤ longest
+said-short : (frames : List (List ℕ)) (behind : List ℕ) → Each GoodFrame frames → (k : ℕ) → k < length frames →
+    saidAt k (joined frames ++ behind) ≤ longest
 unfolding saidEnd
 said-short [] behind g k l = absurd (not-suc-le-zero l)
 said-short (f ∷ frames) behind g zero l =
@@ -158,7 +163,8 @@ said-short (f ∷ frames) behind g zero l =
 said-short (f ∷ frames) behind g (suc k) l =
     let bytes = joined (f ∷ frames) ++ behind in
     let more = rest bytes (saidLength bytes) in
-    let further : rest bytes (saidLength bytes + saidEnd k more) ≡ rest more (saidEnd k more) = sym (rest-rest bytes (saidLength bytes) (saidEnd k more)) in
+    let further : rest bytes (saidLength bytes + saidEnd k more) ≡ rest more (saidEnd k more) =
+    sym (rest-rest bytes (saidLength bytes) (saidEnd k more)) in
     let here : saidAt k more ≤ longest = rw (said-others f frames behind (g .0)) (said-short frames behind (g .1) k (omega arith)) in
     rw further here
 

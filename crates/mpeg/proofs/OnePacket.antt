@@ -1,5 +1,5 @@
--- One packet: each way out of the reader's `without_flag`, `with_flag` and `read_packet`, from what the code has tested and read. The code keeps numbers for a
--- `Reading` s (`standingOf`), and each law says that its answer is the numbers of what the definition makes of s.
+-- One packet: each way out of the reader's `without_flag`, `with_flag` and `read_packet`, from what the code has tested and read. The code
+-- keeps numbers for a `Reading` s (`standingOf`), and each law says that its answer is the numbers of what the definition makes of s.
 use Prim.Native.Nat.{ℕ, _+_, _-_, _*_, _%_, _≤_, _<_}
 use mathlib.Core.Path.{_≡_, refl, sym, ap, _∙_}
 use mathlib.Core.Bool.{Bool, true, false, not, cond, _&&_, _||_, and-false, true≢false}
@@ -27,12 +27,14 @@ use Rattle.mpeg.specs.Read.{pointer, pointed, ended, foundIn, endsWell, 
 use Rattle.mpeg.specs.Inside.Standing.{frontOf, standingOf}
 use Rattle.mpeg.specs.Inside.Fronts.{headed, spoilt, standingWith, foundBetween}
 use Rattle.mpeg.proofs.Fronts.{says-of}
-use Rattle.mpeg.proofs.Frames.{starts-append, begin-says, good-is, not-good-says, not-good-over, may-begin-is, not-begin-long, not-begin-whole}
+use Rattle.mpeg.proofs.Frames.{starts-append, begin-says, good-is, not-good-says, not-good-over, may-begin-is, not-begin-long}
+use Rattle.mpeg.proofs.Frames.{not-begin-whole}
 use Rattle.mpeg.proofs.Ways.{longer, afterFinished, afterWentOn, read-null, read-misfit, read-without, read-with, read-neither}
 use Rattle.mpeg.proofs.Ways.{without-none, without-good, without-more, without-bad, flagPasses, with-fails}
 
 -- five numbers are those of a reading
-pub standing-is : (s : Reading) {expected frames bytes : ℕ} {front : Front} → s .sound ≡ true → expected ≡ s .expected → front ≡ frontOf (s .begun) →
+pub standing-is : (s : Reading) {expected frames bytes : ℕ} {front : Front} → s .sound ≡ true → expected ≡ s .expected →
+    front ≡ frontOf (s .begun) →
     frames ≡ length (s .frames) → bytes ≡ length (joined (s .frames)) →
     _≡_ {A = Standing} (record { sound = true; expected = expected; begun = front; frames = frames; bytes = bytes }) (standingOf s)
 standing-is s a b c d e = rw (a, b, c, d, e) refl
@@ -42,7 +44,8 @@ starts-on : (begun more : List ℕ) → mayBegin begun ≡ true → 0 < length b
 starts-on begun more may some = starts-append begun more some ∙ begin-says begun may .starts
 
 -- Without the flag.
-pub flagless-none : {standing r : Standing} (packet : List ℕ) (s : Reading) → standing ≡ standingOf s → standing .begun .size ≡ 0 → r ≡ spoilt →
+pub flagless-none : {standing r : Standing} (packet : List ℕ) (s : Reading) → standing ≡ standingOf s → standing .begun .size ≡ 0 →
+    r ≡ spoilt →
     r ≡ standingOf (withoutFlag s packet)
 flagless-none packet s is none-begun spoils =
     let empty = none-length (s .begun) (sym (ap (λ (st : Standing). st .begun .size) is) ∙ none-begun) in
@@ -97,7 +100,13 @@ module _ (packets : List ℕ) (at : ℕ) (inside : at + mpegLength ≤ length pa
 
       -- the frame ends with the packet
       pub flagless-ended : {empty : Front} → said ≡ front .size → empty ≡ frontOf [] →
-          _≡_ {A = Standing} (record { sound = true; expected = expected; begun = empty; frames = standing .frames + 1; bytes = standing .bytes + said })
+          _≡_ {A = Standing} (record {
+            sound = true;
+            expected = expected;
+            begun = empty;
+            frames = standing .frames + 1;
+            bytes = standing .bytes + said;
+          })
           (standingOf (withoutFlag s (part packets at mpegLength)))
       flagless-ended {empty} whole is-empty =
           let says : said ≡ saidLength frame = flagless-says in
@@ -108,7 +117,12 @@ module _ (packets : List ℕ) (at : ℕ) (inside : at + mpegLength ≤ length pa
           let frames-are : standing .frames ≡ length (s .frames) = ap (λ (st : Standing). st .frames) is in
           let bytes-are : standing .bytes ≡ length (joined (s .frames)) = ap (λ (st : Standing). st .bytes) is in
           let next : List ℕ → Reading =
-          λ l. record { sound = true; expected = nextCount (countOf (part packets at mpegLength)); begun = []; frames = s .frames ++ (l ∷ []) } in
+          λ l. record {
+            sound = true;
+            expected = nextCount (countOf (part packets at mpegLength));
+            begun = [];
+            frames = s .frames ++ (l ∷ []);
+          } in
           let over : afterFinished s (part packets at mpegLength) ≡ next frame = ap next frame-is in
           standing-is (next frame)
           refl counted is-empty
@@ -118,7 +132,13 @@ module _ (packets : List ℕ) (at : ℕ) (inside : at + mpegLength ≤ length pa
 
       -- more of it is to come
       pub flagless-more : (said ≡ front .size → ⊥) →
-          _≡_ {A = Standing} (record { sound = true; expected = expected; begun = front; frames = standing .frames; bytes = standing .bytes })
+          _≡_ {A = Standing} (record {
+            sound = true;
+            expected = expected;
+            begun = front;
+            frames = standing .frames;
+            bytes = standing .bytes;
+          })
           (standingOf (withoutFlag s (part packets at mpegLength)))
       flagless-more part-only =
           let says : said ≡ saidLength frame = flagless-says in
@@ -156,19 +176,22 @@ by-found expected before f true =
     rw (length-append before (f .whole), all) refl
 by-found expected before f false = refl
 
-flag-found : (s : Reading) (packet : List ℕ) (before : List (List ℕ)) (f : Found) → leb (pointer packet) pointedLength ≡ true → endsWell s packet ≡ true →
+flag-found : (s : Reading) (packet : List ℕ) (before : List (List ℕ)) (f : Found) → leb (pointer packet) pointedLength ≡ true →
+    endsWell s packet ≡ true →
     s .frames ++ endedFrames s packet ≡ before → foundIn packet ≡ f →
     standingWith (nextCount (countOf packet)) (length before) (length (joined before)) f ≡ standingOf (withFlag s packet)
 unfolding withFlag standingWith
 flag-found s packet before f a b c d =
     rw (a, b, c, d) (sym (by-found (nextCount (countOf packet)) before f (f .well)))
 
-module _ (packets : List ℕ) (at : ℕ) (inside : at + mpegLength ≤ length packets) {pointed-at : ℕ} (read : pointed-at ≡ byteAt packets (at + headLength)) where
+module _ (packets : List ℕ) (at : ℕ) (inside : at + mpegLength ≤ length packets) {pointed-at : ℕ}
+    (read : pointed-at ≡ byteAt packets (at + headLength)) where
   pointer-is : pointer (part packets at mpegLength) ≡ pointed-at
   pointer-is = byte-part packets at mpegLength headLength (omega arith) ∙ sym read
 
   -- the pointer points past the packet's end
-  pub flag-outside : {r : Standing} (s : Reading) → pointedLength < pointed-at → r ≡ spoilt → r ≡ standingOf (withFlag s (part packets at mpegLength))
+  pub flag-outside : {r : Standing} (s : Reading) → pointedLength < pointed-at → r ≡ spoilt →
+      r ≡ standingOf (withFlag s (part packets at mpegLength))
   flag-outside s h spoils =
       let packet = part packets at mpegLength in
       let over : leb (pointer packet) pointedLength ≡ false = ap (λ (n : ℕ). leb n pointedLength) pointer-is ∙ lt-leb _ _ h in
@@ -197,11 +220,13 @@ module _ (packets : List ℕ) (at : ℕ) (inside : at + mpegLength ≤ length pa
         ∙ ap (λ (l : List ℕ). s .begun ++ part l 0 pointed-at) pointed-is
         ∙ ap (λ (l : List ℕ). s .begun ++ l) (part-of-part-front packets (at + headLength + 1) pointedLength pointed-at within)
 
-    spoilt-end : (s : Reading) → endsWell s (part packets at mpegLength) ≡ false → spoilt ≡ standingOf (withFlag s (part packets at mpegLength))
+    spoilt-end : (s : Reading) → endsWell s (part packets at mpegLength) ≡ false →
+        spoilt ≡ standingOf (withFlag s (part packets at mpegLength))
     spoilt-end s e =
         let packet = part packets at mpegLength in
         flag-spoilt s packet
-        (ap (λ (t : Bool). leb (pointer packet) pointedLength && (t && (foundIn packet) .well)) e ∙ and-false (leb (pointer packet) pointedLength))
+        (ap (λ (t : Bool). leb (pointer packet) pointedLength && (t && (foundIn packet) .well)) e
+        ∙ and-false (leb (pointer packet) pointedLength))
 
     module _ {standing : Standing} (s : Reading) (is : standing ≡ standingOf s) {expected : ℕ}
         (counted : expected ≡ nextCount (countOf (part packets at mpegLength))) where
@@ -241,7 +266,8 @@ module _ (packets : List ℕ) (at : ℕ) (inside : at + mpegLength ≤ length pa
             let zero-pointer : pointed-at ≡ 0 = eqb-true _ _ (not-false _ (or-false-left (not (eqb pointed-at 0)) filled ready)) in
             let start : at + headLength + 1 + pointed-at ≡ at + headLength + 1 = omega arith in
             let no-ended : s .frames ++ endedFrames s packet ≡ s .frames =
-            ap (λ (t : Bool). s .frames ++ cond t [] (ended s packet ∷ [])) (none-length (s .begun) (sym size-is ∙ none-begun)) ∙ append-nil (s .frames) in
+            ap (λ (t : Bool). s .frames ++ cond t [] (ended s packet ∷ [])) (none-length (s .begun) (sym size-is ∙ none-begun))
+            ∙ append-nil (s .frames) in
             is-found
             ∙ rw (counted, frames-are, bytes-are)
             (flag-found s packet (s .frames) (foundBetween packets (at + headLength + 1) (at + mpegLength)) pointer-fits
@@ -283,7 +309,8 @@ module _ (packets : List ℕ) (at : ℕ) (inside : at + mpegLength ≤ length pa
             (λ (t : ltb longest said ≡ true). let k : longest < said = ltb-true _ _ t in not-good-over frame (omega arith))
             (λ (t : ltb longest said ≡ false).
             not-good-says frame
-            (λ e. eqb-false said (front .size) (not-true _ (or-true-right (ltb longest said) (not (eqb said (front .size))) over t)) (omega arith)))
+            (λ e. eqb-false said (front .size) (not-true _ (or-true-right (ltb longest said) (not (eqb said (front .size))) over t))
+            (omega arith)))
             (true-or-false (ltb longest said)) in
             spoils ∙ spoilt-end s (ends-some ∙ bad)
 
@@ -297,16 +324,21 @@ module _ (packets : List ℕ) (at : ℕ) (inside : at + mpegLength ≤ length pa
             let says : said ≡ saidLength frame = ended-says in
             let size : front .size ≡ length frame = ended-size in
             let short : said ≤ longest = ltb-false _ _ (or-false-left (ltb longest said) (not (eqb said (front .size))) ready) in
-            let whole : said ≡ front .size = eqb-true _ _ (not-false _ (or-false-right (ltb longest said) (not (eqb said (front .size))) ready)) in
+            let whole : said ≡ front .size =
+            eqb-true _ _ (not-false _ (or-false-right (ltb longest said) (not (eqb said (front .size))) ready)) in
             let long : said ≡ length frame = omega arith in
             let well : good frame ≡ true = good-is frame (omega arith) (omega arith) (starts-on (s .begun) _ may begun-there) in
             let one-ended : s .frames ++ endedFrames s packet ≡ s .frames ++ (frame ∷ []) =
-            ap (λ (t : Bool). s .frames ++ cond t [] (ended s packet ∷ [])) none-not ∙ ap (λ (l : List ℕ). s .frames ++ (l ∷ [])) (ended-is s) in
-            let count : standing .frames + 1 ≡ length (s .frames ++ (frame ∷ [])) = ap (λ (n : ℕ). n + 1) frames-are ∙ sym (length-one-more (s .frames) frame) in
-            let bytes : standing .bytes + said ≡ length (joined (s .frames ++ (frame ∷ []))) = rw (bytes-are, long) (sym (length-joined-one-more (s .frames) frame)) in
+            ap (λ (t : Bool). s .frames ++ cond t [] (ended s packet ∷ [])) none-not
+            ∙ ap (λ (l : List ℕ). s .frames ++ (l ∷ [])) (ended-is s) in
+            let count : standing .frames + 1 ≡ length (s .frames ++ (frame ∷ [])) =
+            ap (λ (n : ℕ). n + 1) frames-are ∙ sym (length-one-more (s .frames) frame) in
+            let bytes : standing .bytes + said ≡ length (joined (s .frames ++ (frame ∷ []))) =
+            rw (bytes-are, long) (sym (length-joined-one-more (s .frames) frame)) in
             is-found
             ∙ rw (counted, count, bytes)
-            (flag-found s packet (s .frames ++ (frame ∷ [])) (foundBetween packets (at + headLength + 1 + pointed-at) (at + mpegLength)) pointer-fits
+            (flag-found s packet (s .frames ++ (frame ∷ [])) (foundBetween packets (at + headLength + 1 + pointed-at) (at + mpegLength))
+            pointer-fits
             (ends-some ∙ well) one-ended found-is)
 
 -- One packet.
@@ -367,7 +399,8 @@ module _ {standing : Standing} (sound : standing .sound ≡ true) (packet : List
     pub data-without : {r : Standing} → without ≡ true → r ≡ standingOf (withoutFlag s packet) → r ≡ standingOf (readPacket s packet)
     data-without t e =
         e ∙ ap standingOf (sym (as-data
-        ∙ ap (λ (b : Bool). cond b (withoutFlag s packet) (cond (hasHeader true packet && countFits (s .expected) packet) (withFlag s packet) unsound))
+        ∙ ap (λ (b : Bool). cond b (withoutFlag s packet)
+        (cond (hasHeader true packet && countFits (s .expected) packet) (withFlag s packet) unsound))
         (sym tests-without ∙ t)))
 
     module _ (not-without : without ≡ false) {with : Bool} (is-with : with ≡ headed 0x5F (standing .expected) packet) where
@@ -377,7 +410,8 @@ module _ {standing : Standing} (sound : standing .sound ≡ true) (packet : List
       as-flagged : readPacket s packet ≡ cond with (withFlag s packet) unsound
       as-flagged =
           as-data
-          ∙ ap (λ (b : Bool). cond b (withoutFlag s packet) (cond (hasHeader true packet && countFits (s .expected) packet) (withFlag s packet) unsound))
+          ∙ ap (λ (b : Bool). cond b (withoutFlag s packet)
+          (cond (hasHeader true packet && countFits (s .expected) packet) (withFlag s packet) unsound))
           (sym tests-without ∙ not-without)
           ∙ ap (λ (b : Bool). cond b (withFlag s packet) unsound) (sym tests-with)
 

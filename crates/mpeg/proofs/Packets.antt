@@ -1,5 +1,6 @@
--- A packet as it comes about in the output: the header, the pointer, the bytes that wait and what the packet is filled up with, put one behind the
--- other. `Filling` is the invariant of the loop that fills up, with a begin, a turn and an end. And which slice the hand-out takes from.
+-- A packet as it comes about in the output: the header, the pointer, the bytes that wait and what the packet is filled up with, put one
+-- behind the other. `Filling` is the invariant of the loop that fills up, with a begin, a turn and an end. And which slice the hand-out
+-- takes from.
 use Prim.Native.Nat.{ℕ, _+_, _-_, _≤_, _<_, min}
 use mathlib.Core.Path.{_≡_, refl, sym, ap, _∙_}
 use mathlib.Core.Bool.{true, false}
@@ -90,7 +91,8 @@ module _ (d s : List ℕ) (at from n : ℕ) (long : 128 ≤ n) (in-d : at + n �
       g ≡ put f (at + 128) (part s (from + 128) (n - 128)) → g ≡ put d at (part s from n)
   copied-long e f g first second third =
       let two : f ≡ put d at (part s from 128) =
-      put-on d s at from 64 64 64 128 first second (omega arith) (omega arith) (omega arith) (omega (arith, long, in-d)) (omega (arith, long, in-s)) in
+      put-on d s at from 64 64 64 128 first second (omega arith) (omega arith) (omega arith) (omega (arith, long, in-d))
+      (omega (arith, long, in-s)) in
       put-on d s at from 128 128 (n - 128) n two third (omega (arith, long)) (omega arith) long in-d in-s
 
 -- What stands behind the pointer: a full packet, and one that is filled up.
@@ -109,7 +111,8 @@ module _ (d bytes : List ℕ) (place : ℕ) (inside : place ≤ length bytes) (r
       let stretch = part bytes place pointedLength in
       let long : length stretch ≡ pointedLength = length-part bytes place pointedLength (omega (arith, inside, enough)) in
       let none : pointedLength - length stretch ≡ 0 = omega (arith, long) in
-      let whole : behindPointer (rest bytes place) ≡ stretch = rw (copied pointedLength (omega (arith, enough)), none) (append-nil stretch) in
+      let whole : behindPointer (rest bytes place) ≡ stretch =
+      rw (copied pointedLength (omega (arith, enough)), none) (append-nil stretch) in
       e ∙ ap (put d (headLength + 1)) (sym whole)
 
   pub filled-written : (first last : List ℕ) → size < pointedLength → first ≡ put d (headLength + 1) (part bytes place size) →
@@ -164,5 +167,6 @@ module _ (d bytes : List ℕ) (place left count : ℕ) (w : Waiting bytes place 
         let whole : dataPacket count left waiting ≡ p ++ behindPointer waiting = rw (lt-leb payloadLength left near) refl in
         let stored : set first headLength left ≡ put first headLength (left ∷ []) =
         set-put first headLength left (omega (arith, w .room, long-front, ap length e)) in
-        let pointed : set first headLength left ≡ put d 0 p = put-more d 0 h (left ∷ []) headLength (omega (arith, w .room)) e refl stored in
+        let pointed : set first headLength left ≡ put d 0 p =
+        put-more d 0 h (left ∷ []) headLength (omega (arith, w .room)) e refl stored in
         put-more d 0 p (behindPointer waiting) (headLength + 1) (omega (arith, w .room)) pointed refl f ∙ ap (put d 0) (sym whole)

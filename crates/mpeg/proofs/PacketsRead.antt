@@ -1,4 +1,5 @@
--- What the reader does with each packet that the writer writes (W3): the null packet, a packet that only goes on with a frame, and one with the flag.
+-- What the reader does with each packet that the writer writes (W3): the null packet, a packet that only goes on with a frame, and one with
+-- the flag.
 use mathlib.Core.Path.{_≡_, refl, sym, ap, _∙_}
 use Prim.Native.Nat.{ℕ, _+_, _/_, _%_, _≤_, _<_}
 use native.Mathlib.Omega.{arith}
@@ -51,7 +52,8 @@ module _ (count : ℕ) (body : List ℕ) where
       let p = header starts framesPid count ++ body in
       let once : countOf p % counts ≡ count % counts = omega (arith, count-of starts) in
       ap (λ (l : List ℕ). same l (header starts framesPid (countOf p))) (front-is starts)
-      ∙ ap (λ (n : ℕ). same (header starts framesPid count) (syncByte ∷ flagged starts (framesPid / 256) ∷ (framesPid % 256) ∷ (payloadOnly + n) ∷ [])) once
+      ∙ ap (λ (n : ℕ). same (header starts framesPid count)
+      (syncByte ∷ flagged starts (framesPid / 256) ∷ (framesPid % 256) ∷ (payloadOnly + n) ∷ [])) once
       ∙ same-self (header starts framesPid count)
 
   not-without : hasHeader false (header true framesPid count ++ body) ≡ false
@@ -73,7 +75,8 @@ module _ (expected count : ℕ) (b body : List ℕ) (done : List (List ℕ)) (e 
 
   by-without : readPacket (standing expected b done) without ≡ withoutFlag (standing expected b done) without
   by-without =
-      read-without (standing expected b done) without refl (not-null count body false) (fits count body false expected e) (has-header count body false)
+      read-without (standing expected b done) without refl (not-null count body false) (fits count body false expected e)
+      (has-header count body false)
 
   behind-header : rest without headLength ≡ body
   behind-header = rest-append (header false framesPid count) body
@@ -85,21 +88,24 @@ module _ (expected count : ℕ) (b body : List ℕ) (done : List (List ℕ)) (e 
       ∙ ap (λ (l : List ℕ). standing (nextCount (countOf without)) (b ++ l) done) behind-header
       ∙ ap (λ (n : ℕ). standing n (b ++ body) done) (next-of count body false)
 
-  pub read-whole : good (b ++ body) ≡ true → readPacket (standing expected b done) without ≡ standing (nextCount count) [] (done ++ ((b ++ body) ∷ []))
+  pub read-whole : good (b ++ body) ≡ true →
+      readPacket (standing expected b done) without ≡ standing (nextCount count) [] (done ++ ((b ++ body) ∷ []))
   read-whole is-good =
       by-without ∙ without-good (standing expected b done) without begun (rw behind-header is-good)
       ∙ ap (λ (l : List ℕ). standing (nextCount (countOf without)) [] (done ++ ((b ++ l) ∷ []))) behind-header
       ∙ ap (λ (n : ℕ). standing n [] (done ++ ((b ++ body) ∷ []))) (next-of count body false)
 
 -- With the flag, over what the packet says.
-with-between : (expected : ℕ) (p bytes : List ℕ) (done whole : List (List ℕ)) (front : List ℕ) → pointer p ≡ 0 → pointed p ≡ bytes → rest bytes 0 ≡ bytes →
+with-between : (expected : ℕ) (p bytes : List ℕ) (done whole : List (List ℕ)) (front : List ℕ) → pointer p ≡ 0 → pointed p ≡ bytes →
+    rest bytes 0 ≡ bytes →
     allFill bytes ≡ false → found pointedLength bytes ≡ foundWell whole front →
     withFlag (standing expected [] done) p ≡ standing (nextCount (countOf p)) front (done ++ [] ++ whole)
 unfolding withFlag none
 with-between expected p bytes done whole front at-zero are all starts is-found = rw (at-zero, are, all, starts, is-found) refl
 
 with-within : (expected : ℕ) (p t bytes : List ℕ) (x : ℕ) (b : List ℕ) (done whole : List (List ℕ)) (front : List ℕ) →
-    pointer p ≡ length t → pointed p ≡ t ++ bytes → length t ≤ pointedLength → part (t ++ bytes) 0 (length t) ≡ t → rest (t ++ bytes) (length t) ≡ bytes →
+    pointer p ≡ length t → pointed p ≡ t ++ bytes → length t ≤ pointedLength → part (t ++ bytes) 0 (length t) ≡ t →
+    rest (t ++ bytes) (length t) ≡ bytes →
     good (x ∷ b ++ t) ≡ true →
     found pointedLength bytes ≡ foundWell whole front →
     withFlag (standing expected (x ∷ b) done) p ≡ standing (nextCount (countOf p)) front (done ++ ((x ∷ b ++ t) ∷ []) ++ whole)
@@ -128,16 +134,19 @@ by-with expected count t bytes done b e =
 
 module _ (expected count : ℕ) (bytes : List ℕ) (done whole : List (List ℕ)) (front : List ℕ) (e : Expects expected count)
     (is-found : found pointedLength bytes ≡ foundWell whole front) where
-  pub read-ends : {b t : List ℕ} → Mid b t → length t ≤ pointedLength → (0 < length t → good (b ++ t) ≡ true) → (length t ≡ 0 → allFill bytes ≡ false) →
+  pub read-ends : {b t : List ℕ} → Mid b t → length t ≤ pointedLength → (0 < length t → good (b ++ t) ≡ true) →
+      (length t ≡ 0 → allFill bytes ≡ false) →
       readPacket (standing expected b done) (flaggedPacket count t bytes) ≡ standing (nextCount count) front (done ++ one b t ++ whole)
   read-ends between r ends starts =
       by-with expected count [] bytes done [] e
-      ∙ with-between expected (flaggedPacket count [] bytes) bytes done whole front refl (pointed-is count [] bytes) (rest-none bytes) (starts refl) is-found
+      ∙ with-between expected (flaggedPacket count [] bytes) bytes done whole front refl (pointed-is count [] bytes) (rest-none bytes)
+      (starts refl) is-found
       ∙ ap (λ (n : ℕ). standing n front (done ++ [] ++ whole)) (next-of count (0 ∷ bytes) true)
   read-ends (within x b y u) r ends starts =
       let t = y ∷ u in
       let p = flaggedPacket count t bytes in
       let is-good = ends (omega arith) in
       by-with expected count t bytes done (x ∷ b) e
-      ∙ with-within expected p t bytes x b done whole front refl (pointed-is count t bytes) r (part-append t bytes) (rest-append t bytes) is-good is-found
+      ∙ with-within expected p t bytes x b done whole front refl (pointed-is count t bytes) r (part-append t bytes) (rest-append t bytes)
+      is-good is-found
       ∙ ap (λ (n : ℕ). standing n front (done ++ ((x ∷ b ++ t) ∷ []) ++ whole)) (next-of count (length t ∷ (t ++ bytes)) true)

@@ -1,5 +1,5 @@
--- Packet after packet: what is read behind so many packets (`readingAt`), and the two passes over all of them, the one that only reads (`Passing`)
--- and the one that writes the frames' bytes besides (`Pouring`), each with a begin, a turn and an end.
+-- Packet after packet: what is read behind so many packets (`readingAt`), and the two passes over all of them, the one that only reads
+-- (`Passing`) and the one that writes the frames' bytes besides (`Pouring`), each with a begin, a turn and an end.
 use Prim.Native.Nat.{ℕ, zero, suc, _+_, _-_, _*_, _/_, _%_, _≤_, _<_, min}
 use mathlib.Core.Path.{_≡_, refl, sym, ap, subst, _∙_}
 use mathlib.Core.Bool.{true, false, _&&_, true≢false}
@@ -15,8 +15,8 @@ use Rattle.octets.specs.Each.{Each}
 use Rattle.octets.specs.Count.{upTo}
 use Rattle.octets.specs.Stretch.{part, put, joined}
 use Rattle.octets.proofs.Counts.{true-or-false}
-use Rattle.octets.proofs.Stretches.{length-part, byte-part, part-none, part-past, part-append, part-of-part, part-short, put-nil, put-part-append, length-put}
-use Rattle.octets.proofs.Stretches.{joined-none, length-joined, length-joined-none}
+use Rattle.octets.proofs.Stretches.{length-part, byte-part, part-none, part-past, part-append, part-of-part, part-short, put-nil}
+use Rattle.octets.proofs.Stretches.{put-part-append, length-put, joined-none, length-joined, length-joined-none}
 use Rattle.ts.specs.Packet.{mpegLength, headLength}
 use Rattle.mpeg.specs.declared.reader.Standing.{Standing}
 use Rattle.mpeg.specs.Packet.{framesPid}
@@ -34,7 +34,8 @@ few-frames (f ∷ frames) g =
     omega (arith, few-frames frames (g .1), good-some f (g .0), length-joined f frames)
 
 -- One packet more.
-pub read-more : (s : Reading) (packets : List (List ℕ)) (packet : List ℕ) → readFrom s (packets ++ (packet ∷ [])) ≡ readPacket (readFrom s packets) packet
+pub read-more : (s : Reading) (packets : List (List ℕ)) (packet : List ℕ) →
+    readFrom s (packets ++ (packet ∷ [])) ≡ readPacket (readFrom s packets) packet
 unfolding readFrom
 read-more s [] packet = refl
 read-more s (p ∷ packets) packet = read-more (readPacket s p) packets packet
@@ -94,7 +95,8 @@ module _ (packets : List ℕ) where
         short = omega (arith, length-append (joined []) [], length-joined-none);
       }
 
-  pub steady-at : (k : ℕ) → mpegLength * k ≤ length packets → (readingAt packets k) .sound ≡ true → Steady (mpegLength * k) (readingAt packets k)
+  pub steady-at : (k : ℕ) → mpegLength * k ≤ length packets → (readingAt packets k) .sound ≡ true →
+      Steady (mpegLength * k) (readingAt packets k)
   steady-at zero l sound = rw reading-none steady-start
   steady-at (suc k) l sound =
       let e = reading-more k in
@@ -121,7 +123,8 @@ module _ (packets : List ℕ) where
       ⊎-elim
       (λ (t : eqb (length packets % mpegLength) 0 ≡ true). eqb-true (length packets % mpegLength) 0 t)
       (λ (t : eqb (length packets % mpegLength) 0 ≡ false).
-      absurd (true≢false (sym sound ∙ ap (λ (s : Reading). s .sound) (reading-cut (λ z. true≢false (sym (eq-eqb (length packets % mpegLength) 0 z) ∙ t))))))
+      absurd (true≢false (sym sound
+      ∙ ap (λ (s : Reading). s .sound) (reading-cut (λ z. true≢false (sym (eq-eqb (length packets % mpegLength) 0 z) ∙ t))))))
       (true-or-false (eqb (length packets % mpegLength) 0))
 
   pub reading-lost : (reading packets) .sound ≡ false → reading packets ≡ unsound
@@ -171,7 +174,8 @@ reading-fits packets =
     let e = reading-all packets n (omega (arith, reading-whole packets sound)) in
     let at : mpegLength * n ≤ length packets = omega arith in
     let w = steady-within (mpegLength * n) (readingAt packets n) (steady-at packets n at (ap (λ (r : Reading). r .sound) e ∙ sound)) in
-    let fits : FitsIn (length packets) (readingAt packets n) = record { few-bytes = omega (arith, w .few-bytes, at); few-frames = w .few-frames } in
+    let fits : FitsIn (length packets) (readingAt packets n) =
+    record { few-bytes = omega (arith, w .few-bytes, at); few-frames = w .few-frames } in
     subst (λ (r : Reading). FitsIn (length packets) r) e fits)
     (λ (lost : (reading packets) .sound ≡ false). rw (reading-lost packets lost) (none-fits (length packets)))
     (true-or-false ((reading packets) .sound))
@@ -202,7 +206,8 @@ module _ {packets : List ℕ} {standing : Standing} {at : ℕ} (p : Passing pack
       pub pass-within : Within at standing
       pass-within = rw (p .stands) (steady-within at (readingAt packets (p .k)) pass-steady)
 
-      pub pass-turn : (next : Standing) → Follows (λ s. readPacket s (part packets at mpegLength)) standing next → Passing packets next (at + mpegLength)
+      pub pass-turn : (next : Standing) → Follows (λ s. readPacket s (part packets at mpegLength)) standing next →
+          Passing packets next (at + mpegLength)
       pass-turn next follows =
           record {
             k = suc (p .k);
@@ -218,7 +223,8 @@ module _ {packets : List ℕ} {standing : Standing} {at : ℕ} (p : Passing pack
   pub pass-through : length packets ≤ at → readingAt packets (p .k) ≡ reading packets
   pass-through done = reading-all packets (p .k) (omega (arith, p .place, p .within))
 
-  pub pass-end : length packets % mpegLength ≡ 0 → (standing .sound && ltb at (length packets)) ≡ false → standing ≡ standingOf (reading packets)
+  pub pass-end : length packets % mpegLength ≡ 0 → (standing .sound && ltb at (length packets)) ≡ false →
+      standing ≡ standingOf (reading packets)
   pass-end whole stop =
       ⊎-elim
       (λ (t : standing .sound ≡ true).
@@ -292,7 +298,8 @@ pub record Pouring (packets output : List ℕ) (total : ℕ) (standing : Standin
   pub passing : Passing packets standing at
   pub stands : output′ ≡ put output 0 (part (stream (readingAt packets (passing .k))) 0 total)
 
-pub pour-begin : (packets output : List ℕ) (total : ℕ) (standing : Standing) → standing ≡ standingOf atStart → Pouring packets output total standing 0 output
+pub pour-begin : (packets output : List ℕ) (total : ℕ) (standing : Standing) → standing ≡ standingOf atStart →
+    Pouring packets output total standing 0 output
 unfolding stream pass-begin
 pour-begin packets output total standing e =
     record {
@@ -303,7 +310,8 @@ pour-begin packets output total standing e =
           ∙ ap (put output 0) (part-past [] total (omega arith)) ∙ put-nil output 0);
     }
 
-module _ {packets output : List ℕ} {total : ℕ} {standing : Standing} {at : ℕ} {output′ : List ℕ} (w : Pouring packets output total standing at output′)
+module _ {packets output : List ℕ} {total : ℕ} {standing : Standing} {at : ℕ} {output′ : List ℕ}
+    (w : Pouring packets output total standing at output′)
     (surveyed : Surveyed packets output total) where
   abbrev here : Reading
   here = readingAt packets (w .passing .k)
@@ -330,7 +338,9 @@ module _ {packets output : List ℕ} {total : ℕ} {standing : Standing} {at : �
         (ap (λ (s : Reading). s .sound) (reading-all packets (length packets / mpegLength) (omega (arith, whole))) ∙ surveyed .all-sound)
 
     standing-sound : standing .sound ≡ true
-    standing-sound = ap (λ (s : Standing). s .sound) (w .passing .stands) ∙ sound-at (w .passing .k) (omega (arith, w .passing .place, w .passing .within))
+    standing-sound =
+        ap (λ (s : Standing). s .sound) (w .passing .stands)
+        ∙ sound-at (w .passing .k) (omega (arith, w .passing .place, w .passing .within))
 
     pub pour-within : Within at standing
     pour-within = pass-within (w .passing) whole more standing-sound
@@ -367,7 +377,8 @@ module _ {packets output : List ℕ} {total : ℕ} {standing : Standing} {at : �
       behind-is : behind ≡ length (stream here) + pour-adds .size
       behind-is =
           let a = pour-adds in
-          let long = length-part packet (bytesAt packet) (a .size) (omega (arith, a .inside, length-part packets at mpegLength pour-inside)) in
+          let long =
+          length-part packet (bytesAt packet) (a .size) (omega (arith, a .inside, length-part packets at mpegLength pour-inside)) in
           ap (λ (s : Standing). s .bytes + s .begun .size) next-is ∙ so-far (readPacket here packet) ∙ ap length (a .bytes-of)
           ∙ length-append (stream here) (part packet (bytesAt packet) (a .size)) ∙ ap (λ (n : ℕ). length (stream here) + n) long
 
@@ -390,7 +401,8 @@ module _ {packets output : List ℕ} {total : ℕ} {standing : Standing} {at : �
           let n = length (stream here) in
           let written : output″ ≡ put output′ n (part packet (bytesAt packet) (min (n + a .size) total - n)) =
           e ∙ ap (λ (n : ℕ). put output′ n (part packet (bytesAt packet) (min behind total - n))) before-is
-          ∙ ap (λ (n : ℕ). put output′ (length (stream here)) (part packet (bytesAt packet) (min n total - length (stream here)))) behind-is in
+          ∙ ap (λ (n : ℕ). put output′ (length (stream here)) (part packet (bytesAt packet) (min n total - length (stream here))))
+          behind-is in
           let after : stream here ++ part packet (bytesAt packet) (a .size) ≡ stream (readingAt packets (suc (w .passing .k))) =
           sym (a .bytes-of) ∙ ap stream (sym (reading-more packets (w .passing .k) ∙ ap (readPacket here) packet-is)) in
           record {

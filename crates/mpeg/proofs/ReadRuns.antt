@@ -1,5 +1,5 @@
--- `read-is-run`: what the reader takes, some run of the writer gives. By the packets, from the last to the first: how a frame goes on that has begun is known
--- from the packets behind, and after the last packet it goes on with 0.
+-- `read-is-run`: what the reader takes, some run of the writer gives. By the packets, from the last to the first: how a frame goes on that
+-- has begun is known from the packets behind, and after the last packet it goes on with 0.
 use Prim.Native.Nat.{ℕ, _+_, _*_, _/_, _%_, _≤_, _<_}
 use mathlib.Core.Path.{_≡_, refl, sym, ap, _∙_}
 use mathlib.Core.Bool.{Bool, true, false, not, cond, _&&_, true≢false}
@@ -22,14 +22,16 @@ use Rattle.ts.specs.Packet.{mpegLength, headLength, payloadLength, countOf, nex
 use Rattle.ts.proofs.Filling.{fill-all}
 use Rattle.mpeg.specs.Packet.{pointedLength, framesPid}
 use Rattle.mpeg.specs.Frame.{good, mayBegin, Good}
-use Rattle.mpeg.specs.Read.{Reading, anyCount, atStart, unsound, pointer, pointed, ended, foundIn, readPacket, readFrom, packetsIn, reading}
+use Rattle.mpeg.specs.Read.{Reading, anyCount, atStart, unsound, pointer, pointed, ended, foundIn, readPacket, readFrom, packetsIn}
+use Rattle.mpeg.specs.Read.{reading}
 use Rattle.mpeg.specs.Run.{noBacklog, IsRun, ReadIsRun}
 use Rattle.mpeg.proofs.Backlogs.{Mid, between, within, At}
 use Rattle.mpeg.proofs.Frames.{may-begin-none, good-not-begun}
 use Rattle.mpeg.proofs.Found.{Apart, found-apart, pieces, end-bytes, frames-good}
 use Rattle.mpeg.proofs.Ways.{longer, stays-unsound, Headed, headed-rest, Started, way}
 use Rattle.mpeg.proofs.Ways.{Way, was-refused, was-null, was-finished, went-on, was-started}
-use Rattle.mpeg.proofs.Completing.{Goes, RunOf, mid-none, goes-none, goes-on, run-ends, run-null, run-on, run-finished, flagged, run-flag}
+use Rattle.mpeg.proofs.Completing.{Goes, RunOf, mid-none, goes-none, goes-on, run-ends, run-null, run-on, run-finished, flagged}
+use Rattle.mpeg.proofs.Completing.{run-flag}
 
 -- A packet as the reader is given it.
 abbrev Whole : List ℕ → Type 0
@@ -42,7 +44,8 @@ null-step b expected packet more e f r = rw (e, f) (run-null expected more (rw e
 
 -- Without the flag.
 goes-further : (b payload : List ℕ) (expected c : ℕ) (more : List (List ℕ)) → none b ≡ false → length payload ≡ payloadLength →
-    (expected ≡ anyCount) ⊎ (c ≡ expected) → RunOf (b ++ payload) (nextCount c) more → RunOf b expected ((header false framesPid c ++ payload) ∷ more)
+    (expected ≡ anyCount) ⊎ (c ≡ expected) → RunOf (b ++ payload) (nextCount c) more →
+    RunOf b expected ((header false framesPid c ++ payload) ∷ more)
 unfolding none
 goes-further [] payload expected c more h long fits r = absurd (true≢false h)
 goes-further (x ∷ b) payload expected c more h long fits r = run-on x b payload expected c more long fits r
@@ -68,14 +71,16 @@ flag-goes (x ∷ b) (y ∷ t) n test may in-b in-t long h = goes-on x b (y ∷ t
 
 -- .. and that the packet has some byte of a frame
 flag-some : {b t : List ℕ} (pieces all : List ℕ) (fill : ℕ) (zero-test other : Bool) → Mid b t →
-    cond (none b) (zero-test && not (allFill all)) other ≡ true → t ++ (pieces ++ replicate fill fillByte) ≡ all → 0 < length t + length pieces
+    cond (none b) (zero-test && not (allFill all)) other ≡ true → t ++ (pieces ++ replicate fill fillByte) ≡ all →
+    0 < length t + length pieces
 unfolding none
 flag-some [] all fill zero-test other between h e =
     absurd (true≢false (sym (fill-all fill) ∙ ap allFill e ∙ not-true (allFill all) (and-right zero-test (not (allFill all)) h)))
 flag-some (z ∷ pieces) all fill zero-test other between h e = omega arith
 flag-some pieces all fill zero-test other (within x b y t) h e = omega arith
 
-module _ (s : Reading) (packet : List ℕ) (more : List (List ℕ)) (may : mayBegin (s .begun) ≡ true) (bytes : AllBytes (s .begun)) (is-whole : Whole packet) where
+module _ (s : Reading) (packet : List ℕ) (more : List (List ℕ)) (may : mayBegin (s .begun) ≡ true) (bytes : AllBytes (s .begun))
+    (is-whole : Whole packet) where
   payload-long : length (rest packet headLength) ≡ payloadLength
   payload-long = omega (arith, length-rest packet headLength, is-whole .0)
 
@@ -112,7 +117,8 @@ module _ (s : Reading) (packet : List ℕ) (more : List (List ℕ)) (may : mayBe
     is-flagged : flagged (s .begun) tail ((foundIn packet) .whole) ((foundIn packet) .open-end) (its-apart .fill) (countOf packet) ≡ packet
     is-flagged =
         let c = countOf packet in
-        let first : pointer packet ∷ pointed packet ≡ rest packet headLength = sym (rest-byte packet headLength (omega (arith, is-whole .0))) in
+        let first : pointer packet ∷ pointed packet ≡ rest packet headLength =
+        sym (rest-byte packet headLength (omega (arith, is-whole .0))) in
         ap (λ (l : List ℕ). header true framesPid c ++ (length tail ∷ l)) its-pieces
         ∙ ap (λ (n : ℕ). header true framesPid c ++ (n ∷ pointed packet)) long-tail
         ∙ ap (λ (l : List ℕ). header true framesPid c ++ l) first
@@ -126,7 +132,8 @@ module _ (s : Reading) (packet : List ℕ) (more : List (List ℕ)) (may : mayBe
     abbrev front : List ℕ
     front = (foundIn packet) .open-end
 
-    run-flagged : (mayBegin front ≡ true → AllBytes front → RunOf front (nextCount (countOf packet)) more) → RunOf (s .begun) (s .expected) (packet ∷ more)
+    run-flagged : (mayBegin front ≡ true → AllBytes front → RunOf front (nextCount (countOf packet)) more) →
+        RunOf (s .begun) (s .expected) (packet ∷ more)
     run-flagged behind =
         let fills = replicate (its-apart .fill) fillByte in
         let all : length tail + length (pieces its-apart) + its-apart .fill ≡ pointedLength =
@@ -139,9 +146,12 @@ module _ (s : Reading) (packet : List ℕ) (more : List (List ℕ)) (may : mayBe
           length-replicate (its-apart .fill) fillByte,
         ) in
         let some : 0 < length tail + length (pieces its-apart) =
-        flag-some (pieces its-apart) (pointed packet) (its-apart .fill) (eqb (pointer packet) 0) (good (ended s packet)) (its-end .middle) (started .ends) its-pieces in
-        let r : RunOf (s .begun) (s .expected) (flagged (s .begun) tail ((foundIn packet) .whole) front (its-apart .fill) (countOf packet) ∷ more) =
-        run-flag (s .begun) tail ((foundIn packet) .whole) front (its-apart .fill) all some (s .expected) (countOf packet) more (h .fits) its-end
+        flag-some (pieces its-apart) (pointed packet) (its-apart .fill) (eqb (pointer packet) 0) (good (ended s packet)) (its-end .middle)
+        (started .ends) its-pieces in
+        let r : RunOf (s .begun) (s .expected)
+        (flagged (s .begun) tail ((foundIn packet) .whole) front (its-apart .fill) (countOf packet) ∷ more) =
+        run-flag (s .begun) tail ((foundIn packet) .whole) front (its-apart .fill) all some (s .expected) (countOf packet) more
+        (h .fits) its-end
         (frames-good its-apart bytes-behind) (its-apart .one-of-them) (behind (its-apart .may-begin) (end-bytes its-apart bytes-behind)) in
         rw is-flagged at r
 
@@ -149,23 +159,29 @@ module _ (s : Reading) (packet : List ℕ) (more : List (List ℕ)) (may : mayBe
   abbrev Onward : Reading → Type 0
   Onward v = mayBegin (v .begun) ≡ true → AllBytes (v .begun) → RunOf (v .begun) (v .expected) more
 
-  step-by : Way s packet → (readPacket s packet) .sound ≡ true → Onward (readPacket s packet) → RunOf (s .begun) (s .expected) (packet ∷ more)
+  step-by : Way s packet → (readPacket s packet) .sound ≡ true → Onward (readPacket s packet) →
+      RunOf (s .begun) (s .expected) (packet ∷ more)
   step-by (was-refused e) sound behind = absurd (true≢false (sym sound ∙ ap (λ (t : Reading). t .sound) e))
   step-by (was-null is-null nothing e) sound behind =
       let on : Onward s = rw e at behind in
       null-step (s .begun) (s .expected) packet more nothing is-null (on may bytes)
   step-by (was-finished h begun g e) sound behind =
       let on : mayBegin [] ≡ true → AllBytes [] → RunOf [] (nextCount (countOf packet)) more = rw e at behind in
-      let r = finished (s .begun) (rest packet headLength) (s .expected) (countOf packet) more begun payload-long (h .fits) (g, longer-bytes)
+      let r =
+      finished (s .begun) (rest packet headLength) (s .expected) (countOf packet) more begun payload-long (h .fits) (g, longer-bytes)
       (on may-begin-none bytes-none) in
       rw (headed-rest h) at r
   step-by (went-on h begun m e) sound behind =
-      let on : mayBegin (longer s packet) ≡ true → AllBytes (longer s packet) → RunOf (longer s packet) (nextCount (countOf packet)) more = rw e at behind in
-      let r = goes-further (s .begun) (rest packet headLength) (s .expected) (countOf packet) more begun payload-long (h .fits) (on m longer-bytes) in
+      let on : mayBegin (longer s packet) ≡ true → AllBytes (longer s packet) → RunOf (longer s packet) (nextCount (countOf packet)) more =
+      rw e at behind in
+      let r =
+      goes-further (s .begun) (rest packet headLength) (s .expected) (countOf packet) more begun payload-long (h .fits)
+      (on m longer-bytes) in
       rw (headed-rest h) at r
   step-by (was-started h started e) sound behind = run-flagged h started (rw e at behind)
 
-  step : s .sound ≡ true → (readPacket s packet) .sound ≡ true → Onward (readPacket s packet) → RunOf (s .begun) (s .expected) (packet ∷ more)
+  step : s .sound ≡ true → (readPacket s packet) .sound ≡ true → Onward (readPacket s packet) →
+      RunOf (s .begun) (s .expected) (packet ∷ more)
   step was-sound = step-by (way s packet was-sound)
 
 -- All packets. First: a reading that is sound at the end was sound before.

@@ -1,6 +1,6 @@
--- A run by computation (W3), with every byte of its packets: three frames, of which the first goes through three packets and the third begins in the
--- last byte of the third; then a null packet, as nothing waits; then two frames, the second of which is not finished when the run stops. The count
--- goes round. The reader gives back the four that have been sent whole.
+-- A run by computation (W3), with every byte of its packets: three frames, of which the first goes through three packets and the third
+-- begins in the last byte of the third; then a null packet, as nothing waits; then two frames, the second of which is not finished when the
+-- run stops. The count goes round. The reader gives back the four that have been sent whole.
 use Prim.Native.Nat.{ℕ}
 use mathlib.Core.Path.{_≡_, refl}
 use mathlib.Core.Bool.{true}

@@ -1,5 +1,5 @@
--- What a run of the writer gives, the reader takes, and gives back the frames that have been sent whole (W3): `runs-are-read`. And with calls enough
--- all frames come back: `all-come-back`. After each packet the reader stands where the run stands: `Keeps`.
+-- What a run of the writer gives, the reader takes, and gives back the frames that have been sent whole (W3): `runs-are-read`. And with
+-- calls enough all frames come back: `all-come-back`. After each packet the reader stands where the run stands: `Keeps`.
 use mathlib.Core.Path.{_≡_, refl, sym, ap, _∙_}
 use Prim.Native.Nat.{ℕ, zero, suc, _+_, _-_, _/_, _%_, _≤_, _<_, min}
 use native.Mathlib.Omega.{arith}
@@ -24,10 +24,10 @@ use Rattle.mpeg.specs.Packet.{pointedLength, framesPid}
 use Rattle.mpeg.specs.Frame.{startsWell, Good}
 use Rattle.mpeg.specs.Write.{packetOf, carried, countAfter}
 use Rattle.mpeg.specs.Read.{Reading, atStart, anyCount, readPacket, readFrom, packetsIn, reading}
-use Rattle.mpeg.specs.Run.{Backlog, noBacklog, Burst, added, waitingIn, leftIn, packetNext, afterNext, runPackets, runEnd, GoodBursts, allFrames}
-use Rattle.mpeg.specs.Run.{sentWhole, RunsAreRead, drained, AllComeBack}
-use Rattle.mpeg.proofs.Backlogs.{Mid, between, within, mid-front, one, one-some, At, at-next, at-added, at-none, at-on, at-whole, at-ends}
-use Rattle.mpeg.proofs.Backlogs.{NotEmpty, at-sent, count-next, count-some, packet-on, packet-ends, carried-some}
+use Rattle.mpeg.specs.Run.{Backlog, noBacklog, Burst, added, waitingIn, leftIn, packetNext, afterNext, runPackets, runEnd, GoodBursts}
+use Rattle.mpeg.specs.Run.{allFrames, sentWhole, RunsAreRead, drained, AllComeBack}
+use Rattle.mpeg.proofs.Backlogs.{Mid, between, within, mid-front, one, one-some, At, at-next, at-added, at-none, at-on, at-whole}
+use Rattle.mpeg.proofs.Backlogs.{at-ends, NotEmpty, at-sent, count-next, count-some, packet-on, packet-ends, carried-some}
 use Rattle.mpeg.proofs.Frames.{Says, good-says, good-some, starts-append, starts-not-fill, front-begins, front-not-good}
 use Rattle.mpeg.proofs.Split.{room, split}
 use Rattle.mpeg.proofs.PacketsRead.{standing, Expects, read-null, read-on, read-whole, read-ends}
@@ -142,7 +142,8 @@ module _ (q : Backlog) (expected : ℕ) (done : List (List ℕ)) (b t : List ℕ
       let whole : front ++ back ≡ b ++ t =
       append-assoc b sent back ∙ ap (λ (l : List ℕ). b ++ l) (part-and-rest t payloadLength) in
       let says : Says (front ++ back) = rw whole (good-says (b ++ t) ((this-good some-t) .0)) in
-      let is-one : one front back ≡ one b t = one-some front back some-back ∙ ap (λ (l : List ℕ). l ∷ []) whole ∙ sym (one-some b t some-t) in
+      let is-one : one front back ≡ one b t =
+      one-some front back some-back ∙ ap (λ (l : List ℕ). l ∷ []) whole ∙ sym (one-some b t some-t) in
       record {
         expected = nextCount (q .count);
         done = done;
@@ -244,7 +245,8 @@ module _ (q : Backlog) (expected : ℕ) (done : List (List ℕ)) (b t : List ℕ
       (true-or-false (leb payloadLength (length t))))
       (true-or-false (eqb (length w) 0))
 
-keeps-next : {q : Backlog} {s : Reading} → Keeps q s → Keeps (afterNext q) (readPacket s (packetNext q)) × (length (packetNext q) ≡ mpegLength)
+keeps-next : {q : Backlog} {s : Reading} → Keeps q s →
+    Keeps (afterNext q) (readPacket s (packetNext q)) × (length (packetNext q) ≡ mpegLength)
 keeps-next {q} {s} k = rw (k .is) (next-keeps q (k .expected) (k .done) (k .b) (k .t) (k .waiting) (k .at) (k .goods) (k .expects))
 
 -- A run.
@@ -388,7 +390,8 @@ all-come-back count n bursts g h =
     let frames-are : behind .frames ≡ all = frames-at-end bursts (noBacklog count) in
     let long : all-length behind ≡ length (joined all) = ap (λ (fs : List (List ℕ)). length (joined fs)) frames-are in
     let sent : all-length behind ≤ (runEnd behind (replicate n [])) .place = all-sent n behind (omega arith) in
-    let end : runEnd (noBacklog count) (drained bursts n) ≡ runEnd behind (replicate n []) = run-both bursts (replicate n []) (noBacklog count) in
+    let end : runEnd (noBacklog count) (drained bursts n) ≡ runEnd behind (replicate n []) =
+    run-both bursts (replicate n []) (noBacklog count) in
     let place : length (joined all) ≤ (runEnd (noBacklog count) (drained bursts n)) .place = rw end (omega arith) in
     (runs-are-read count (drained bursts n) (drained-good bursts n g)) .given-back
     ∙ ap (λ (fs : List (List ℕ)). sentWhole fs ((runEnd (noBacklog count) (drained bursts n)) .place)) (drained-frames bursts n)

@@ -1,5 +1,5 @@
--- How a packet with the flag cuts the frames that wait (W3): it takes whole ones, and then the front of one, or nothing and is filled up; and the reader finds just
--- this (`split`).
+-- How a packet with the flag cuts the frames that wait (W3): it takes whole ones, and then the front of one, or nothing and is filled up;
+-- and the reader finds just this (`split`).
 use Prim.Native.Nat.{ℕ, zero, suc, _+_, _-_, _≤_, _<_}
 use mathlib.Core.Path.{_≡_, refl, sym, ap, _∙_}
 use mathlib.Core.Bool.{true, false}
@@ -13,15 +13,16 @@ use borrow.Author.Tests.{leb-true, leb-false}
 use Rattle.octets.specs.Each.{Each}
 use Rattle.octets.specs.Stretch.{part, rest, joined}
 use Rattle.octets.proofs.Counts.{true-or-false}
-use Rattle.octets.proofs.Stretches.{length-part, length-rest, part-none, part-past, part-and-rest, part-append, part-append-within, part-append-past, rest-append}
-use Rattle.octets.proofs.Stretches.{joined-none, joined-cons}
+use Rattle.octets.proofs.Stretches.{length-part, length-rest, part-none, part-past, part-and-rest, part-append, part-append-within}
+use Rattle.octets.proofs.Stretches.{part-append-past, rest-append, joined-none, joined-cons}
 use Rattle.ts.specs.Packet.{fillByte}
 use Rattle.ts.proofs.Filling.{fill-all}
 use Rattle.mpeg.specs.Packet.{filledTo}
 use Rattle.mpeg.specs.Frame.{saidLength, startsWell, good, Good}
 use Rattle.mpeg.specs.Read.{found}
 use Rattle.mpeg.proofs.Backlogs.{Mid, between, mid-some, one, one-some}
-use Rattle.mpeg.proofs.Frames.{Says, good-says, good-some, starts-append, starts-not-fill, said-append, front-starts, front-open, front-begins}
+use Rattle.mpeg.proofs.Frames.{Says, good-says, good-some, starts-append, starts-not-fill, said-append, front-starts, front-open}
+use Rattle.mpeg.proofs.Frames.{front-begins}
 use Rattle.mpeg.proofs.Found.{foundWell, found-none, found-filled, found-frame, found-open}
 
 -- What is found in 0xFF alone, in a front of a frame, and in a frame with something behind it.
@@ -30,12 +31,14 @@ found-fill zero zero h = found-none zero
 found-fill zero (suc m) h = absurd (not-suc-le-zero h)
 found-fill (suc n) m h = found-filled n (replicate m fillByte) (fill-all m)
 
-found-front : (n : ℕ) (front back : List ℕ) → 0 < length front → 0 < length back → Says (front ++ back) → found (suc n) front ≡ foundWell [] front
+found-front : (n : ℕ) (front back : List ℕ) → 0 < length front → 0 < length back → Says (front ++ back) →
+    found (suc n) front ≡ foundWell [] front
 found-front n front back some more says =
     found-open n front (starts-not-fill front some (front-starts front back some more says)) (front-open front back some more says)
     ∙ rw (front-begins front back some more says) refl
 
-found-whole : (n : ℕ) (f behind : List ℕ) (whole : List (List ℕ)) (front : List ℕ) → good f ≡ true → found n behind ≡ foundWell whole front →
+found-whole : (n : ℕ) (f behind : List ℕ) (whole : List (List ℕ)) (front : List ℕ) → good f ≡ true →
+    found n behind ≡ foundWell whole front →
     found (suc n) (f ++ behind) ≡ foundWell (f ∷ whole) front
 found-whole n f behind whole front g e =
     let s = good-says f g in
@@ -104,7 +107,8 @@ split-front m n f waiting says some less =
       is-found = rw (is-taken, filled, append-nil front) (found-front n front back a b frame-says);
     }
 
-split-frame : (m n : ℕ) (f : List ℕ) (waiting : List (List ℕ)) → good f ≡ true → length f ≤ m → Split (m - length f) n waiting → Split m (suc n) (f ∷ waiting)
+split-frame : (m n : ℕ) (f : List ℕ) (waiting : List (List ℕ)) → good f ≡ true → length f ≤ m → Split (m - length f) n waiting →
+    Split m (suc n) (f ∷ waiting)
 split-frame m n f waiting g fits s =
     let others = part (joined waiting) 0 (m - length f) in
     let is-taken : part (joined (f ∷ waiting)) 0 m ≡ f ++ others =

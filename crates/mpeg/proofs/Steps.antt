@@ -1,6 +1,6 @@
--- What a run's step has to do with a call of the writer (W3): a call that is given good frames and room makes the step (`calls-make-runs`), 52 is given where bytes and
--- lengths are not those of good frames (`judged-by-frames`), and frames that have been sent whole may be taken away (`sent-may-go`). And null packets may be put
--- in where no frame has begun (`nulls-between`).
+-- What a run's step has to do with a call of the writer (W3): a call that is given good frames and room makes the step (`calls-make-runs`),
+-- 52 is given where bytes and lengths are not those of good frames (`judged-by-frames`), and frames that have been sent whole may be taken
+-- away (`sent-may-go`). And null packets may be put in where no frame has begun (`nulls-between`).
 use Prim.Native.Nat.{ℕ, _+_, _≤_}
 use mathlib.Core.Path.{_≡_, refl, sym, ap, _∙_}
 use mathlib.Core.Bool.{true, false, not, _||_}
@@ -21,7 +21,8 @@ use Rattle.mpeg.specs.Frame.{good, Good}
 use Rattle.mpeg.specs.Write.{badFrames, writeRefusals, carried, WriteOutcome, wrote, writtenBy, written}
 use Rattle.mpeg.specs.HandOut.{source, handedLength, HandsOutPackets}
 use Rattle.mpeg.specs.Read.{Reading, readPacket, readFrom}
-use Rattle.mpeg.specs.Run.{Backlog, packetNext, afterNext, waitingIn, leftIn, askedFor, IsStep, CallsMakeRuns, JudgedByFrames, behindSent, SentMayGo, NullsBetween}
+use Rattle.mpeg.specs.Run.{Backlog, packetNext, afterNext, waitingIn, leftIn, askedFor, IsStep, CallsMakeRuns, JudgedByFrames}
+use Rattle.mpeg.specs.Run.{behindSent, SentMayGo, NullsBetween}
 use Rattle.mpeg.proofs.Backlogs.{rest-done, left-done}
 use Rattle.mpeg.proofs.PacketsRead.{read-null}
 use Rattle.mpeg.proofs.Packets.{from-queue, from-null}
@@ -33,7 +34,8 @@ frames-pass [] g = rw (lengthsOf-none, joined-none) refl
 frames-pass (f ∷ more) g =
     let all = f ++ joined more in
     let long : ltb (length all) (length f) ≡ false = le-ltb (length all) (length f) (omega (arith, length-append f (joined more))) in
-    rw (lengthsOf-cons f more, joined-cons f more, long, part-append f (joined more), rest-append f (joined more), g .0) (frames-pass more (g .1))
+    rw (lengthsOf-cons f more, joined-cons f more, long, part-append f (joined more), rest-append f (joined more), g .0)
+    (frames-pass more (g .1))
 
 pub passed-are-frames : (lengths bytes : List ℕ) → badFrames lengths bytes ≡ false →
     (lengthsOf (cutBy lengths bytes) ≡ lengths) × (joined (cutBy lengths bytes) ≡ bytes) × Each (λ f. good f ≡ true) (cutBy lengths bytes)
@@ -90,7 +92,9 @@ unfolding packetNext afterNext
 sent-may-go sent q =
     let waiting : waitingIn (behindSent sent q) ≡ waitingIn q = rest-done sent (q .frames) (q .place) in
     let left : leftIn (behindSent sent q) ≡ leftIn q = left-done sent (q .frames) (q .place) in
-    let farther : length (joined sent) + q .place + carried (leftIn q) (waitingIn q) ≡ length (joined sent) + (q .place + carried (leftIn q) (waitingIn q)) = omega arith in
+    let farther : length (joined sent) + q .place + carried (leftIn q) (waitingIn q)
+    ≡ length (joined sent) + (q .place + carried (leftIn q) (waitingIn q)) =
+    omega arith in
     (rw (left, waiting) refl, rw (left, waiting, farther) refl)
 
 -- A null packet more.

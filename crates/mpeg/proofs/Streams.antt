@@ -1,5 +1,5 @@
--- What one packet does to a reading, however it is read: the stretch that it adds to the bytes of all frames (`adds`), and what stays true of a reading as
--- long as it is sound (`Steady`).
+-- What one packet does to a reading, however it is read: the stretch that it adds to the bytes of all frames (`adds`), and what stays true
+-- of a reading as long as it is sound (`Steady`).
 use Prim.Native.Nat.{ℕ, _+_, _-_, _/_, _≤_}
 use mathlib.Core.Path.{_≡_, refl, sym, ap, _∙_}
 use mathlib.Core.Bool.{Bool, true, false, not, cond, _&&_, true≢false}
@@ -26,8 +26,8 @@ use Rattle.mpeg.specs.Read.{Reading, unsound, pointer, pointed, ended, f
 use Rattle.mpeg.specs.Inside.Stream.{stream, bytesAt}
 use Rattle.mpeg.proofs.Frames.{GoodFrame, may-begin-none}
 use Rattle.mpeg.proofs.Found.{Apart, found-apart, pieces, pieces-inside, pieces-part}
-use Rattle.mpeg.proofs.Ways.{longer, afterFinished, afterWentOn, afterStarted, stays-unsound, headed-second, null-second, Started, way}
-use Rattle.mpeg.proofs.Ways.{Way, was-refused, was-null, was-finished, went-on, was-started}
+use Rattle.mpeg.proofs.Ways.{longer, afterFinished, afterWentOn, afterStarted, stays-unsound, headed-second, null-second, Started}
+use Rattle.mpeg.proofs.Ways.{way, Way, was-refused, was-null, was-finished, went-on, was-started}
 
 -- A reading that is not sound is `unsound`, and nothing else is kept of it.
 pub refused-is : (s : Reading) (packet : List ℕ) → (readPacket s packet) .sound ≡ false → readPacket s packet ≡ unsound
@@ -101,7 +101,8 @@ module _ (s : Reading) (packet : List ℕ) (long : length packet ≡ mpegLength)
       sym (part-to-end packet headLength) ∙ ap (λ (n : ℕ). part packet headLength (n - headLength)) long
       ∙ ap (λ (n : ℕ). part packet n payloadLength) (sym (bytes-behind-header packet second))
 
-  longer-stream : byteAt packet 1 ≡ framesPid / 256 → joined (s .frames) ++ longer s packet ≡ stream s ++ part packet (bytesAt packet) payloadLength
+  longer-stream : byteAt packet 1 ≡ framesPid / 256 →
+      joined (s .frames) ++ longer s packet ≡ stream s ++ part packet (bytesAt packet) payloadLength
   unfolding stream
   longer-stream second =
       sym (append-assoc (joined (s .frames)) (s .begun) (rest packet headLength))
@@ -113,7 +114,9 @@ module _ (s : Reading) (packet : List ℕ) (long : length packet ≡ mpegLength)
       record {
         size = payloadLength;
         inside = omega (arith, bytes-behind-header packet second);
-        bytes-of = append-nil (joined (s .frames ++ (longer s packet ∷ []))) ∙ joined-one-more (s .frames) (longer s packet) ∙ longer-stream second;
+        bytes-of =
+            append-nil (joined (s .frames ++ (longer s packet ∷ []))) ∙ joined-one-more (s .frames) (longer s packet)
+            ∙ longer-stream second;
       }
 
   adds-more : byteAt packet 1 ≡ framesPid / 256 → Adds s (afterWentOn s packet) packet
@@ -150,7 +153,8 @@ module _ (s : Reading) (packet : List ℕ) (long : length packet ≡ mpegLength)
 
     started-bytes : part (pointed packet) 0 (pointer packet) ++ pieces behind ≡ part packet (bytesAt packet) (pointer packet + size)
     started-bytes =
-        ap (λ (l : List ℕ). part (pointed packet) 0 (pointer packet) ++ l) (pieces-part behind ∙ part-rest-front (pointed packet) (pointer packet) size)
+        ap (λ (l : List ℕ). part (pointed packet) 0 (pointer packet) ++ l)
+        (pieces-part behind ∙ part-rest-front (pointed packet) (pointer packet) size)
         ∙ part-part-front (pointed packet) (pointer packet) size
         ∙ part-rest-front packet (headLength + 1) (pointer packet + size)
         ∙ ap (λ (n : ℕ). part packet n (pointer packet + size)) (sym (bytes-behind-pointer packet second))
@@ -176,7 +180,8 @@ module _ (s : Reading) (packet : List ℕ) (long : length packet ≡ mpegLength)
                 started .near,
               );
           bytes-of =
-              ap (λ (l : List ℕ). l ++ O) (joined-append (s .frames ++ E) W ∙ ap (λ (l : List ℕ). l ++ joined W) (joined-append (s .frames) E))
+              ap (λ (l : List ℕ). l ++ O)
+              (joined-append (s .frames ++ E) W ∙ ap (λ (l : List ℕ). l ++ joined W) (joined-append (s .frames) E))
               ∙ append-assoc (J ++ joined E) (joined W) O
               ∙ ap (λ (l : List ℕ). J ++ l ++ (joined W ++ O)) (ended-joined (started .ends))
               ∙ ap (λ (l : List ℕ). l ++ (joined W ++ O)) (sym (append-assoc J (s .begun) P))
@@ -205,7 +210,14 @@ module _ (s : Reading) (packet : List ℕ) (long : length packet ≡ mpegLength)
           let a = adds (steady .still-sound) in
           let more : length (part packet (bytesAt packet) (a .size)) ≡ a .size =
           length-part packet (bytesAt packet) (a .size) (omega (arith, long, a .inside)) in
-          omega (arith, ap length (a .bytes-of), length-append (stream s) (part packet (bytesAt packet) (a .size)), more, a .inside, steady .short)
+          omega (
+            arith,
+            ap length (a .bytes-of),
+            length-append (stream s) (part packet (bytesAt packet) (a .size)),
+            more,
+            a .inside,
+            steady .short,
+          )
 
       count-by : Way s packet → (readPacket s packet) .expected ≤ counts
       count-by (was-refused e) = lost e
@@ -222,9 +234,16 @@ module _ (s : Reading) (packet : List ℕ) (long : length packet ≡ mpegLength)
       good-by (was-started h started e) =
           rw e
           (each-both GoodFrame (s .frames ++ endedFrames s packet) ((foundIn packet) .whole)
-          (each-both GoodFrame (s .frames) (endedFrames s packet) (steady .all-good) (ended-good (started .ends))) (behind (headed-second h) started .good-frames))
+          (each-both GoodFrame (s .frames) (endedFrames s packet) (steady .all-good) (ended-good (started .ends)))
+          (behind (headed-second h) started .good-frames))
 
       pub steady-turn : Steady (at + mpegLength) (readPacket s packet)
       steady-turn =
           let w = way s packet (steady .still-sound) in
-          record { still-sound = sound; count-known = count-by w; may-begin = begins-on s packet (steady .may-begin); all-good = good-by w; short = longer-by }
+          record {
+            still-sound = sound;
+            count-known = count-by w;
+            may-begin = begins-on s packet (steady .may-begin);
+            all-good = good-by w;
+            short = longer-by;
+          }

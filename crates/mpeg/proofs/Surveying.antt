@@ -1,5 +1,6 @@
--- What the survey of the frames finds, over plain variables: the first frame is sound or it is not (`bad_frame`), and `Surveying`, the invariant of
--- the loop that goes through all, with a begin, a turn and its ends. It speaks of the frames that are still to come: none before them was bad.
+-- What the survey of the frames finds, over plain variables: the first frame is sound or it is not (`bad_frame`), and `Surveying`, the
+-- invariant of the loop that goes through all, with a begin, a turn and its ends. It speaks of the frames that are still to come: none
+-- before them was bad.
 use Prim.Native.Nat.{ℕ, _+_, _-_, _≤_, _<_}
 use mathlib.Core.Path.{_≡_, refl, sym, ap, _∙_}
 use mathlib.Core.Bool.{Bool, true, false, not, _||_, _&&_, or-assoc, true≢false}
@@ -45,7 +46,8 @@ module _ (bytes : List ℕ) (start size : ℕ) (inside : start ≤ length bytes)
   long-here = length-rest bytes start
 
   pub unsized : ((ltb size besideField || ltb longest size) || ltb (length bytes) (start + size)) ≡ true → true ≡ badFirst from-here size
-  unsized h = ⊎-elim (λ t. sym t) (λ f. absurd (true≢false (sym h ∙ none (sized from-here size f)))) (true-or-false (badFirst from-here size))
+  unsized h =
+      ⊎-elim (λ t. sym t) (λ f. absurd (true≢false (sym h ∙ none (sized from-here size f)))) (true-or-false (badFirst from-here size))
     where
       none : Sized from-here size → ((ltb size besideField || ltb longest size) || ltb (length bytes) (start + size)) ≡ false
       none s =
@@ -54,10 +56,12 @@ module _ (bytes : List ℕ) (start size : ℕ) (inside : start ≤ length bytes)
 
   module _ (h : ((ltb size besideField || ltb longest size) || ltb (length bytes) (start + size)) ≡ false) where
     pub enough : besideField ≤ size
-    enough = ltb-false size besideField (or-false-left (ltb size besideField) _ (or-false-left (ltb size besideField || ltb longest size) _ h))
+    enough =
+        ltb-false size besideField (or-false-left (ltb size besideField) _ (or-false-left (ltb size besideField || ltb longest size) _ h))
 
     not-long : size ≤ longest
-    not-long = ltb-false longest size (or-false-right (ltb size besideField) _ (or-false-left (ltb size besideField || ltb longest size) _ h))
+    not-long =
+        ltb-false longest size (or-false-right (ltb size besideField) _ (or-false-left (ltb size besideField || ltb longest size) _ h))
 
     pub there : start + size ≤ length bytes
     there = ltb-false (length bytes) (start + size) (or-false-right (ltb size besideField || ltb longest size) _ h)
@@ -79,7 +83,8 @@ module _ (bytes : List ℕ) (start size : ℕ) (inside : start ≤ length bytes)
         let first : byteAt p 0 ≡ byteAt bytes start = byte 0 (omega (arith, enough)) ∙ ap (byteAt bytes) front in
         let high : byteAt p fieldAt ≡ byteAt bytes (start + fieldAt) = byte fieldAt (omega (arith, enough)) in
         let behind : start + (fieldAt + 1) ≡ start + fieldAt + 1 = omega arith in
-        let low : byteAt p (fieldAt + 1) ≡ byteAt bytes (start + fieldAt + 1) = byte (fieldAt + 1) (omega (arith, enough)) ∙ ap (byteAt bytes) behind in
+        let low : byteAt p (fieldAt + 1) ≡ byteAt bytes (start + fieldAt + 1) =
+        byte (fieldAt + 1) (omega (arith, enough)) ∙ ap (byteAt bytes) behind in
         let here : ltb (length from-here) size ≡ false = le-ltb (length from-here) size (omega (arith, long-here, there)) in
         rw (here, long, le-leb size longest not-long, high, low, first, e)
         (both (eqb (be16At bytes (start + fieldAt) + besideField) size) (eqb (byteAt bytes start) fillByte))
@@ -134,7 +139,8 @@ left-there (n ∷ more) bytes place h =
     let behind = left-there more (rest bytes n) (place - n) (or-false-right (badFirst bytes n) (badFrames more (rest bytes n)) here) in
     left-first n more bytes place there (omega (arith, behind, length-rest bytes n))
 
--- The loop that goes through all frames: k of them are sound and end at `start`, and the last of those that start before the place ends at `begun`.
+-- The loop that goes through all frames: k of them are sound and end at `start`, and the last of those that start before the place ends at
+-- `begun`.
 pub record Surveying (bytes lengths : List ℕ) (place begun start k : ℕ) : Type 0 where
   pub in-lengths : k ≤ length lengths
   pub in-bytes : start ≤ length bytes
@@ -194,7 +200,8 @@ module _ {bytes lengths : List ℕ} {place begun start k : ℕ} (s : Surveying b
                   ∙ ap (leftAt (rest lengths (k + 1))) (further h),
             );
             behind = λ h.
-                left-next (omega (arith, l)) ∙ left-inside n (rest lengths (k + 1)) (place - start) (omega (arith, l)) (omega (arith, l, h)) ∙ left-of;
+                left-next (omega (arith, l))
+                ∙ left-inside n (rest lengths (k + 1)) (place - start) (omega (arith, l)) (omega (arith, l, h)) ∙ left-of;
           }
         where
           further : start + n ≤ place → place - start - n ≡ place - (start + n)
@@ -224,9 +231,11 @@ module _ {bytes lengths : List ℕ} {place begun start k : ℕ} (s : Surveying b
   module _ (done : length lengths ≤ k) where
     left-over : not (eqb start (length bytes)) ≡ badFrames lengths bytes
     unfolding badFrames
-    left-over = sym (s .to-come ∙ rw (rest-past lengths k done, length-rest bytes start) (ap not (by (true-or-false (eqb start (length bytes))))))
+    left-over =
+        sym (s .to-come ∙ rw (rest-past lengths k done, length-rest bytes start) (ap not (by (true-or-false (eqb start (length bytes))))))
       where
-        by : (eqb start (length bytes) ≡ true) ⊎ (eqb start (length bytes) ≡ false) → eqb (length bytes - start) 0 ≡ eqb start (length bytes)
+        by : (eqb start (length bytes) ≡ true) ⊎ (eqb start (length bytes) ≡ false) →
+            eqb (length bytes - start) 0 ≡ eqb start (length bytes)
         by (inl e) = eq-eqb (length bytes - start) 0 (omega (arith, eqb-true start (length bytes) e)) ∙ sym e
         by (inr d) =
             let other = eqb-false start (length bytes) d in

@@ -1,5 +1,5 @@
--- Packets that no run of the writer gives, one for each thing that a reader might let pass, and beside some of them the nearest that a run does give.
--- Each is computed: they show what `reading` refuses, and of no other bytes.
+-- Packets that no run of the writer gives, one for each thing that a reader might let pass, and beside some of them the nearest that a run
+-- does give. Each is computed: they show what `reading` refuses, and of no other bytes.
 use Prim.Native.Nat.{ℕ}
 use mathlib.Core.Path.{_≡_, refl}
 use mathlib.Core.Bool.{Bool, true, false}
@@ -58,8 +58,8 @@ no-flag-refused : taken (header false framesPid 0 ++ replicate 184 0) ≡ false
 unfolding reading packetsIn readFrom readPacket upTo part rest same nullPacket none withoutFlag good mayBegin
 no-flag-refused = refl
 
--- A frame of 366 bytes has 183 of them in each of two packets. The pointer of the second is 183; with 184 or more, which point behind the packet, the same
--- bytes end the frame, but no writer writes them.
+-- A frame of 366 bytes has 183 of them in each of two packets. The pointer of the second is 183; with 184 or more, which point behind the
+-- packet, the same bytes end the frame, but no writer writes them.
 abbrev front : List ℕ
 front = starting (1 ∷ 0 ∷ 1 ∷ 104 ∷ replicate 179 0)
 
@@ -75,7 +75,8 @@ far-pointer-refused : taken (front ++ ending 255 (replicate 183 0)) ≡ false
 unfolding reading packetsIn readFrom readPacket upTo part rest same nullPacket none withFlag found allFill good mayBegin
 far-pointer-refused = refl
 
--- A frame of 180 bytes, and three bytes of the next. With 8 as its byte 2 that one has at least 2,054 bytes, which is too many; with 7 it may end.
+-- A frame of 180 bytes, and three bytes of the next. With 8 as its byte 2 that one has at least 2,054 bytes, which is too many; with 7 it
+-- may end.
 abbrev before : List ℕ
 before = 1 ∷ 0 ∷ 0 ∷ 174 ∷ replicate 176 0
 

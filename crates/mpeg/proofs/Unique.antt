@@ -1,6 +1,6 @@
--- Neither the writer nor the reader nor the hand-out leaves its outcome open: something is permitted, and any two permitted outcomes are the same, the slices
--- included. A slice that is handed out is the same when it points to the same place and has the same bytes; its third part, the name under which the
--- prover follows it, is nothing that a program has.
+-- Neither the writer nor the reader nor the hand-out leaves its outcome open: something is permitted, and any two permitted outcomes are
+-- the same, the slices included. A slice that is handed out is the same when it points to the same place and has the same bytes; its third
+-- part, the name under which the prover follows it, is nothing that a program has.
 use Prim.Native.Nat.{ℕ}
 use mathlib.Core.Path.{_≡_, refl, sym, _∙_}
 use mathlib.Core.List.{List}

@@ -1,5 +1,5 @@
--- How a packet is read: the steps of `readPacket`, `withoutFlag` and `withFlag`, one for each outcome of their tests, and the one case split over all of them,
--- `Way`. Whoever shows something of a packet that was read goes by it.
+-- How a packet is read: the steps of `readPacket`, `withoutFlag` and `withFlag`, one for each outcome of their tests, and the one case
+-- split over all of them, `Way`. Whoever shows something of a packet that was read goes by it.
 use Prim.Native.Nat.{ℕ, _/_, _≤_}
 use mathlib.Core.Path.{_≡_, refl, sym, ap, _∙_}
 use mathlib.Core.Bool.{Bool, true, false, cond, _&&_, _||_}
@@ -18,7 +18,8 @@ use Rattle.octets.proofs.Tests.{none-empty, same-equal}
 use Rattle.ts.specs.Packet.{headLength, flagged, countOf, nextCount, header, nullPacket}
 use Rattle.mpeg.specs.Packet.{pointedLength, framesPid}
 use Rattle.mpeg.specs.Frame.{good, mayBegin}
-use Rattle.mpeg.specs.Read.{Reading, unsound, anyCount, countFits, hasHeader, withoutFlag, pointer, foundIn, endsWell, endedFrames, withFlag, readPacket}
+use Rattle.mpeg.specs.Read.{Reading, unsound, anyCount, countFits, hasHeader, withoutFlag, pointer, foundIn, endsWell, endedFrames}
+use Rattle.mpeg.specs.Read.{withFlag, readPacket}
 
 -- The frame that a packet without the flag makes of the begun one, and the readings behind a packet with frames.
 abbrev pub longer : Reading → List ℕ → List ℕ
@@ -123,8 +124,10 @@ pub record Started (s : Reading) (packet : List ℕ) : Type 0 where
 pub data Way (s : Reading) (packet : List ℕ) : Type 0 where
   was-refused : readPacket s packet ≡ unsound → Way s packet
   was-null : packet ≡ nullPacket → s .begun ≡ [] → readPacket s packet ≡ s → Way s packet
-  was-finished : Headed false s packet → none (s .begun) ≡ false → good (longer s packet) ≡ true → readPacket s packet ≡ afterFinished s packet → Way s packet
-  went-on : Headed false s packet → none (s .begun) ≡ false → mayBegin (longer s packet) ≡ true → readPacket s packet ≡ afterWentOn s packet → Way s packet
+  was-finished : Headed false s packet → none (s .begun) ≡ false → good (longer s packet) ≡ true →
+      readPacket s packet ≡ afterFinished s packet → Way s packet
+  went-on : Headed false s packet → none (s .begun) ≡ false → mayBegin (longer s packet) ≡ true →
+      readPacket s packet ≡ afterWentOn s packet → Way s packet
   was-started : Headed true s packet → Started s packet → readPacket s packet ≡ afterStarted s packet → Way s packet
 
 fitting : (expected c : ℕ) → (eqb expected anyCount || eqb expected c) ≡ true → (expected ≡ anyCount) ⊎ (c ≡ expected)

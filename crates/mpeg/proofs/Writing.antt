@@ -30,13 +30,19 @@ carries-waiting r waiting h =
 
 module _ (a : Asked) where
   pub write-bad : true ≡ badFrames (a .lengths) (a .bytes) →
-      _≡_ {A = WriteOutcome} (record { answer = record { code = 52; place = a .place; count = a .count; null = false }; output = a .output }) (written a)
+      _≡_ {A = WriteOutcome} (record {
+        answer = record { code = 52; place = a .place; count = a .count; null = false };
+        output = a .output;
+      }) (written a)
   unfolding written writtenBy refused
   write-bad h = rw (sym h) refl
 
   module _ (sound : false ≡ badFrames (a .lengths) (a .bytes)) where
     pub write-small : length (a .output) < mpegLength →
-        _≡_ {A = WriteOutcome} (record { answer = record { code = 51; place = a .place; count = a .count; null = false }; output = a .output }) (written a)
+        _≡_ {A = WriteOutcome} (record {
+          answer = record { code = 51; place = a .place; count = a .count; null = false };
+          output = a .output;
+        }) (written a)
     unfolding written writtenBy refused
     write-small h = rw (sym sound, lt-ltb (length (a .output)) mpegLength h) refl
 
@@ -48,7 +54,10 @@ module _ (a : Asked) where
       -- nothing waits. `null` is what the code made, and `output` what it left
       pub write-null : (null output : List ℕ) → length (a .bytes) ≤ a .place → null ≡ nullPacket →
           output ≡ put (a .output) 0 (part null 0 mpegLength) →
-          _≡_ {A = WriteOutcome} (record { answer = record { code = 0; place = a .place; count = a .count; null = true }; output = output }) (written a)
+          _≡_ {A = WriteOutcome} (record {
+            answer = record { code = 0; place = a .place; count = a .count; null = true };
+            output = output;
+          }) (written a)
       unfolding wrote packetOf carried countAfter none nullPacket
       write-null null output h e f =
           let none = rest-past (a .bytes) (a .place) h in
@@ -61,7 +70,12 @@ module _ (a : Asked) where
       -- bytes wait
       module _ (some : a .place < length (a .bytes)) (left : ℕ) (found : left ≡ leftFor a) where
         pub waits : Waiting (a .bytes) (a .place) left (a .output)
-        waits = record { something = some; all-there = omega (arith, found, left-there (a .lengths) (a .bytes) (a .place) (sym sound)); room = room }
+        waits =
+            record {
+              something = some;
+              all-there = omega (arith, found, left-there (a .lengths) (a .bytes) (a .place) (sym sound));
+              room = room;
+            }
 
         waiting-some : 0 < length (waitingFor a)
         waiting-some = omega (arith, some, length-rest (a .bytes) (a .place))
@@ -73,7 +87,10 @@ module _ (a : Asked) where
 
         pub write-frames : (n count : ℕ) (output : List ℕ) → n ≡ carries left (waitingFor a) → count ≡ nextCount (a .count) →
             output ≡ put (a .output) 0 (dataPacket (a .count) left (waitingFor a)) →
-            _≡_ {A = WriteOutcome} (record { answer = record { code = 0; place = a .place + n; count = count; null = false }; output = output }) (written a)
+            _≡_ {A = WriteOutcome} (record {
+              answer = record { code = 0; place = a .place + n; count = count; null = false };
+              output = output;
+            }) (written a)
         unfolding wrote
         write-frames n count output e f g =
             let r = leftFor a in
@@ -83,6 +100,9 @@ module _ (a : Asked) where
             let packet : output ≡ put (a .output) 0 (packetOf (a .count) r w) =
             g ∙ ap (λ (k : ℕ). put (a .output) 0 (dataPacket (a .count) k w)) found
             ∙ ap (put (a .output) 0) (sym (packet-some (a .count) r w waiting-some)) in
-            let this : wrote a ≡ record { answer = record { code = 0; place = a .place + n; count = count; null = false }; output = output } =
+            let this : wrote a ≡ record {
+              answer = record { code = 0; place = a .place + n; count = count; null = false };
+              output = output;
+            } =
             rw (carrying, counting, packet, none-some w waiting-some) refl in
             sym this ∙ passed

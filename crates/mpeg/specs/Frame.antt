@@ -1,5 +1,5 @@
--- A DOCSIS frame as W3 lets it travel: it says its own length, so that a reader finds its end, and its first byte is not 0xFF, so that a reader
--- tells it from what a packet is filled up with.
+-- A DOCSIS frame as W3 lets it travel: it says its own length, so that a reader finds its end, and its first byte is not 0xFF, so that a
+-- reader tells it from what a packet is filled up with.
 use Prim.Native.Nat.{ℕ, _+_}
 use mathlib.Core.Path.{_≡_}
 use mathlib.Core.Bool.{Bool, true, not, _&&_}
@@ -17,8 +17,8 @@ fieldAt = 2
 abbrev pub besideField : ℕ
 besideField = 6
 
--- The length that a frame says. Where only its front is there, bytes that are missing read as 0: then it is the least length that a frame can have
--- that begins with these bytes.
+-- The length that a frame says. Where only its front is there, bytes that are missing read as 0: then it is the least length that a frame
+-- can have that begins with these bytes.
 abbrev pub saidLength : List ℕ → ℕ
 saidLength bytes = be16At bytes fieldAt + besideField
 

@@ -1,6 +1,6 @@
--- The reader (W3): it gets the frames back from packets that a writer wrote from a frame's start on. It skips null packets and does not hand out an
--- unfinished last frame. Bytes that no run of the writer gives it refuses; what a run is stands in specs/Run.antt, and that the packets which this
--- reader takes are those of the runs and no others is `runs-are-read` and `read-is-run`.
+-- The reader (W3): it gets the frames back from packets that a writer wrote from a frame's start on. It skips null packets and does not
+-- hand out an unfinished last frame. Bytes that no run of the writer gives it refuses; what a run is stands in specs/Run.antt, and that the
+-- packets which this reader takes are those of the runs and no others is `runs-are-read` and `read-is-run`.
 --
 -- It goes from packet to packet, and between two packets it has the frames found so far and the bytes so far of one that is not finished.
 use Prim.Native.Nat.{ℕ, zero, suc, _+_, _*_, _/_, _%_}
@@ -19,8 +19,9 @@ use Rattle.mpeg.specs.declared.reader.ReadBack.{ReadBack}
 use Rattle.mpeg.specs.Packet.{pointedLength, framesPid}
 use Rattle.mpeg.specs.Frame.{saidLength, good, mayBegin}
 
--- Between two packets: `expected` is the count that the next packet with frames has, or `anyCount` before the first of them; `begun` is what has come
--- of a frame that is not finished, and empty where there is none. `sound` is false once bytes have come that no run of the writer gives.
+-- Between two packets: `expected` is the count that the next packet with frames has, or `anyCount` before the first of them; `begun` is
+-- what has come of a frame that is not finished, and empty where there is none. `sound` is false once bytes have come that no run of the
+-- writer gives.
 pub record Reading : Type 0 where
   pub sound : Bool
   pub expected : ℕ
@@ -36,8 +37,8 @@ atStart = record { sound = true; expected = anyCount; begun = []; frames = [] }
 abbrev pub unsound : Reading
 unsound = record { sound = false; expected = anyCount; begun = []; frames = [] }
 
--- What a packet has from a frame's start on: whole frames, and then a begun one, or 0xFF to the end, or nothing. It is found in steps, a frame in each, and as many
--- steps as there are bytes are enough, since no frame has fewer than 6.
+-- What a packet has from a frame's start on: whole frames, and then a begun one, or 0xFF to the end, or nothing. It is found in steps, a
+-- frame in each, and as many steps as there are bytes are enough, since no frame has fewer than 6.
 pub record Found : Type 0 where
   pub well : Bool
   pub whole : List (List ℕ)
@@ -72,8 +73,8 @@ wentOn s packet frame =
 unfoldable pub withoutFlag : Reading → List ℕ → Reading
 withoutFlag s packet = wentOn s packet (s .begun ++ rest packet headLength)
 
--- With the flag: so many bytes as the pointer says end the frame that has begun, and behind them come frames, or 0xFF to the end, or nothing. Where none has begun the
--- pointer is 0, and a frame does start: a packet of 0xFF alone the writer does not write.
+-- With the flag: so many bytes as the pointer says end the frame that has begun, and behind them come frames, or 0xFF to the end, or
+-- nothing. Where none has begun the pointer is 0, and a frame does start: a packet of 0xFF alone the writer does not write.
 abbrev pub pointer : List ℕ → ℕ
 pointer packet = byteAt packet headLength
 

@@ -1,5 +1,5 @@
--- Runs of the writer (W3). Before each packet whole frames may be added to what waits, and then one packet is written; a run may stop after any
--- packet, or before the first, and its first count is any. It begins with nothing waiting, and so at a frame's start.
+-- Runs of the writer (W3). Before each packet whole frames may be added to what waits, and then one packet is written; a run may stop after
+-- any packet, or before the first, and its first count is any. It begins with nothing waiting, and so at a frame's start.
 use Prim.Native.Nat.{ℕ, _+_, _-_, _≤_}
 use mathlib.Core.Path.{_≡_}
 use mathlib.Core.Bool.{true, false, cond}
@@ -30,8 +30,8 @@ Burst = List (List ℕ)
 abbrev pub added : Backlog → Burst → Backlog
 added q burst = record { frames = q .frames ++ burst; place = q .place; count = q .count }
 
--- what waits, and how much of it belongs to a frame that has begun; the packet that is written next, and how things stand behind it. A call of the writer
--- gives just that: `calls-make-runs`.
+-- what waits, and how much of it belongs to a frame that has begun; the packet that is written next, and how things stand behind it. A call
+-- of the writer gives just that: `calls-make-runs`.
 abbrev pub waitingIn : Backlog → List ℕ
 waitingIn q = rest (joined (q .frames)) (q .place)
 
@@ -90,8 +90,8 @@ pub record IsRun (bytes : List ℕ) : Type 0 where
 abbrev pub ReadIsRun : Type 0
 ReadIsRun = (bytes : List ℕ) → AllBytes bytes → (reading bytes) .sound ≡ true → IsRun bytes
 
--- `all-come-back`: any frames, added in any bursts; and then at least as many calls more as the frames have bytes, each of which sends at least one byte as long as
--- any wait. All frames come back, in order.
+-- `all-come-back`: any frames, added in any bursts; and then at least as many calls more as the frames have bytes, each of which sends at
+-- least one byte as long as any wait. All frames come back, in order.
 abbrev pub drained : List Burst → ℕ → List Burst
 drained bursts n = bursts ++ replicate n []
 
@@ -120,8 +120,8 @@ pub record JudgedByFrames : Type 0 where
   pub passed-are-frames : (lengths bytes : List ℕ) → badFrames lengths bytes ≡ false →
       (lengthsOf (cutBy lengths bytes) ≡ lengths) × (joined (cutBy lengths bytes) ≡ bytes) × Each (λ f. good f ≡ true) (cutBy lengths bytes)
 
--- `sent-may-go`: frames that have been sent whole may be taken away from the front, with their bytes taken off the place: the same packet comes next, and behind
--- it things stand as before.
+-- `sent-may-go`: frames that have been sent whole may be taken away from the front, with their bytes taken off the place: the same packet
+-- comes next, and behind it things stand as before.
 abbrev pub behindSent : List (List ℕ) → Backlog → Backlog
 behindSent sent q = record { frames = sent ++ q .frames; place = length (joined sent) + q .place; count = q .count }
 

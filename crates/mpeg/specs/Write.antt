@@ -1,6 +1,6 @@
--- The writer (W3): one call, one packet. It is given frames, back to back with their lengths, how many of their bytes have been sent, and the
--- count; and writes the next packet at the front of the output, or refuses. It answers how many bytes have been sent now, the next count,
--- and whether it was a null packet. A refusal and a null packet give back the place and the count as they were given.
+-- The writer (W3): one call, one packet. It is given frames, back to back with their lengths, how many of their bytes have been sent, and
+-- the count; and writes the next packet at the front of the output, or refuses. It answers how many bytes have been sent now, the next
+-- count, and whether it was a null packet. A refusal and a null packet give back the place and the count as they were given.
 use Prim.Native.Nat.{ℕ, zero, suc, _+_, _-_, min}
 use mathlib.Core.Path.{_≡_}
 use mathlib.Core.Bool.{Bool, true, false, not, cond, _||_}
@@ -35,14 +35,15 @@ writeRefusals a =
     ∷ 51 when ltb (length (a .output)) mpegLength
     ∷ []
 
--- r: how many bytes are left of the frame that has begun; 0 where the next byte is a frame's first, however long that frame is, or there is none
+-- r: how many bytes are left of the frame that has begun; 0 where the next byte is a frame's first, however long that frame is, or there is
+-- none
 unfoldable pub leftAt : List ℕ → ℕ → ℕ
 leftAt [] place = 0
 leftAt (n ∷ more) place = cond (leb n place) (leftAt more (place - n)) (cond (eqb place 0) 0 (n - place))
 
--- The packet of the bytes that wait, r of which belong to a frame that has begun. With r of 184 or more: no pointer, and 184 bytes of that frame.
--- Else the flag, the pointer, which is r, and as many bytes as wait and fit: the rest of that frame and then whole or begun frames; and then 0xFF to the
--- end.
+-- The packet of the bytes that wait, r of which belong to a frame that has begun. With r of 184 or more: no pointer, and 184 bytes of that
+-- frame. Else the flag, the pointer, which is r, and as many bytes as wait and fit: the rest of that frame and then whole or begun frames;
+-- and then 0xFF to the end.
 abbrev pub dataPacket : ℕ → ℕ → List ℕ → List ℕ
 dataPacket count r waiting =
     cond (leb payloadLength r)

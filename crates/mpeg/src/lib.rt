@@ -1,5 +1,5 @@
-// MPEG packets for the modulator (W3; DRFI, section 7). Frames leave the card in packets of 188 bytes: `writer` makes them, one at a time, and
-// `reader` gets the frames back, as a modem does. Here is what both know of a packet with frames, and the hand-out.
+// MPEG packets for the modulator (W3; DRFI, section 7). Frames leave the card in packets of 188 bytes: `writer` makes them, one at a time,
+// and `reader` gets the frames back, as a modem does. Here is what both know of a packet with frames, and the hand-out.
 pub mod reader;
 pub mod writer;
 
@@ -24,8 +24,8 @@ const BESIDE_FIELD: usize = 6;
 // The longest frame.
 const LONGEST: usize = Flow::LONGEST as usize;
 
-// The packet that the channel sends next: the first of its queue, or the null packet where the queue has none. It is a stretch of the slice that it
-// came from; an empty one where not even the null packet is whole.
+// The packet that the channel sends next: the first of its queue, or the null packet where the queue has none. It is a stretch of the slice
+// that it came from; an empty one where not even the null packet is whole.
 pub fn hand_out<'a>(queue: &'a [u8], null: &'a [u8]) -> &'a [u8]
     ensures { λ r. ⌜ PermitsHandOut (queue .entry) (null .entry) r ⌝ }
 {

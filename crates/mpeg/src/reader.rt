@@ -1,5 +1,5 @@
-// The reader: packets that a writer wrote from a frame's start on, and the frames back from them. It goes through all packets once to see whether
-// some run of the writer gives them and how much comes out, and only then writes: a refusal changes nothing.
+// The reader: packets that a writer wrote from a frame's start on, and the frames back from them. It goes through all packets once to see
+// whether some run of the writer gives them and how much comes out, and only then writes: a refusal changes nothing.
 ghost use mathlib.Core.Path.{_≡_};
 ghost use Prim.Native.Nat.{_+_, _-_, _*_, _<_, _≤_, min};
 ghost use mathlib.Core.List.{[]};
@@ -18,7 +18,8 @@ use crate::FRAMES_PID_LOW;
 use crate::LONGEST;
 use crate::POINTED_LENGTH;
 
-// What a call answers: 0 or the refusal's number, how many frames came back, and how many bytes they have together. Refused: no frame and no byte.
+// What a call answers: 0 or the refusal's number, how many frames came back, and how many bytes they have together. Refused: no frame and
+// no byte.
 #[repr(C)] // it crosses to the host program as it is
 pub struct ReadBack {
     pub code: u32,
@@ -33,8 +34,8 @@ struct Front {
     low: u8,
 }
 
-// Where the reader stands between two packets: whether all was sound, the count that it expects, or COUNTS before the first, the front of a frame that is not
-// finished, and the frames found with their bytes.
+// Where the reader stands between two packets: whether all was sound, the count that it expects, or COUNTS before the first, the front of a
+// frame that is not finished, and the frames found with their bytes.
 struct Standing {
     sound: bool,
     expected: u8,
@@ -43,8 +44,8 @@ struct Standing {
     bytes: usize,
 }
 
-// The frames back from the packets: their bytes, back to back, at the front of the output, and their lengths at the front of the other slice; or refuses, and
-// then nothing has changed.
+// The frames back from the packets: their bytes, back to back, at the front of the output, and their lengths at the front of the other
+// slice; or refuses, and then nothing has changed.
 pub fn read(packets: &[u8], output: &mut [u8], lengths: &mut [u16]) -> ReadBack
     ensures { λ r. ⌜ PermitsRead
         (record {
@@ -100,8 +101,8 @@ fn unsound() -> Standing
     }
 }
 
-// Byte `place` of a frame of which `size` bytes have come before, `known` being that byte where it was among them: else one of the n bytes from `from` on,
-// or 0.
+// Byte `place` of a frame of which `size` bytes have come before, `known` being that byte where it was among them: else one of the n bytes
+// from `from` on, or 0.
 fn byte_of(packets: &[u8], from: usize, n: usize, size: usize, place: usize, known: u8) -> u8
     requires { ⌜ (from + n ≤ length (now packets)) × (size ≤ from) ⌝ }
     ensures { λ r. ⌜ ByteOf (part (now (packets .entry)) from n) size place known r ⌝ }
@@ -195,7 +196,8 @@ fn without_flag(packets: &[u8], at: usize, standing: Standing) -> Standing
 // Frames from a frame's start to the end of the packet.
 fn frames_from(packets: &[u8], start: usize, end: usize, standing: Standing) -> Standing
     requires { ⌜ Starts (now packets) start end standing ⌝ }
-    ensures { λ r. ⌜ r ≡ standingWith (standing .expected) (standing .frames) (standing .bytes) (foundBetween (now (packets .entry)) start end) ⌝ }
+    ensures { λ r. ⌜ r ≡ standingWith (standing .expected) (standing .frames) (standing .bytes)
+        (foundBetween (now (packets .entry)) start end) ⌝ }
 {
     let mut frames = standing.frames;
     let mut bytes = standing.bytes;
@@ -346,7 +348,8 @@ fn bytes_at(packets: &[u8], at: usize) -> usize
     }
 }
 
-// Writes the bytes that a packet adds to those of all frames: `before` had come before it and `behind` with it. Of all, the first `total` are written.
+// Writes the bytes that a packet adds to those of all frames: `before` had come before it and `behind` with it. Of all, the first `total`
+// are written.
 fn write_bytes(
     packets: &[u8],
     at: usize,
@@ -357,7 +360,8 @@ fn write_bytes(
 )
     requires { ⌜ Writable (now packets) (part (now packets) at mpegLength) (now output) at before behind total ⌝ }
     ensures { λ _. ⌜ now (output .exit) ≡ put (now (output .entry)) before
-        (part (part (now (packets .entry)) at mpegLength) (bytesAt (part (now (packets .entry)) at mpegLength)) (min behind total - before)) ⌝ }
+        (part (part (now (packets .entry)) at mpegLength) (bytesAt (part (now (packets .entry)) at mpegLength))
+        (min behind total - before)) ⌝ }
 {
     let end = if total < behind { total } else { behind };
     if before < end {

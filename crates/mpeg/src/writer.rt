@@ -1,5 +1,5 @@
-// The writer: one call, one packet. It is given frames, back to back with their lengths, how many of their bytes have been sent, and the count, and
-// answers where the next call goes on.
+// The writer: one call, one packet. It is given frames, back to back with their lengths, how many of their bytes have been sent, and the
+// count, and answers where the next call goes on.
 ghost use mathlib.Core.Path.{_≡_};
 ghost use Prim.Native.Nat.{_+_, _-_, _<_, _≤_, min};
 ghost use mathlib.Core.Bool.{false};
@@ -15,8 +15,8 @@ use crate::FRAMES_PID;
 use crate::LONGEST;
 use crate::POINTED_LENGTH;
 
-// What a call answers: 0 or the refusal's number, how many bytes have been sent now, the next count, and whether the packet is a null packet.
-// Refused: the place and the count that were given.
+// What a call answers: 0 or the refusal's number, how many bytes have been sent now, the next count, and whether the packet is a null
+// packet. Refused: the place and the count that were given.
 #[repr(C)] // it crosses to the host program as it is
 pub struct Written {
     pub code: u32,
@@ -31,8 +31,8 @@ struct Surveyed {
     left: usize,
 }
 
-// How far the survey came: the frames that it passed, where the last of them ends, and where the last of those ends that start before the place; the place
-// itself where none does.
+// How far the survey came: the frames that it passed, where the last of them ends, and where the last of those ends that start before the
+// place; the place itself where none does.
 struct Passed {
     frames: usize,
     end: usize,
@@ -51,11 +51,13 @@ fn bad_frame(frames: &[u8], start: usize, size: usize) -> bool
     (said != size) | (frames[start] == ts::FILL_BYTE)
 }
 
-// Goes through the frames up to one that may not be written. It says how far it came, and not whether that is the end: so nothing is at hand in the loop
-// but what it counts, and a turn is short.
+// Goes through the frames up to one that may not be written. It says how far it came, and not whether that is the end: so nothing is at
+// hand in the loop but what it counts, and a turn is short.
 fn pass(frames: &[u8], lengths: &[u16], place: usize) -> Passed
-    ensures { λ r. ⌜ notAll (r .frames) (r .end) (now (lengths .entry)) (now (frames .entry)) ≡ badFrames (now (lengths .entry)) (now (frames .entry)) ⌝ }
-    ensures { λ r. ⌜ (badFrames (now (lengths .entry)) (now (frames .entry)) ≡ false → r .begun - place ≡ leftAt (now (lengths .entry)) place) ⌝ }
+    ensures { λ r. ⌜ notAll (r .frames) (r .end) (now (lengths .entry)) (now (frames .entry))
+        ≡ badFrames (now (lengths .entry)) (now (frames .entry)) ⌝ }
+    ensures { λ r. ⌜ (badFrames (now (lengths .entry)) (now (frames .entry)) ≡ false →
+        r .begun - place ≡ leftAt (now (lengths .entry)) place) ⌝ }
 {
     let mut begun: usize = place;
     let mut start: usize = 0;
@@ -110,7 +112,8 @@ fn fill(output: &mut [u8], at: usize)
     }
 }
 
-// What is copied first, in two blocks. The compiler moves a block of a size that it knows without a call, as long as it has at most 128 bytes.
+// What is copied first, in two blocks. The compiler moves a block of a size that it knows without a call, as long as it has at most 128
+// bytes.
 const BLOCK: usize = 64;
 
 // Copies as `octets::copy` does, 128 bytes or more.

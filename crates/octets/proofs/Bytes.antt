@@ -1,4 +1,5 @@
--- What a place has in lists that were laid one behind the other, and that lists of bytes stay lists of bytes where they are laid together or cut.
+-- What a place has in lists that were laid one behind the other, and that lists of bytes stay lists of bytes where they are laid together
+-- or cut.
 use Prim.Native.Nat.{ℕ, zero, suc, _+_, _≤_, _<_}
 use mathlib.Core.Path.{_≡_, refl}
 use mathlib.Core.Bool.{true, false}

@@ -661,7 +661,8 @@ part-four l at m h =
     ∙ ap (λ (s : List ℕ). byteAt l (at + 2) ∷ s) (part-byte l (at + 3) (at + 4) (1 + m) m (omega arith) refl (omega arith))))
 
 -- Stretches of stretches, stretches that reach past the end, and stretches of one length: what the writer and the reader of packets go by.
--- A stretch from the front is as long as was asked for, or as the list; and one that is asked to be longer than that is what is there of it.
+-- A stretch from the front is as long as was asked for, or as the list; and one that is asked to be longer than that is what is there of
+-- it.
 pub length-part-min : (l : List ℕ) (n : ℕ) → length (part l 0 n) ≡ min n (length l)
 unfolding part
 length-part-min l n = length-take n l
@@ -712,8 +713,8 @@ part-of-part l at n from m in-l in-part =
 pub length-joined-one-more : (a : List (List ℕ)) (s : List ℕ) → length (joined (a ++ (s ∷ []))) ≡ length (joined a) + length s
 length-joined-one-more a s = ap length (joined-one-more a s) ∙ length-append (joined a) s
 
--- Stretches of n elements each, one after the other: laid back to back they are the front of the list, and a list that was laid together from such
--- stretches gives them back.
+-- Stretches of n elements each, one after the other: laid back to back they are the front of the list, and a list that was laid together
+-- from such stretches gives them back.
 abbrev piece : List ℕ → ℕ → ℕ → List ℕ
 piece l n k = part l (n * k) n
 
@@ -740,11 +741,13 @@ pieces-joined n (s ∷ a) (long, same) =
     ∙ part-append-behind s (joined a) (n * k) n in
     up-to-front (piece all n) (length a)
     ∙ ap (λ (x : List ℕ). x ∷ upTo (λ k. piece all n (suc k)) (length a)) first
-    ∙ ap (λ (l : List (List ℕ)). s ∷ l) (up-to-agree (λ k. piece all n (suc k)) (piece (joined a) n) (length a) further ∙ pieces-joined n a same)
+    ∙ ap (λ (l : List (List ℕ)). s ∷ l)
+    (up-to-agree (λ k. piece all n (suc k)) (piece (joined a) n) (length a) further ∙ pieces-joined n a same)
 
--- Of a list that grows the first `total` elements are put: those of x stand at the front of d, in e, and with the next ones, of y behind x, those of both do,
--- in f. What is copied is a stretch of another list, no longer than is asked for.
-module _ (d e f x l : List ℕ) (b size total : ℕ) (stood : e ≡ put d 0 (part x 0 total)) (room : total ≤ length d) (inside : b + size ≤ length l)
+-- Of a list that grows the first `total` elements are put: those of x stand at the front of d, in e, and with the next ones, of y behind x,
+-- those of both do, in f. What is copied is a stretch of another list, no longer than is asked for.
+module _ (d e f x l : List ℕ) (b size total : ℕ) (stood : e ≡ put d 0 (part x 0 total)) (room : total ≤ length d)
+    (inside : b + size ≤ length l)
     (next : f ≡ put e (length x) (part l b (min (length x + size) total - length x))) where
   abbrev y : List ℕ
   y = part l b size
@@ -776,7 +779,8 @@ module _ (d e f x l : List ℕ) (b size total : ℕ) (stood : e ≡ put d 0 (par
       let h = leb-true (length x) total t in
       ⊎-elim
       (λ (u : leb (length x + size) total ≡ true).
-      put-some h size (min-eq-left (leb-true (length x + size) total u)) (sym (part-past y (total - length x) (omega (arith, leb-true (length x + size) total u, y-long)))))
+      put-some h size (min-eq-left (leb-true (length x + size) total u))
+      (sym (part-past y (total - length x) (omega (arith, leb-true (length x + size) total u, y-long)))))
       (λ (u : leb (length x + size) total ≡ false).
       let few : total ≤ length x + size = omega (arith, leb-false (length x + size) total u) in
       let split : min (length x + size) total ≡ length x + (total - length x) = omega (arith, min-eq-right few) in

@@ -88,8 +88,8 @@ fn copy_block(target: &mut [u8], at: usize, source: &[u8], from: usize, size: us
     copy_bytes(target, at, &block, 0, size);
 }
 
-// Copies `count` bytes of `source`, from place `from` on, into `target` at place `at`: as one block where they fit in one. Where they do not,
-// the first go in short blocks, so that no call stands in the loop.
+// Copies `count` bytes of `source`, from place `from` on, into `target` at place `at`: as one block where they fit in one. Where they do
+// not, the first go in short blocks, so that no call stands in the loop.
 pub fn copy(target: &mut [u8], at: usize, source: &[u8], from: usize, count: usize)
     requires { ⌜ (at + count ≤ length (now target)) × (from + count ≤ length (now source)) ⌝ }
     ensures { λ _. ⌜ now (target .exit) ≡ put (now (target .entry)) at (part (now (source .entry)) from count) ⌝ }

@@ -12,7 +12,8 @@ use Rattle.packet.specs.Segments.{entryWidth, lengthAt, bodyAt, segmentA
 use Rattle.packet.specs.declared.Extent.{Extent}
 use Rattle.packet.specs.Check.{segmentCause, extentBy, segmentExtent, segmentGiven}
 use Rattle.packet.proofs.Entries.{entry-within}
-use Rattle.packet.proofs.Passing.{EarlyPassed, PspPassed, entries-inside, body-inside, body-some, check-passed, cause-passed, sub-length}
+use Rattle.packet.proofs.Passing.{EarlyPassed, PspPassed, entries-inside, body-inside, body-some, check-passed, cause-passed}
+use Rattle.packet.proofs.Passing.{sub-length}
 
 abbrev nothing : Extent
 nothing = record { start = 0; size = 0 }

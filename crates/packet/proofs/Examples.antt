@@ -10,7 +10,7 @@ use Rattle.octets.specs.Count.{any, sumTo, upTo}
 use Rattle.flow.specs.Flow.{topFlow, flows}
 use Rattle.ts.specs.Packet.{pid, nullPid}
 use Rattle.packet.specs.declared.Extent.{Extent}
-use Rattle.packet.specs.Header.{Packet, packetBy, overIp, overUdp, udpLead, longestPacket, ip, udp, udpFront, inUdp, sub, sessionId}
+use Rattle.packet.specs.Header.{packetBy, overIp, overUdp, udpLead, longestPacket, ip, udp, udpFront, inUdp, sub, sessionId}
 use Rattle.packet.specs.Header.{sSet, flowId, segmentCount, number}
 use Rattle.packet.specs.Header.{idLength, headerLength, shortestPacket}
 use Rattle.packet.specs.Segments.{entryWidth, lengthIn, segments, segmentAt, bodyAt}
@@ -19,7 +19,9 @@ use Rattle.packet.specs.Dmpt.{mpegAt, mpegs}
 use Rattle.packet.specs.Check.{checkRefusals, check, causeRefusals, segmentCause, segmentExtent, segmentGiven}
 
 abbrev pub A : List ℕ
-A = 0x00 ∷ 0x00 ∷ 0x01 ∷ 0x01 ∷ 0x41 ∷ 0x02 ∷ 0xFF ∷ 0xFF ∷ 0xC0 ∷ 0x06 ∷ 0x80 ∷ 0x02 ∷ 0x11 ∷ 0x12 ∷ 0x13 ∷ 0x14 ∷ 0x15 ∷ 0x16 ∷ 0x21 ∷ 0x22 ∷ []
+A =
+    0x00 ∷ 0x00 ∷ 0x01 ∷ 0x01 ∷ 0x41 ∷ 0x02 ∷ 0xFF ∷ 0xFF ∷ 0xC0 ∷ 0x06 ∷ 0x80 ∷ 0x02 ∷ 0x11 ∷ 0x12 ∷ 0x13 ∷ 0x14 ∷ 0x15 ∷ 0x16
+    ∷ 0x21 ∷ 0x22 ∷ []
 
 abbrev pub B : List ℕ
 B = 0x00 ∷ 0x00 ∷ 0x01 ∷ 0x01 ∷ 0x41 ∷ 0x01 ∷ 0x00 ∷ 0x00 ∷ 0x40 ∷ 0x07 ∷ 0x23 ∷ 0x24 ∷ 0x25 ∷ 0x26 ∷ 0x27 ∷ 0x28 ∷ 0x29 ∷ []
@@ -122,7 +124,8 @@ d-bodies = (refl, refl, refl)
 d-judged : (checkIp 2 D ≡ 0) × (checkIp 2 (set D 4 0x40) ≡ 0) × (checkIp 2 (set D 4 0x48) ≡ 0) × (checkIp 2 (set D 5 0) ≡ 0)
     × (checkIp 2 (take 7 D) ≡ 2) × (checkIp 2 (set (set D 2 0) 3 0) ≡ 4) × (checkIp 2 (set D 4 0x80) ≡ 6) × (checkIp 2 (set D 4 0x10) ≡ 6)
     × (checkIp 2 (set D 4 0x01) ≡ 7) × (checkIp 2 (set D 4 0x4F) ≡ 7) × (checkIp 2 (take 8 D) ≡ 9) × (checkIp 2 (take 383 D) ≡ 10)
-    × (checkIp 2 (D ++ (0x47 ∷ [])) ≡ 10) × (checkIp 2 (set D 196 0x46) ≡ 11) × (checkIp 2 (set D 8 0x46) ≡ 11) × (checkIp 2 (take 196 D) ≡ 0)
+    × (checkIp 2 (D ++ (0x47 ∷ [])) ≡ 10) × (checkIp 2 (set D 196 0x46) ≡ 11) × (checkIp 2 (set D 8 0x46) ≡ 11)
+    × (checkIp 2 (take 196 D) ≡ 0)
 unfolding check checkRefusals rest any sumTo mpegAt part
 d-judged = (refl, refl, refl, refl, refl, refl, refl, refl, refl, refl, refl, refl, refl, refl, refl, refl)
 
@@ -136,7 +139,8 @@ flow-0 : checkIp 1 (set A 4 0x40) ≡ 0
 unfolding check checkRefusals rest wanted bodyAt any sumTo
 flow-0 = refl
 
--- Orders that nothing above tells apart: 3 before 4, 4 before 6; for D-MPT 6 before 7, 7 before 9, 10 for less than one MPEG packet, 10 before 11
+-- Orders that nothing above tells apart: 3 before 4, 4 before 6; for D-MPT 6 before 7, 7 before 9, 10 for less than one MPEG packet, 10
+-- before 11
 orders : (checkIp 1 (set (set (A ++ replicate 4081 0) 2 0) 3 0) ≡ 3) × (checkIp 1 (set (set (set A 2 0) 3 0) 4 0xC1) ≡ 4)
     × (checkIp 2 (set D 4 0x81) ≡ 6) × (checkIp 2 (set (take 8 D) 4 0x01) ≡ 7) × (checkIp 2 (take 9 D) ≡ 10)
     × (checkIp 2 (take 383 (set D 8 0x46)) ≡ 10)

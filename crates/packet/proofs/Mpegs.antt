@@ -16,4 +16,5 @@ mpeg-byte sub k i h = byte-part sub (headerLength + mpegLength * k) mpegLength i
 
 pub mpeg-first : (sub : List ℕ) (k : ℕ) → byteAt (mpegAt sub k) 0 ≡ byteAt sub (headerLength + mpegLength * k)
 mpeg-first sub k =
-    mpeg-byte sub k 0 (omega arith) ∙ ap (byteAt sub) (let e : headerLength + mpegLength * k + 0 ≡ headerLength + mpegLength * k = omega arith in e)
+    mpeg-byte sub k 0 (omega arith)
+    ∙ ap (byteAt sub) (let e : headerLength + mpegLength * k + 0 ≡ headerLength + mpegLength * k = omega arith in e)

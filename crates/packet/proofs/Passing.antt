@@ -115,7 +115,8 @@ module _ (width : ℕ) (sub : List ℕ) (p : SegmentsPassed width sub) where
     ends-early more =
         let e = entryAt width sub k in
         let last : (not (eqb (k + 1) (segmentCount sub)) && not (endsIn e)) ≡ false =
-        or-false-right (eqb (lengthIn e) 0 || (not (eqb k 0) && not (beginsIn e))) (not (eqb (k + 1) (segmentCount sub)) && not (endsIn e)) entry-good in
+        or-false-right (eqb (lengthIn e) 0 || (not (eqb k 0) && not (beginsIn e))) (not (eqb (k + 1) (segmentCount sub)) && not (endsIn e))
+        entry-good in
         not-false (endsIn e) (simp (ne-eqb (k + 1) (segmentCount sub) more) at last)
 
 -- Refusals 6, 7 and 9 to 11 passed, D-MPT.
@@ -140,7 +141,8 @@ pub dmpt-passed : (sub : List ℕ) → first (dmptRefusals sub) ≡ 0 → DmptPa
 dmpt-passed sub z = dmpt-of sub (none-applies (dmptRefusals sub) refl z)
 
 -- Each MPEG packet lies in the packet, ..
-pub mpeg-inside : (sub : List ℕ) (k : ℕ) → headerLength ≤ length sub → k < mpegCount sub → headerLength + mpegLength * k + mpegLength ≤ length sub
+pub mpeg-inside : (sub : List ℕ) (k : ℕ) → headerLength ≤ length sub → k < mpegCount sub →
+    headerLength + mpegLength * k + mpegLength ≤ length sub
 mpeg-inside sub k header there = omega arith
 
 -- .. and in one that passes they fill it

@@ -75,9 +75,9 @@ pub struct Surveyed {
     pub bad: bool,
 }
 
-// Surveys the table of a packet that has segments. Of an entry between the first and the last one comparison tells whether it is bad: a good
-// one has B, E and a length, so it is above what B and E are worth together. The loop asks nothing else and adds up in 32 bits, so that
-// the compiler can take several entries at a time.
+// Surveys the table of a packet that has segments. Of an entry between the first and the last one comparison tells whether it is bad: a
+// good one has B, E and a length, so it is above what B and E are worth together. The loop asks nothing else and adds up in 32 bits, so
+// that the compiler can take several entries at a time.
 fn survey(sub: &[u8], width: usize, count: usize) -> Surveyed
     requires { ⌜ (2 ≤ width) × (1 ≤ count) × (count ≡ segmentCount (now sub)) × (headerLength + width * count ≤ length (now sub)) ⌝ }
     ensures { λ r. ⌜ r .total ≡ sumTo (lengthAt width (now (sub .entry))) count ⌝ }

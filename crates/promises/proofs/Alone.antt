@@ -1,5 +1,5 @@
--- One flow by itself: what is read off it, and so the frames that come out of it, when it hears these packets one after another. There is no table here and
--- no place; a late packet is passed over, and any other is heard. Between the calls on a card and demand 3 stands this.
+-- One flow by itself: what is read off it, and so the frames that come out of it, when it hears these packets one after another. There is
+-- no table here and no place; a late packet is passed over, and any other is heard. Between the calls on a card and demand 3 stands this.
 use Prim.Native.Nat.{ℕ}
 use mathlib.Core.Bool.{cond}
 use mathlib.Core.List.{List, [], _∷_, _++_}

@@ -3,8 +3,8 @@
 use Prim.Native.Nat.{ℕ}
 use mathlib.Core.Path.{_≡_, refl}
 use mathlib.Core.List.{List, [], _∷_, _++_}
-use lib.ListN.{length, replicate}
-use Rattle.octets.specs.Stretch.{part, rest, put, joined, lengthsOf, cutBy}
+use lib.ListN.{replicate}
+use Rattle.octets.specs.Stretch.{part, rest, put, joined, lengthsOf}
 use Rattle.octets.specs.Count.{any, least, sumTo, upTo}
 use Rattle.flow.specs.declared.Flow.{Flow}
 use Rattle.flow.specs.Flow.{fresh}

@@ -1,5 +1,5 @@
--- The account over a history in which one holding slice goes through all calls: every byte value comes in as often as it is delivered, dropped
--- or held, and no place has fewer bytes than the table says.
+-- The account over a history in which one holding slice goes through all calls: every byte value comes in as often as it is delivered,
+-- dropped or held, and no place has fewer bytes than the table says.
 use Prim.Native.Nat.{ℕ, _+_, _<_}
 use mathlib.Core.Path.{_≡_, refl, _∙_}
 use mathlib.Core.Bool.{Bool, true, false, cond}
@@ -17,7 +17,8 @@ use Rattle.card.specs.History.{Card, Call, opens, closes, hands, answer, after,
 use Rattle.promises.specs.Account.{takenBy, deliveredBy, droppedBy, gathered, bytesOfRow, bytesHeld, heldInAll, times, EachByte}
 use Rattle.promises.proofs.Good.{Good, good-empty, good-after}
 use Rattle.promises.proofs.Measures.{Measure, by-length, by-value, measure-up-to}
-use Rattle.promises.proofs.Holdings.{inPlaces, places-keep, inTable, missing, missing-keeps, keptAt, keptInRow, keptInAll, empty-keeps}
+use Rattle.promises.proofs.Holdings.{inPlaces, places-keep, inTable, missing, missing-keeps, keptAt, keptInRow, keptInAll}
+use Rattle.promises.proofs.Holdings.{empty-keeps}
 use Rattle.promises.proofs.OneCall.{droppedIn, call-balances}
 
 module _ (m : List ℕ → ℕ) (is : Measure m) where
@@ -25,7 +26,8 @@ module _ (m : List ℕ → ℕ) (is : Measure m) where
   row-measured c r = measure-up-to m is (λ k. part (c .holding) (placeOf r k) (flowAt (rowAt (c .table) r) k .held)) flows
 
   held-measured : (c : Card) → m (bytesHeld c) ≡ keptInAll (inPlaces m) c
-  held-measured c = measure-up-to m is (bytesOfRow c) rows ∙ sum-agree (λ r. m (bytesOfRow c r)) (keptInRow (inPlaces m) c) rows (λ r l. row-measured c r)
+  held-measured c =
+      measure-up-to m is (bytesOfRow c) rows ∙ sum-agree (λ r. m (bytesOfRow c r)) (keptInRow (inPlaces m) c) rows (λ r l. row-measured c r)
 
   dropped-by : (accepts : Bool) (c : Card) (r : ℕ) → m (cond accepts (bytesOfRow c r) []) ≡ cond accepts (keptInRow (inPlaces m) c r) 0
   dropped-by true c r = row-measured c r

@@ -1,9 +1,10 @@
--- Where packets are only lost, one lost fewer takes no frame away and alters none: a packet that is in time among fewer arrivals is so among
--- more, so a frame that is whole among fewer is whole among more, and demand 3 says of both what comes out.
+-- Where packets are only lost, one lost fewer takes no frame away and alters none: a packet that is in time among fewer arrivals is so
+-- among more, so a frame that is whole among fewer is whole among more, and demand 3 says of both what comes out.
 use Prim.Native.Nat.{ℕ, suc, _≤_}
 use mathlib.Core.Path.{_≡_, sym, _∙_}
 use mathlib.Core.Bool.{Bool, true, false, cond, false≢true}
-use mathlib.Core.List.{List, [], _∷_, List·Memᴰ, List·Memᴰ·head, List·Memᴰ·tail, Sublistᴰ, Sublistᴰ·slnil, Sublistᴰ·cons, Sublistᴰ·cons-cons}
+use mathlib.Core.List.{List, [], _∷_, List·Memᴰ, List·Memᴰ·head, List·Memᴰ·tail, Sublistᴰ, Sublistᴰ·slnil, Sublistᴰ·cons}
+use mathlib.Core.List.{Sublistᴰ·cons-cons}
 use native.Mathlib.Omega.{arith}
 use lib.Dec.{ltb, eqb}
 use borrow.Author.Tests.{lt-ltb, le-ltb, eq-eqb, eqb-true}
@@ -32,7 +33,8 @@ rises-from n (x ∷ xs) k r (List·Memᴰ·tail m) = omega (arith, rises-from (s
 arrives-in-time : (n : ℕ) (xs : List ℕ) (k : ℕ) → Rising n xs → List·Memᴰ k xs → inTime xs k ≡ true
 unfolding inTime
 arrives-in-time n (x ∷ xs) k r (List·Memᴰ·head e) = rw (le-ltb x k (omega arith)) (eq-eqb x k (sym e))
-arrives-in-time n (x ∷ xs) k r (List·Memᴰ·tail m) = rw (lt-ltb x k (rises-from (suc x) xs k (r .1) m)) (arrives-in-time (suc x) xs k (r .1) m)
+arrives-in-time n (x ∷ xs) k r (List·Memᴰ·tail m) =
+    rw (lt-ltb x k (rises-from (suc x) xs k (r .1) m)) (arrives-in-time (suc x) xs k (r .1) m)
 
 arrives-too : {xs ys : List ℕ} → Sublistᴰ xs ys → (k : ℕ) → List·Memᴰ k xs → List·Memᴰ k ys
 arrives-too Sublistᴰ·slnil k m = m
@@ -50,7 +52,8 @@ pub whole-too : {xs ys : List ℕ} → Rising 0 ys → Sublistᴰ xs ys → (fra
 whole-too {xs} {ys} q among frames packets i w = each-too (InTime xs) (InTime ys) (carriers frames packets i) (only-lost q among) w
 
 -- the frames of a run by their numbers, as demand 3 gives them
-come-out-by : (s : Sending) (r : Run s) (numbers : List ℕ) → Numbered (WholeIn s r) (s .frames) 0 (comesOut s r) numbers → ComeOut s r numbers
+come-out-by : (s : Sending) (r : Run s) (numbers : List ℕ) → Numbered (WholeIn s r) (s .frames) 0 (comesOut s r) numbers →
+    ComeOut s r numbers
 come-out-by s r numbers n =
     record {
       in-order = n .in-order;
@@ -64,7 +67,8 @@ come-out-by s r numbers n =
 pub fewer-by-demand : Demand3 → FewerLost
 fewer-by-demand demand s worse better q among =
     let whole : (i : ℕ) → WholeIn s worse i → WholeIn s better i = whole-too q among (s .frames) (s .packets) in
-    let b : BothNumbered (WholeIn s worse) (WholeIn s better) (s .frames) (comesOut s worse) (comesOut s better) = kept-numbers whole (demand s worse) (demand s better) in
+    let b : BothNumbered (WholeIn s worse) (WholeIn s better) (s .frames) (comesOut s worse) (comesOut s better) =
+    kept-numbers whole (demand s worse) (demand s better) in
     record {
       of-worse = b .of-first;
       of-better = b .of-second;

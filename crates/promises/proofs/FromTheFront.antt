@@ -42,7 +42,8 @@ in-order-leaves f [] = refl
 in-order-leaves f (s ∷ more) = in-order-leaves (andThen f (fate longest (f .held) s)) more
 
 -- an accepted packet: its gap, then its segments
-pub packet-gives : (gap : ℕ) (held : List ℕ) (segs : List Segment) → (pspFate longest gap held segs) .delivered ≡ given (behind gap held) segs
+pub packet-gives : (gap : ℕ) (held : List ℕ) (segs : List Segment) →
+    (pspFate longest gap held segs) .delivered ≡ given (behind gap held) segs
 unfolding pspFate atGap
 packet-gives zero held segs = in-order-gives (atGap zero held) segs
 packet-gives (suc gap) held segs = in-order-gives (atGap (suc gap) held) segs
@@ -79,7 +80,8 @@ unfolding settledBy
 settled-goes-on true bytes = refl
 settled-goes-on false bytes = refl
 
-goes-on-by : (begins nothing : Bool) (held : List ℕ) (s : Segment) → s .ends ≡ false → (fateBy begins nothing longest held s) .delivered ≡ []
+goes-on-by : (begins nothing : Bool) (held : List ℕ) (s : Segment) → s .ends ≡ false →
+    (fateBy begins nothing longest held s) .delivered ≡ []
 unfolding fateBy settled
 goes-on-by true nothing held s e = rw e (settled-goes-on (ltb longest (length (s .body))) (s .body))
 goes-on-by false true held s e = refl

@@ -1,11 +1,10 @@
--- The numbers and gaps that a flow's calls answer in a run are those told along the sender's packets. As with demand 3, what the calls answer is what
--- the flow makes of its packets by itself; and within the bound it judges each packet by its place.
+-- The numbers and gaps that a flow's calls answer in a run are those told along the sender's packets. As with demand 3, what the calls
+-- answer is what the flow makes of its packets by itself; and within the bound it judges each packet by its place.
 use Prim.Native.Nat.{ℕ, suc, _-_, _≤_, _<_, max}
 use mathlib.Core.Path.{_≡_, refl, ap, _∙_}
 use mathlib.Core.Bool.{Bool, true, false, cond}
 use mathlib.Core.List.{List, [], _∷_, _++_, map}
 use native.Mathlib.Omega.{arith}
-use lib.ListN.{length}
 use lib.Dec.{leb}
 use borrow.Author.Tests.{leb-true, leb-false}
 use Rattle.octets.specs.Each.{Each}
@@ -40,11 +39,14 @@ verdictsRead =
       when-heard = λ a h code frames gap. rw (code, gap) refl;
     }
 
-verdicts-read : (kind : Kind) (session flow : ℕ) (c : Card) (calls : List Call) → verdictsOut kind session flow c calls ≡ readOut verdictsRead kind session flow c calls
+verdicts-read : (kind : Kind) (session flow : ℕ) (c : Card) (calls : List Call) →
+    verdictsOut kind session flow c calls ≡ readOut verdictsRead kind session flow c calls
 unfolding verdictsOut readOut
 verdicts-read kind session flow c [] = refl
 verdicts-read kind session flow c (x ∷ more) =
-    ap (λ (l : List Verdict). cond (handsTo kind session flow x) (record { code = (answer c x) .code; gap = (answer c x) .gap } ∷ []) [] ++ l) (verdicts-read kind session flow (after c x) more)
+    ap (λ (l : List Verdict).
+    cond (handsTo kind session flow x) (record { code = (answer c x) .code; gap = (answer c x) .gap } ∷ []) [] ++ l)
+    (verdicts-read kind session flow (after c x) more)
 
 module _ (start : ℕ) (packets : List Packet)
     (by-place : (f : Flow) (x : ℕ) → Counts packets x → judgedOf f (sub (packetAt packets x)) ≡ judge f (numberAt start x)) where
@@ -57,14 +59,17 @@ module _ (start : ℕ) (packets : List Packet)
   unfolding readAlone verdictsFrom
   verdicts-along f expected held [] hears waits sent within = refl
   verdicts-along f expected held (x ∷ xs) hears waits sent within =
-      pick (λ g held′ h w v. verdicts-along g (suc x) held′ xs h w (sent .1) v) (λ v. verdicts-along f expected held xs hears waits (sent .1) v)
+      pick (λ g held′ h w v. verdicts-along g (suc x) held′ xs h w (sent .1) v)
+      (λ v. verdicts-along f expected held xs hears waits (sent .1) v)
       (leb expected x) refl
     where
-      pick : ((g : Flow) (held′ : List ℕ) → g .heard ≡ heardMark → g .expected ≡ numberAt start (suc x) → WithinBound (suc x) xs → verdictsAlone g held′ xs ≡ verdictsFrom (suc x) xs) →
+      pick : ((g : Flow) (held′ : List ℕ) → g .heard ≡ heardMark → g .expected ≡ numberAt start (suc x) → WithinBound (suc x) xs →
+          verdictsAlone g held′ xs ≡ verdictsFrom (suc x) xs) →
           (WithinBound expected xs → verdictsAlone f held xs ≡ verdictsFrom expected xs) →
           (t : Bool) → leb expected x ≡ t →
           verdictsAlone f held (x ∷ xs)
-          ≡ cond t (record { code = 0; gap = x - expected } ∷ verdictsFrom (suc x) xs) (record { code = 12; gap = 0 } ∷ verdictsFrom expected xs)
+          ≡ cond t (record { code = 0; gap = x - expected } ∷ verdictsFrom (suc x) xs)
+          (record { code = 12; gap = 0 } ∷ verdictsFrom expected xs)
       pick on stay true e =
           let l : expected ≤ x = leb-true expected x e in
           let m : max expected (suc x) ≡ suc x = omega arith in

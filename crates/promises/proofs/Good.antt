@@ -1,5 +1,5 @@
--- What holds of every card that calls from an empty table can have come to, whatever was called: it has six rows of four flows, and it is not
--- broken. Nor does any call change the length of the holding slice; and one that is refused changes nothing at all.
+-- What holds of every card that calls from an empty table can have come to, whatever was called: it has six rows of four flows, and it is
+-- not broken. Nor does any call change the length of the holding slice; and one that is refused changes nothing at all.
 use Prim.Native.Nat.{ℕ, zero, suc, _<_}
 use mathlib.Core.Path.{_≡_, refl, ap, _∙_}
 use mathlib.Core.Bool.{true, false}
@@ -78,9 +78,15 @@ good-empty holding =
 pub good-after : (c : Card) (x : Call) → Good c → Good (after c x)
 unfolding after opened closed
 good-after c (opens q) g =
-    record { shaped = opened-shaped (first (openRefusals (c .table) q)) (c .table) q (g .shaped); whole = opened-keeps (c .table) q (g .whole) }
+    record {
+      shaped = opened-shaped (first (openRefusals (c .table) q)) (c .table) q (g .shaped);
+      whole = opened-keeps (c .table) q (g .whole);
+    }
 good-after c (closes id) g =
-    record { shaped = closed-shaped (first (closeRefusals (c .table) id)) (c .table) id (g .shaped); whole = closed-keeps (c .table) id (g .whole) }
+    record {
+      shaped = closed-shaped (first (closeRefusals (c .table) id)) (c .table) id (g .shaped);
+      whole = closed-keeps (c .table) id (g .whole);
+    }
 good-after c (hands a) g =
     record {
       shaped = received-shaped (c .table) (a .packet) (lentWith c a) (g .shaped) (handed c a .answer .code) refl;
@@ -113,5 +119,6 @@ data-stays c a (suc code) e some = rw (received-refused (c .table) (a .packet) (
 pub refused-stays : (c : Card) (x : Call) → ((answer c x) .code ≡ 0 → ⊥) → after c x ≡ c
 unfolding answer after
 refused-stays c (opens q) refused = ap (λ (t : Table). record { table = t; holding = c .holding }) (refused-keeps (c .table) q refused)
-refused-stays c (closes id) refused = ap (λ (t : Table). record { table = t; holding = c .holding }) (refused-close-keeps (c .table) id refused .0)
+refused-stays c (closes id) refused =
+    ap (λ (t : Table). record { table = t; holding = c .holding }) (refused-close-keeps (c .table) id refused .0)
 refused-stays c (hands a) refused = data-stays c a (answer c (hands a) .code) refl refused

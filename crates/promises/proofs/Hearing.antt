@@ -1,5 +1,5 @@
--- What one packet does to a flow by itself: late, it does nothing; accepted, its gap and its segments say what comes out, and the flow expects
--- the next number.
+-- What one packet does to a flow by itself: late, it does nothing; accepted, its gap and its segments say what comes out, and the flow
+-- expects the next number.
 use Prim.Native.Nat.{ℕ}
 use mathlib.Core.Path.{_≡_, ap, _∙_}
 use mathlib.Core.Bool.{true, cond}
@@ -46,7 +46,8 @@ pub frames-heard : (f : Flow) (held : List ℕ) (packet : Packet) (more : List P
     judgedOf f (sub packet) ≡ accepted f n gap →
     framesAlone f held (packet ∷ more)
     ≡ given (behind gap held) (segmentsOf entryWidth packet)
-    ++ framesAlone (listening n (left (behind gap held) (segmentsOf entryWidth packet))) (left (behind gap held) (segmentsOf entryWidth packet)) more
+    ++ framesAlone (listening n (left (behind gap held) (segmentsOf entryWidth packet)))
+    (left (behind gap held) (segmentsOf entryWidth packet)) more
 frames-heard f held packet more n gap set e =
     alone-heard framesRead f held packet more n gap e
     ∙ rw (set, packet-gives gap held (segmentsOf entryWidth packet), packet-leaves gap held (segmentsOf entryWidth packet))

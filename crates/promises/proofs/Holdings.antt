@@ -1,5 +1,5 @@
--- What the flows of a card keep, counted flow by flow: by the bytes in their places, by the table alone, or by how far the two differ. What one
--- call changes of it is told for all three at once: a row replaced by one that holds nothing, or one flow of one row.
+-- What the flows of a card keep, counted flow by flow: by the bytes in their places, by the table alone, or by how far the two differ. What
+-- one call changes of it is told for all three at once: a row replaced by one that holds nothing, or one flow of one row.
 use Prim.Native.Nat.{ℕ, _+_, _-_, _<_, _≤_}
 use mathlib.Core.Path.{_≡_, refl, sym, ap, _∙_}
 use mathlib.Core.List.{List, []}
@@ -19,13 +19,15 @@ use Rattle.card.specs.History.{Card, emptyCard}
 use Rattle.card.proofs.Step.{Shaped}
 use Rattle.promises.proofs.Measures.{Measure, by-length, by-nothing}
 
--- How a flow's bytes are counted: by the holding slice, the flow's place in it and the flow's record. Where the slice has the place, it is a
--- measure of the bytes there; nothing held counts 0; and no byte outside counts.
+-- How a flow's bytes are counted: by the holding slice, the flow's place in it and the flow's record. Where the slice has the place, it is
+-- a measure of the bytes there; nothing held counts 0; and no byte outside counts.
 pub record Keeps (m : List ℕ → ℕ) (kept : List ℕ → ℕ → Flow → ℕ) : Type 0 where
   pub measure : Measure m
   pub nothing : (holding : List ℕ) (place : ℕ) (f : Flow) → f .held ≡ 0 → kept holding place f ≡ 0
-  pub inside : (holding : List ℕ) (place : ℕ) (f : Flow) → place + f .held ≤ length holding → kept holding place f ≡ m (part holding place (f .held))
-  pub untouched : (old new : List ℕ) (place : ℕ) (f : Flow) → part new place (f .held) ≡ part old place (f .held) → kept new place f ≡ kept old place f
+  pub inside : (holding : List ℕ) (place : ℕ) (f : Flow) → place + f .held ≤ length holding →
+      kept holding place f ≡ m (part holding place (f .held))
+  pub untouched : (old new : List ℕ) (place : ℕ) (f : Flow) → part new place (f .held) ≡ part old place (f .held) →
+      kept new place f ≡ kept old place f
 
 -- by the bytes themselves
 abbrev pub inPlaces : (List ℕ → ℕ) → List ℕ → ℕ → Flow → ℕ
@@ -99,7 +101,8 @@ fresh-bare k l = ap (λ (f : Flow). f .held) (getD-replicate flows k fresh fresh
 
 module _ {m : List ℕ → ℕ} {kept : List ℕ → ℕ → Flow → ℕ} (w : Keeps m kept) where
   pub bare-row : (c : Card) (r : ℕ) → Bare (rowAt (c .table) r) → keptInRow kept c r ≡ 0
-  bare-row c r bare = sum-zero (keptAt kept c r) flows (λ k l. w .nothing (c .holding) (placeOf r k) (flowAt (rowAt (c .table) r) k) (bare k l))
+  bare-row c r bare =
+      sum-zero (keptAt kept c r) flows (λ k l. w .nothing (c .holding) (placeOf r k) (flowAt (rowAt (c .table) r) k) (bare k l))
 
   -- a row replaced by one that holds nothing: all that was kept, but for that row
   pub row-replaced : (c : Card) (r : ℕ) (row : Row) → Shaped (c .table) → r < rows → Bare row →
@@ -113,11 +116,13 @@ module _ {m : List ℕ → ℕ} {kept : List ℕ → ℕ → Flow → ℕ} (w : 
         none,
         sum-but-one (keptInRow kept c) (keptInRow kept new) r rows there
             (λ r′ l other.
-            ap (λ (x : Row). sumTo (λ k. kept (c .holding) (placeOf r′ k) (flowAt x k)) flows) (getD-set-other (c .table .rows) r r′ row noRow other)),
+            ap (λ (x : Row). sumTo (λ k. kept (c .holding) (placeOf r′ k) (flowAt x k)) flows)
+            (getD-set-other (c .table .rows) r r′ row noRow other)),
       )
 
 -- an empty table keeps nothing
-pub empty-keeps : {m : List ℕ → ℕ} {kept : List ℕ → ℕ → Flow → ℕ} → Keeps m kept → (holding : List ℕ) → keptInAll kept (emptyCard holding) ≡ 0
+pub empty-keeps : {m : List ℕ → ℕ} {kept : List ℕ → ℕ → Flow → ℕ} → Keeps m kept → (holding : List ℕ) →
+    keptInAll kept (emptyCard holding) ≡ 0
 empty-keeps {m} {kept} w holding =
     sum-zero (keptInRow kept (emptyCard holding)) rows
     (λ r l.

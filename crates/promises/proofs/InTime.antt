@@ -45,7 +45,8 @@ test-means (x ∷ xs) k e = pick (ltb x k) refl (test-means xs k) e
     pick false l later e′ = record { arrival = 0; there = omega arith; of-it = eqb-true x k e′; none-later = λ j i. absurd (omega arith) }
 
 -- and back
-pub meant-passes : (xs : List ℕ) (k arrival : ℕ) → arrival < length xs → getD xs arrival 0 ≡ k → ((j : ℕ) → j < arrival → getD xs j 0 ≤ k) → inTime xs k ≡ true
+pub meant-passes : (xs : List ℕ) (k arrival : ℕ) → arrival < length xs → getD xs arrival 0 ≡ k → ((j : ℕ) → j < arrival → getD xs j 0 ≤ k) →
+    inTime xs k ≡ true
 unfolding inTime
 meant-passes [] k arrival there of-it none-later = absurd (omega arith)
 meant-passes (x ∷ xs) k zero there of-it none-later = rw (le-ltb x k (omega arith)) (eq-eqb x k of-it)

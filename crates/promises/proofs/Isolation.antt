@@ -49,7 +49,8 @@ module _ (session : ℕ) (named : eqb session 0 ≡ false) where
   told-by-itself (closes id ∷ more) c a size long g v =
       pick (λ d long′ g′ v′. told-by-itself more d a size long′ g′ v′) (eqb id session) refl
     where
-      pick : ((d : Card) → length (d .holding) ≡ size → Good d → Shows d session a → told session d more ≡ toldAlone size a (own session more)) →
+      pick : ((d : Card) → length (d .holding) ≡ size → Good d → Shows d session a →
+          told session d more ≡ toldAlone size a (own session more)) →
           (b : Bool) → eqb id session ≡ b →
           cond b (toldBy (answer c (closes id)) ∷ []) (told session (after c (closes id)) more)
           ≡ toldAlone size a (cond b (ends ∷ []) (own session more))

@@ -1,4 +1,5 @@
--- From the core to the modulator: a reader gets back whatever frames that keep W3's rules the writer was given, and what comes out of the card is known by demand 3.
+-- From the core to the modulator: a reader gets back whatever frames that keep W3's rules the writer was given, and what comes out of the
+-- card is known by demand 3.
 use Prim.Native.Nat.{ℕ}
 use mathlib.Core.Path.{sym, ap, subst, _∙_}
 use mathlib.Core.List.{List, [], _∷_}
@@ -11,7 +12,8 @@ use Rattle.mpeg.specs.Frame.{Good}
 use Rattle.mpeg.specs.Run.{Burst, GoodBursts, allFrames, drained}
 use Rattle.mpeg.specs.Write as write
 use Rattle.mpeg.specs.Read as read
-use Rattle.mpeg.proofs.Unique.{write-permitted, write-unique, read-permitted, read-unique, hand-out-there, hand-out-permitted, hand-out-unique}
+use Rattle.mpeg.proofs.Unique.{write-permitted, write-unique, read-permitted, read-unique, hand-out-there, hand-out-permitted}
+use Rattle.mpeg.proofs.Unique.{hand-out-unique}
 use Rattle.mpeg.proofs.RunsRead.{runs-are-read, drained-good, all-come-back}
 use Rattle.promises.specs.Arrivals.{Kept, no-more, kept, lost}
 use Rattle.promises.specs.Demand.{WholeIn}
@@ -19,7 +21,8 @@ use Rattle.promises.specs.Modulator.{SentMayTravel, CoreToModulator, Uni
 use Rattle.promises.proofs.Demand.{demand-3}
 
 -- what is kept of frames that keep the rules keeps them
-kept-good : {whole : ℕ → Type 0} {i : ℕ} {frames : List Pieces} {out : List (List ℕ)} → Kept whole i frames out → Each (λ f. Good (joined f)) frames → Each Good out
+kept-good : {whole : ℕ → Type 0} {i : ℕ} {frames : List Pieces} {out : List (List ℕ)} → Kept whole i frames out →
+    Each (λ f. Good (joined f)) frames → Each Good out
 kept-good no-more g = tt
 kept-good (kept w k) g = (g .0, kept-good k (g .1))
 kept-good (lost w k) g = kept-good k (g .1)

@@ -1,5 +1,5 @@
--- The account of an accepted packet, by any measure: its body and what all flows kept before is delivered, dropped or kept afterwards. Only the
--- packet's own flow keeps anything else than before.
+-- The account of an accepted packet, by any measure: its body and what all flows kept before is delivered, dropped or kept afterwards. Only
+-- the packet's own flow keeps anything else than before.
 use Prim.Native.Nat.{ℕ, _+_, _<_}
 use mathlib.Core.Path.{_≡_, ap, _∙_}
 use mathlib.Core.Bool.{true, false}

@@ -1,5 +1,5 @@
--- The walk along packets is the walk along their segments, each with the place of its packet. A packet has a segment, so what is held is lost
--- with a missing packet just as with its missing segments.
+-- The walk along packets is the walk along their segments, each with the place of its packet. A packet has a segment, so what is held is
+-- lost with a missing packet just as with its missing segments.
 use Prim.Native.Nat.{ℕ, suc, _≤_}
 use mathlib.Core.Path.{_≡_, refl, sym, ap, _∙_}
 use mathlib.Core.Bool.{Bool, true, false}
@@ -41,13 +41,17 @@ pub counted : (p : Packet) → length (segmentsOf entryWidth p) ≡ segmentCount
 unfolding segments
 counted p = length-up-to (segmentAt entryWidth (sub p)) (segmentCount (sub p))
 
-pub along-segments : (came : ℕ → Bool) (n : ℕ) (held : List ℕ) (packets : List Packet) → Each (λ p. 1 ≤ length (segmentsOf entryWidth p)) packets →
+pub along-segments : (came : ℕ → Bool) (n : ℕ) (held : List ℕ) (packets : List Packet) →
+    Each (λ p. 1 ≤ length (segmentsOf entryWidth p)) packets →
     along came n held packets ≡ walk came held (placesFrom n packets) (allSegments entryWidth packets)
 unfolding placesFrom allSegments
 along-segments came n held [] some = refl
 along-segments came n held (p ∷ packets) some =
-    ap (λ r. gives (came n) held (segmentsOf entryWidth p) ++ r) (along-segments came (suc n) (leaves (came n) held (segmentsOf entryWidth p)) packets (some .1))
-    ∙ sym (rw (counted p) at (one-packet came n (came n) refl held (segmentsOf entryWidth p) (placesFrom (suc n) packets) (allSegments entryWidth packets) (some .0)))
+    ap (λ r. gives (came n) held (segmentsOf entryWidth p) ++ r)
+    (along-segments came (suc n) (leaves (came n) held (segmentsOf entryWidth p)) packets (some .1))
+    ∙ sym (rw (counted p) at
+    (one-packet came n (came n) refl held (segmentsOf entryWidth p) (placesFrom (suc n) packets)
+    (allSegments entryWidth packets) (some .0)))
 
 -- each segment has its place
 pub places-length : (n : ℕ) (packets : List Packet) → length (placesFrom n packets) ≡ length (allSegments entryWidth packets)

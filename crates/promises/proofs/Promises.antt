@@ -1,7 +1,8 @@
--- The promises, by name. What each says stands in specs/, in the file that is named beside it; why it is so, in the file of this folder that it is cited from.
--- No axiom is used, and no premise but those that the statements have. They speak of the very definitions that the contracts of `open`, `close`,
--- `receive`, `send`, `write`, `read` and `hand_out` cite, so they hold of the code. `marked` and `besides-marked` (specs/Marked.antt) are computed, as the closed
--- instances of these theorems are: they stand with them, in the crate `instances`.
+-- The promises, by name. What each says stands in specs/, in the file that is named beside it; why it is so, in the file of this folder
+-- that it is cited from. No axiom is used, and no premise but those that the statements have. They speak of the very definitions that the
+-- contracts of `open`, `close`, `receive`, `send`, `write`, `read` and `hand_out` cite, so they hold of the code. `marked` and
+-- `besides-marked` (specs/Marked.antt) are computed, as the closed instances of these theorems are: they stand with them, in the crate
+-- `instances`.
 use Rattle.promises.specs.Arrivals.{InTimeIsMeant}
 use Rattle.promises.specs.Demand.{Demand3, FewerLost}
 use Rattle.promises.specs.Gaps.{GapsAreTold}
@@ -11,7 +12,8 @@ use Rattle.promises.specs.Unnumbered.{UnnumberedAccepted, UnnumberedDeli
 use Rattle.promises.specs.Isolation.{Isolation, OpenByIds}
 use Rattle.promises.specs.Limits.{WithinLimits, NeverBroken}
 use Rattle.promises.specs.Refusals.{RefusalsChangeNothing}
-use Rattle.promises.specs.Unique.{UniqueOpen, UniqueClose, UniqueReceive, UniqueSend, UniqueCheck, UniqueSegment, UniqueCapture, UniqueFlow}
+use Rattle.promises.specs.Unique.{UniqueOpen, UniqueClose, UniqueReceive, UniqueSend, UniqueCheck, UniqueSegment, UniqueCapture}
+use Rattle.promises.specs.Unique.{UniqueFlow}
 use Rattle.promises.specs.Transports.{SamePacket}
 use Rattle.promises.specs.RoundTrip.{SenderKeepsRules, SendingsGoOn, KeepsLimit, RoundTrip}
 use Rattle.promises.specs.Modulator.{CoreToModulator, SentMayTravel, UniqueMpeg}
@@ -129,7 +131,8 @@ keeps-limit = trip.keeps-limit
 pub round-trip : RoundTrip
 round-trip = trip.round-trip
 
--- To the modulator: specs/Modulator.antt; what is said of single packets and of runs of the writer, in specs/Run.antt and specs/HandOut.antt of crate mpeg.
+-- To the modulator: specs/Modulator.antt; what is said of single packets and of runs of the writer, in specs/Run.antt and
+-- specs/HandOut.antt of crate mpeg.
 pub core-to-modulator : CoreToModulator
 core-to-modulator = modulator.core-to-modulator
 
@@ -165,4 +168,5 @@ unique-mpeg = modulator.unique-mpeg
 
 -- Capture files: specs/Captures.antt.
 pub reads-back : ReadsBack
-reads-back = record { read-then-written = capture.reads-back; written-passes = capture.written-sound; written-then-read = capture.written-reads }
+reads-back =
+    record { read-then-written = capture.reads-back; written-passes = capture.written-sound; written-then-read = capture.written-reads }

@@ -1,8 +1,7 @@
--- A refused call changes nothing: each call goes by the number of the first refusal that applies, and where that is not 0 it gives back what
--- it was given, with all counts 0.
+-- A refused call changes nothing: each call goes by the number of the first refusal that applies, and where that is not 0 it gives back
+-- what it was given, with all counts 0.
 use Prim.Native.Nat.{ℕ, zero, suc}
 use mathlib.Core.Path.{_≡_, refl, ap}
-use mathlib.Core.List.{List}
 use Rattle.packet.specs.Header.{Packet}
 use Rattle.table.specs.declared.Table.{Table}
 use Rattle.table.proofs.Keeping.{refused-close-keeps}

@@ -1,5 +1,5 @@
--- There and back. The sender's packets keep the rules that demand 3 supposes, so demand 3 says what comes of them: over a network the frames that
--- arrived whole; and where all arrive in order all of them, since each packet then arrives before any sent after it.
+-- There and back. The sender's packets keep the rules that demand 3 supposes, so demand 3 says what comes of them: over a network the
+-- frames that arrived whole; and where all arrive in order all of them, since each packet then arrives before any sent after it.
 use Prim.Native.Nat.{ℕ, _+_, _-_, _<_}
 use mathlib.Core.Path.{_≡_, refl, sym, ap, subst, _∙_}
 use mathlib.Core.Bool.{Bool, true, false, cond}
@@ -7,7 +7,7 @@ use mathlib.Core.List.{List, [], _∷_, _++_, append-nil, append-assoc}
 use native.Mathlib.Omega.{arith}
 use native.Mathlib.Numerals.{add-one}
 use lib.Dec.{eqb, ltb}
-use lib.ListN.{length, getD, length-append, List·getD-append}
+use lib.ListN.{length, length-append, List·getD-append}
 use lib.Seq.{getD-append-add}
 use borrow.Author.Tests.{eqb-true, ltb-true, ltb-false}
 use Rattle.octets.specs.Each.{Each}
@@ -20,7 +20,8 @@ use Rattle.packet.specs.Check.{kindPsp, check}
 use Rattle.sender.specs.declared.Position.{Position}
 use Rattle.sender.specs.Send.{Asked, sent}
 use Rattle.sender.specs.Series.{Job, Turn, askedFor, packetLeft, seriesPackets, seriesNumber}
-use Rattle.sender.specs.Rules.{Line, packetAt, KeepsRules, Pieces, FrameSized, Addressed, segmentsOf, wholeFrame, begunFrame, inTurn, allSegments}
+use Rattle.sender.specs.Rules.{Line, packetAt, KeepsRules, Pieces, FrameSized, Addressed, segmentsOf, wholeFrame, begunFrame, inTurn}
+use Rattle.sender.specs.Rules.{allSegments}
 use Rattle.sender.proofs.Keeping.{sent-length, sent-number}
 use Rattle.sender.proofs.Series.{code-is, sends-all}
 use Rattle.sender.proofs.Ways.{keeps-ways, numbers-ways}
@@ -48,10 +49,13 @@ pub keeps-limit : KeepsLimit
 keeps-limit a z = sent-length a (sym (code-is a) ∙ z)
 
 -- One sending behind another: the segments of both, ..
-segments-both : (packets behind : List Packet) → allSegments entryWidth (packets ++ behind) ≡ allSegments entryWidth packets ++ allSegments entryWidth behind
+segments-both : (packets behind : List Packet) →
+    allSegments entryWidth (packets ++ behind) ≡ allSegments entryWidth packets ++ allSegments entryWidth behind
 unfolding allSegments
 segments-both [] behind = refl
-segments-both (p ∷ packets) behind = rw (segments-both packets behind) (sym (append-assoc (segmentsOf entryWidth p) (allSegments entryWidth packets) (allSegments entryWidth behind)))
+segments-both (p ∷ packets) behind =
+    rw (segments-both packets behind)
+    (sym (append-assoc (segmentsOf entryWidth p) (allSegments entryWidth packets) (allSegments entryWidth behind)))
 
 frames-both : (frames more : List Pieces) → inTurn (frames ++ more) ≡ inTurn frames ++ inTurn more
 unfolding inTurn
@@ -79,7 +83,9 @@ numbered-both start packets behind front back i l = by (ltb i (length packets)) 
         ∙ numberAt-on start (length packets) j)
 
 both-keep : (line : Line) (frames more : List Pieces) (unfinished : Pieces) (packets behind : List Packet) →
-    KeepsRules line frames [] packets → KeepsRules (record { session = line .session; flow = line .flow; start = numberAt (line .start) (length packets) }) more unfinished behind →
+    KeepsRules line frames [] packets →
+    KeepsRules (record { session = line .session; flow = line .flow; start = numberAt (line .start) (length packets) }) more
+    unfinished behind →
     KeepsRules line (frames ++ more) unfinished (packets ++ behind)
 unfolding begunFrame
 both-keep line frames more unfinished packets behind first then =
@@ -93,7 +99,8 @@ both-keep line frames more unfinished packets behind first then =
           (sym (append-assoc (inTurn frames) (inTurn more) (begunFrame true unfinished)));
     }
 
--- The number that a series gives back is that of the packet which would come next: each call that is not refused gives back the next of its own.
+-- The number that a series gives back is that of the packet which would come next: each call that is not refused gives back the next of its
+-- own.
 series-number : (job : Job) (turns : List Turn) (number : ℕ) (at : Position) → number < modulus →
     seriesNumber job number at turns ≡ numberAt number (length (seriesPackets job number at turns))
 unfolding seriesNumber seriesPackets
@@ -106,14 +113,17 @@ series-number job (turn ∷ more) number at b =
 
     by : (t : Bool) → eqb ((sent asked) .answer .code) 0 ≡ t →
         ((sent asked) .answer .number < modulus → seriesNumber job ((sent asked) .answer .number) ((sent asked) .answer .position) more
-        ≡ numberAt ((sent asked) .answer .number) (length (seriesPackets job ((sent asked) .answer .number) ((sent asked) .answer .position) more))) →
+        ≡ numberAt ((sent asked) .answer .number)
+        (length (seriesPackets job ((sent asked) .answer .number) ((sent asked) .answer .position) more))) →
         cond t (seriesNumber job ((sent asked) .answer .number) ((sent asked) .answer .position) more) number
-        ≡ numberAt number (length (cond t (packetLeft (sent asked) ∷ seriesPackets job ((sent asked) .answer .number) ((sent asked) .answer .position) more) []))
+        ≡ numberAt number (length
+        (cond t (packetLeft (sent asked) ∷ seriesPackets job ((sent asked) .answer .number) ((sent asked) .answer .position) more) []))
     by false e behind = sym (numberAt-first number b)
     by true e behind =
         let given = sent-number asked (sym (code-is asked) ∙ eqb-true ((sent asked) .answer .code) 0 e) in
         let later = length (seriesPackets job ((sent asked) .answer .number) ((sent asked) .answer .position) more) in
-        behind (rw given (next-below number)) ∙ ap (λ (n : ℕ). numberAt n later) given ∙ numberAt-from-next number later ∙ ap (numberAt number) (add-one later)
+        behind (rw given (next-below number)) ∙ ap (λ (n : ℕ). numberAt n later) given ∙ numberAt-from-next number later
+        ∙ ap (numberAt number) (add-one later)
 
 pub sendings-go-on : SendingsGoOn
 sendings-go-on = record { joined-up = both-keep; numbered-on = λ job number at turns b. series-number job turns number at b }

@@ -1,5 +1,5 @@
--- One session by itself: how it was opened, and the record and the held bytes of each of its flows. What it is told in answer to its own calls
--- is told here from these alone. There is no table and no place, so nothing of another session can be seen.
+-- One session by itself: how it was opened, and the record and the held bytes of each of its flows. What it is told in answer to its own
+-- calls is told here from these alone. There is no table and no place, so nothing of another session can be seen.
 use Prim.Native.Nat.{ℕ, zero, suc}
 use mathlib.Core.Bool.{Bool, cond, _||_}
 use mathlib.Core.List.{List, [], _∷_, _++_}

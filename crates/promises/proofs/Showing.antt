@@ -1,8 +1,9 @@
--- A card shows an open session as that session stands by itself, and a session's own calls go by this alone: the number of an answer is told by
--- what the session has, and so are the counts, what comes out, and how the session stands afterwards. Whatever others call, it goes on so.
+-- A card shows an open session as that session stands by itself, and a session's own calls go by this alone: the number of an answer is
+-- told by what the session has, and so are the counts, what comes out, and how the session stands afterwards. Whatever others call, it goes
+-- on so.
 use Prim.Native.Nat.{ℕ, zero, suc, _<_, _≤_}
 use mathlib.Core.Path.{_≡_, refl, sym, ap, subst, _∙_}
-use mathlib.Core.Bool.{Bool, true, false, not, cond}
+use mathlib.Core.Bool.{Bool, true, false, cond}
 use mathlib.Core.Logic.{⊎-elim}
 use mathlib.Core.List.{List, [], _∷_, _++_}
 use native.Mathlib.Omega.{arith}
@@ -46,7 +47,8 @@ pub shown-begun : (c : Card) (q : Request) → Good c → (answer c (opens q)) .
 shown-begun c q g z = λ k l. stands-opened c q k g l z
 
 -- .. and after any call that is not its own.
-pub shown-still : (c : Card) (x : Call) (session : ℕ) (a : Session) → Good c → Shows c session a → ((k : ℕ) → handsTo (a .terms .kind) session k x ≡ false) →
+pub shown-still : (c : Card) (x : Call) (session : ℕ) (a : Session) → Good c → Shows c session a →
+    ((k : ℕ) → handsTo (a .terms .kind) session k x ≡ false) →
     closesIt session x ≡ false → Shows (after c x) session a
 shown-still c x session a g v others stays =
     λ k l. stands-stay c x session k (a .terms) (a .flow k) (a .held k) g l (v k l) (others k) stays
@@ -58,7 +60,8 @@ late-counts xs late late′ same =
     ⊎-elim
     (λ (e : eqb (first xs) 0 ≡ true). ap (λ (b : Bool). first (xs ++ (12 when b ∷ []))) (same (eqb-true (first xs) 0 e)))
     (λ (e : eqb (first xs) 0 ≡ false).
-    first-stopped xs (12 when late ∷ []) (eqb-false (first xs) 0 e) ∙ sym (first-stopped xs (12 when late′ ∷ []) (eqb-false (first xs) 0 e)))
+    first-stopped xs (12 when late ∷ []) (eqb-false (first xs) 0 e)
+    ∙ sym (first-stopped xs (12 when late′ ∷ []) (eqb-false (first xs) 0 e)))
     (true-or-false (eqb (first xs) 0))
 
 -- Of a step carried out the session is told what the flow heard: it finds the bytes and the lengths at the front of the slices.
@@ -117,7 +120,8 @@ module _ (c : Card) (x : Arrival) (session : ℕ) (a : Session) (g : Good c) (v 
     -- the row's kind is the session's
     its-kind : flowTo (c .table) (rowOf (c .table) packet) behind ≡ its
     its-kind =
-        ap (λ (i : ℕ). flowTo (c .table) (find (c .table) i) behind) its-id ∙ ap (λ (y : Terms). flowIn (y .kind) behind) (v 0 (omega arith) .of-terms)
+        ap (λ (i : ℕ). flowTo (c .table) (find (c .table) i) behind) its-id
+        ∙ ap (λ (y : Terms). flowIn (y .kind) behind) (v 0 (omega arith) .of-terms)
 
     inside : its < flows
     inside = subst (λ (k : ℕ). k < flows) its-kind (flow-there (c .table) packet lent taken)

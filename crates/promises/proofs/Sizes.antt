@@ -48,11 +48,13 @@ settled-sized : (most : ℕ) → most ≤ longest → (ends : Bool) (bytes : Lis
 unfolding settled
 settled-sized most small ends bytes some = settled-by most small (ltb most (length bytes)) ends bytes refl some
 
-fate-by : (most : ℕ) → most ≤ longest → (begins none : Bool) (held : List ℕ) (s : Segment) → 1 ≤ length (s .body) → FramesSized (fateBy begins none most held s)
+fate-by : (most : ℕ) → most ≤ longest → (begins none : Bool) (held : List ℕ) (s : Segment) → 1 ≤ length (s .body) →
+    FramesSized (fateBy begins none most held s)
 unfolding fateBy
 fate-by most small true none held s some = settled-sized most small (s .ends) (s .body) some
 fate-by most small false true held s some = tt
-fate-by most small false false held s some = settled-sized most small (s .ends) (held ++ s .body) (omega (arith, length-append held (s .body)))
+fate-by most small false false held s some =
+    settled-sized most small (s .ends) (held ++ s .body) (omega (arith, length-append held (s .body)))
 
 pub fate-sized : (most : ℕ) → most ≤ longest → (held : List ℕ) (s : Segment) → 1 ≤ length (s .body) → FramesSized (fate most held s)
 unfolding fate
@@ -80,7 +82,8 @@ module _ {X : Type 0} (rule : List ℕ → X → Fate) (f : Fate) (piece : ℕ �
       (each (so-far .held) k (omega arith)))
 
 -- What becomes of a packet that is not refused, PSP and D-MPT.
-body-sized : (width : ℕ) (sub : List ℕ) → SegmentsPassed width sub → (k : ℕ) → k < segmentCount sub → 1 ≤ length (segmentAt width sub k .body)
+body-sized : (width : ℕ) (sub : List ℕ) → SegmentsPassed width sub → (k : ℕ) → k < segmentCount sub →
+    1 ≤ length (segmentAt width sub k .body)
 unfolding segmentAt
 body-sized width sub p k there =
     let some = body-some width sub p k there in

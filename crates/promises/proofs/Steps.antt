@@ -2,7 +2,7 @@
 -- record, its bytes or its row, short of its session's close. Everything that is said of histories rests on these steps.
 use Prim.Native.Nat.{ℕ, _+_, _<_, _≤_}
 use mathlib.Core.Path.{_≡_, refl, sym, ap, subst, _∙_}
-use mathlib.Core.Bool.{Bool, true, false, not, cond, true≢false}
+use mathlib.Core.Bool.{true, false, not, cond, true≢false}
 use mathlib.Core.Logic.{_⊎_, ⊎-elim}
 use mathlib.Core.List.{List, [], _∷_, _++_}
 use lib.Dec.{eqb, ltb}
@@ -24,7 +24,8 @@ use Rattle.table.specs.Calls.{isOpen}
 use Rattle.table.proofs.Keeping.{flows-whole}
 use Rattle.join.specs.Slices.{Slices}
 use Rattle.card.specs.Hear.{flowIn, judgedOf, hear, recordAfter}
-use Rattle.card.specs.Receive.{tooSmall, rowOf, flowTo, flowOf, heardBy, earlyRefusals, packetRefusals, flowRefusals, dataRefusals, received}
+use Rattle.card.specs.Receive.{tooSmall, rowOf, flowTo, flowOf, heardBy, earlyRefusals, packetRefusals, flowRefusals, dataRefusals}
+use Rattle.card.specs.Receive.{received}
 use Rattle.card.specs.History.{Card, Arrival, Call, opens as opensCall, closes as closesCall, hands, lentWith, framesOf, answer, after}
 use Rattle.card.proofs.Accepted.{received-code, accepted}
 use Rattle.card.proofs.ByKind.{numbered-packet}
@@ -34,7 +35,8 @@ use Rattle.promises.proofs.Good.{Good, refused-stays}
 use Rattle.promises.proofs.Standing.{Stands, stands-by, found-id, open-stays, close-stays}
 
 -- A packet handed in. Its session's row, and the flow there, are told by the packet.
-pub of-session : (kind : Kind) (session flow : ℕ) (p : Packet) → ofFlow kind session flow p ≡ true → (sessionId p ≡ session) × (flowIn kind (sub p) ≡ flow)
+pub of-session : (kind : Kind) (session flow : ℕ) (p : Packet) → ofFlow kind session flow p ≡ true →
+    (sessionId p ≡ session) × (flowIn kind (sub p) ≡ flow)
 of-session kind session flow p e =
     let its = and-left (ofSession session p) (eqb (flowIn kind (sub p)) flow) e in (
       eqb-true (sessionId p) session (and-right (readable p) (eqb (sessionId p) session) its),
@@ -84,13 +86,15 @@ module _ (c : Card) (a : Arrival) (g : Good c) (z : answer c (hands a) .code ≡
       ⊎-elim
       (λ (e : eqb r its-row ≡ true). rw (eqb-true r its-row e) (step .its-session))
       (λ (e : eqb r its-row ≡ false).
-      let there = step .other-rows r (eqb-false r its-row e) in (ap (λ (x : Row). x .id) there, ap (λ (x : Row). x .kind) there, ap termsOf there))
+      let there = step .other-rows r (eqb-false r its-row e) in
+      (ap (λ (x : Row). x .id) there, ap (λ (x : Row). x .kind) there, ap termsOf there))
       (true-or-false (eqb r its-row))
 
   same-sessions : (session r : ℕ) → openIn (d .table) session r ≡ openIn (c .table) session r
   same-sessions session r = rw (same-id r .0, same-id r .1) refl
 
-  module _ (session flow : ℕ) (terms : Terms) (f : Flow) (held : List ℕ) (inside : flow < flows) (s : Stands c session flow terms f held) where
+  module _ (session flow : ℕ) (terms : Terms) (f : Flow) (held : List ℕ) (inside : flow < flows)
+      (s : Stands c session flow terms f held) where
     abbrev r : ℕ
     r = find (c .table) session
 
@@ -127,7 +131,8 @@ module _ (c : Card) (a : Arrival) (g : Good c) (z : answer c (hands a) .code ≡
         (same-id r .2, same-record not-of, step .other-places r flow (f .held) (s .is-there) inside (apart not-of) few)
 
     -- of this flow: what it hears is told by its own record and bytes
-    heard-is : ofFlow (terms .kind) session flow packet ≡ true → heardBy (c .table) its-row (sub packet) lent ≡ hear terms f held (sub packet)
+    heard-is : ofFlow (terms .kind) session flow packet ≡ true →
+        heardBy (c .table) its-row (sub packet) lent ≡ hear terms f held (sub packet)
     heard-is of-it =
         let id = of-session (terms .kind) session flow packet of-it in
         rw (id .0, ap (λ (x : Terms). flowIn (x .kind) (sub packet)) (s .of-terms) ∙ id .1, s .of-terms, s .its-record, s .its-bytes) refl
@@ -140,7 +145,8 @@ module _ (c : Card) (a : Arrival) (g : Good c) (z : answer c (hands a) .code ≡
     unfolding after answer
     heard-stands of-it =
         let id = of-session (terms .kind) session flow packet of-it in
-        let found : find (d .table) session ≡ r = least-same (openIn (d .table) session) (openIn (c .table) session) rows (λ i l. same-sessions session i) in
+        let found : find (d .table) session ≡ r =
+        least-same (openIn (d .table) session) (openIn (c .table) session) rows (λ i l. same-sessions session i) in
         let here : its-row ≡ r = ap (find (c .table)) (id .0) in
         let known = rw (heard-is of-it, here, ap (λ (x : Terms). flowIn (x .kind) (sub packet)) (s .of-terms) ∙ id .1) at step in (
           record {
@@ -169,7 +175,8 @@ unfolding answer
 stands-stay c (opensCall q) session flow terms f held g l s other stays =
     by-number c (opensCall q) session flow terms f held s (λ z. open-stays c q session flow terms f held g s z)
 stands-stay c (closesCall id) session flow terms f held g l s other stays =
-    by-number c (closesCall id) session flow terms f held s (λ z. close-stays c id session flow terms f held g s (eqb-false id session stays) z)
+    by-number c (closesCall id) session flow terms f held s
+    (λ z. close-stays c id session flow terms f held g s (eqb-false id session stays) z)
 stands-stay c (hands a) session flow terms f held g l s other stays =
     by-number c (hands a) session flow terms f held s (λ z. hands-stays c a g z session flow terms f held l s other)
 
@@ -205,6 +212,7 @@ hands-code c a session flow terms f held g s of-it large early passed =
     let on-terms : termsAt t r ≡ terms = rw (id .0) (s .of-terms) in
     let its : flowOf t r behind ≡ f = rw (id .0, ap (λ (x : Terms). flowIn (x .kind) behind) (s .of-terms) ∙ id .1) (s .its-record) in
     let passes : first (flowRefusals t r behind) ≡ cond late 12 0 =
-    ap (λ (x : Terms). first (packetRefusals x behind ++ (12 when (judgedOf (flowOf t r behind) behind) .late ∷ []))) on-terms ∙ rw its last in
+    ap (λ (x : Terms). first (packetRefusals x behind ++ (12 when (judgedOf (flowOf t r behind) behind) .late ∷ []))) on-terms
+    ∙ rw its last in
     let by-flow : first on ≡ cond late 12 0 = rw live passes in
     received-code t (a .packet) (lentWith c a) ∙ order ∙ by-flow

@@ -83,7 +83,11 @@ unique-capture file index = (
     permitted = capture-laws.check-permitted (file .now);
     only-one = capture-laws.check-unique (file .now);
   },
-  record { outcome = capture-laws.body-there file index; permitted = capture-laws.body-permitted file index; only-one = capture-laws.body-unique file index },
+  record {
+    outcome = capture-laws.body-there file index;
+    permitted = capture-laws.body-permitted file index;
+    only-one = capture-laws.body-unique file index;
+  },
 )
 
 pub unique-flow : UniqueFlow

@@ -5,7 +5,6 @@ use Prim.Native.Nat.{ℕ, _+_}
 use mathlib.Core.Path.{_≡_, refl, sym, ap, _∙_}
 use mathlib.Core.Bool.{Bool, true, false, cond, not}
 use mathlib.Core.List.{List, [], _∷_, _++_}
-use native.Mathlib.Omega.{arith}
 use lib.Dec.{eqb, leb}
 use lib.ListN.{length, length-append}
 use Rattle.refusal.specs.Refusal.{Refusal, _when_, first}
@@ -27,7 +26,7 @@ use Rattle.join.specs.Slices.{Slices}
 use Rattle.pass.specs.Pass.{wholeWithin, bodyOf, unnumberedFate}
 use Rattle.pass.proofs.Carrying.{unnumbered-holds-none}
 use Rattle.card.specs.Hear.{judgedOf, hear}
-use Rattle.card.specs.Receive.{rowOf, flowOf, heldBy, heardBy, earlyRefusals, packetRefusals, flowRefusals, dataRefusals, tooSmall}
+use Rattle.card.specs.Receive.{rowOf, flowOf, heldBy, heardBy, earlyRefusals, packetRefusals, dataRefusals, tooSmall}
 use Rattle.card.specs.Receive.{received}
 use Rattle.card.specs.History.{Card, Call, opens, closes, hands, lentWith, answer, after}
 use Rattle.card.proofs.Accepted.{accepted, received-code}

@@ -1,6 +1,7 @@
--- The byte account (document 01, end of "Opening, closing, listening"): over any calls from an empty table, the body bytes of accepted packets are
--- the bytes delivered, the bytes dropped, those of closes included, and the bytes held. First by number, as the answers and the table give them,
--- then by the bytes themselves: each byte's fate is told by the segment rules, call after call, and none is found by subtraction.
+-- The byte account (document 01, end of "Opening, closing, listening"): over any calls from an empty table, the body bytes of accepted
+-- packets are the bytes delivered, the bytes dropped, those of closes included, and the bytes held. First by number, as the answers and the
+-- table give them, then by the bytes themselves: each byte's fate is told by the segment rules, call after call, and none is found by
+-- subtraction.
 use Prim.Native.Nat.{ℕ, _+_}
 use mathlib.Core.Path.{_≡_}
 use mathlib.Core.Bool.{cond}
@@ -18,7 +19,7 @@ use Rattle.table.specs.declared.Kind.{Kind}
 use Rattle.table.specs.Rows.{rows, isDmpt, rowAt, flowAt, find, heldIn, empty, termsAt}
 use Rattle.card.specs.Hear.{widthIn}
 use Rattle.card.specs.Receive.{placeOf, rowOf, heardBy}
-use Rattle.card.specs.History.{Card, Arrival, Call, opens, closes, hands, framesOf, lentWith, takesIn, answer, after, afterAll, emptyCard}
+use Rattle.card.specs.History.{Card, Call, opens, closes, hands, framesOf, lentWith, takesIn, answer, after, afterAll, emptyCard}
 
 -- the body of a packet: the bodies of its segments, or its MPEG packets, those with PID 0x1FFF included
 abbrev pub packetBody : Kind → List ℕ → List ℕ
@@ -76,8 +77,8 @@ bytesHeld c = joined (upTo (bytesOfRow c) rows)
 abbrev pub deliveredBy : Card → Call → List ℕ
 deliveredBy c x = joined (framesOf (answer c x))
 
--- The bytes that a call drops. No slice shows them, so they are told by the rules: of an accepted packet by what its flow makes of it; a close drops what
--- its row holds; an open, or a call that is refused, drops none.
+-- The bytes that a call drops. No slice shows them, so they are told by the rules: of an accepted packet by what its flow makes of it; a
+-- close drops what its row holds; an open, or a call that is refused, drops none.
 abbrev pub droppedBy : Card → Call → List ℕ
 droppedBy c (opens q) = []
 droppedBy c (closes id) = cond (eqb ((answer c (closes id)) .code) 0) (bytesOfRow c (find (c .table) id)) []
@@ -85,8 +86,8 @@ droppedBy c (hands a) =
     cond (takesIn c a)
     ((heardBy (c .table) (rowOf (c .table) (a .packet)) (sub (a .packet)) (lentWith c a)) .fate .dropped) []
 
--- `byte-account`: the numbers, over any history; and where one holding slice goes through all calls, the places hold as many bytes as the table says,
--- and each further call delivers and drops as many as it answers.
+-- `byte-account`: the numbers, over any history; and where one holding slice goes through all calls, the places hold as many bytes as the
+-- table says, and each further call delivers and drops as many as it answers.
 pub record ByteAccount : Type 0 where
   pub all-told : (calls : List Lent) →
       countedBy bytesTaken empty calls
@@ -109,9 +110,10 @@ unfoldable pub times : ℕ → List ℕ → ℕ
 times value [] = 0
 times value (b ∷ more) = cond (eqb b value) 1 0 + times value more
 
--- `each-byte`: each value came in as often as it is delivered, dropped or held. The elements of a list are numbers of any size here, and the rules never look
--- into the body of a segment: so one may give all body bytes of a history of PSP packets different numbers, and follow each of them. (That the elements
--- are bytes is on purpose not asked for.) It says nothing of their order, nor which frame a byte is in: that is demand 3's.
+-- `each-byte`: each value came in as often as it is delivered, dropped or held. The elements of a list are numbers of any size here, and
+-- the rules never look into the body of a segment: so one may give all body bytes of a history of PSP packets different numbers, and follow
+-- each of them. (That the elements are bytes is on purpose not asked for.) It says nothing of their order, nor which frame a byte is in:
+-- that is demand 3's.
 abbrev pub EachByte : Type 0
 EachByte =
     (holding : List ℕ) (calls : List Call) (value : ℕ) →

@@ -1,6 +1,6 @@
--- The network (document 01, "Demand 3 and the next rule suppose"). The sender's packets have the places 0, 1, 2, .. in the order of sending, and
--- no two have the same place, however often the 16-bit numbers have begun again. An arrival is the place of the packet that arrives: so
--- one list of places says what was lost, what came again and what came late.
+-- The network (document 01, "Demand 3 and the next rule suppose"). The sender's packets have the places 0, 1, 2, .. in the order of
+-- sending, and no two have the same place, however often the 16-bit numbers have begun again. An arrival is the place of the packet that
+-- arrives: so one list of places says what was lost, what came again and what came late.
 use Prim.Native.Nat.{ℕ, suc, _+_, _≤_, _<_, max}
 use mathlib.Core.Path.{_≡_}
 use mathlib.Core.Bool.{Bool, true, false, cond}
@@ -38,7 +38,8 @@ inTime (x ∷ more) k = cond (ltb x k) (inTime more k) (eqb x k)
 
 -- `in-time-is-meant`: test and meaning agree.
 abbrev pub InTimeIsMeant : Type 0
-InTimeIsMeant = (arrivals : List ℕ) (k : ℕ) → (inTime arrivals k ≡ true → InTime arrivals k) × (InTime arrivals k → inTime arrivals k ≡ true)
+InTimeIsMeant =
+    (arrivals : List ℕ) (k : ℕ) → (inTime arrivals k ≡ true → InTime arrivals k) × (InTime arrivals k → inTime arrivals k ≡ true)
 
 -- the place of the packet of each segment, in the order of sending
 unfoldable pub placesFrom : ℕ → List Packet → List ℕ
@@ -57,5 +58,7 @@ Whole arrivals frames packets i = Each (InTime arrivals) (carriers frames packet
 -- `out` is what remains of the frames, numbered from i on, when exactly the whole ones are kept: their bytes as they were, in order.
 pub data Kept (whole : ℕ → Type 0) : ℕ → List Pieces → List (List ℕ) → Type 0 where
   no-more : {i : ℕ} → Kept whole i [] []
-  kept : {i : ℕ} {f : Pieces} {fs : List Pieces} {out : List (List ℕ)} → whole i → Kept whole (suc i) fs out → Kept whole i (f ∷ fs) (joined f ∷ out)
-  lost : {i : ℕ} {f : Pieces} {fs : List Pieces} {out : List (List ℕ)} → (whole i → ⊥) → Kept whole (suc i) fs out → Kept whole i (f ∷ fs) out
+  kept : {i : ℕ} {f : Pieces} {fs : List Pieces} {out : List (List ℕ)} → whole i → Kept whole (suc i) fs out →
+      Kept whole i (f ∷ fs) (joined f ∷ out)
+  lost : {i : ℕ} {f : Pieces} {fs : List Pieces} {out : List (List ℕ)} → (whole i → ⊥) → Kept whole (suc i) fs out →
+      Kept whole i (f ∷ fs) out

@@ -1,7 +1,8 @@
--- Demand 3, the third of the three demands that README begins with; what it supposes is in document 01, "Demand 3 and the next rule suppose". Frames of
--- 1 to 2,048 bytes are cut for one freshly opened PSP flow by any sender that keeps the published rules and the paper's limits; the network loses,
--- repeats and delays packets within the bound. What comes out is precisely the frames whose every packet arrived before any packet sent after it,
--- unaltered and in sending order. So where packets are only lost, one lost fewer never takes away or alters a frame.
+-- Demand 3, the third of the three demands that README begins with; what it supposes is in document 01, "Demand 3 and the next rule
+-- suppose". Frames of 1 to 2,048 bytes are cut for one freshly opened PSP flow by any sender that keeps the published rules and the paper's
+-- limits; the network loses, repeats and delays packets within the bound. What comes out is precisely the frames whose every packet arrived
+-- before any packet sent after it, unaltered and in sending order. So where packets are only lost, one lost fewer never takes away or
+-- alters a frame.
 use Prim.Native.Nat.{ℕ, suc, _-_, _≤_, _<_}
 use mathlib.Core.Path.{_≡_}
 use mathlib.Core.Bool.{true}
@@ -19,7 +20,8 @@ use Rattle.sender.specs.Rules.{Pieces, Line, packetAt, KeepsRules}
 use Rattle.promises.specs.Words.{packetsTo, framesOut, LongEnough, StaysOpen}
 use Rattle.promises.specs.Arrivals.{Window, Whole, Kept}
 
--- What was sent, by a sender that keeps the rules: the sizes of frames and packets, the marks, the numbers and the order are in `KeepsRules`.
+-- What was sent, by a sender that keeps the rules: the sizes of frames and packets, the marks, the numbers and the order are in
+-- `KeepsRules`.
 pub record Sending : Type 0 where
   pub line : Line
   pub frames : List Pieces
@@ -80,9 +82,9 @@ pub record ComeOut (s : Sending) (r : Run s) (numbers : List ℕ) : Type 0 where
   pub no-other : (i : ℕ) → i < length (s .frames) → WholeIn s r i → List·Memᴰ i numbers
   pub their-bytes : comesOut s r ≡ map (λ i. joined (getD (s .frames) i [])) numbers
 
--- `fewer-lost`: what arrives in the worse run arrives in the better one too, and packets are only lost. Then each frame that comes out of the worse
--- comes out of the better. Both keep the bound, being runs: with packet 40,000 alone arriving, and then packet 0 and packet 40,000, the second run
--- would pass over packet 40,000 as too far ahead, and it is no run.
+-- `fewer-lost`: what arrives in the worse run arrives in the better one too, and packets are only lost. Then each frame that comes out of
+-- the worse comes out of the better. Both keep the bound, being runs: with packet 40,000 alone arriving, and then packet 0 and packet
+-- 40,000, the second run would pass over packet 40,000 as too far ahead, and it is no run.
 pub record NoneLost (s : Sending) (worse better : Run s) : Type 0 where
   pub of-worse : List ℕ
   pub of-better : List ℕ

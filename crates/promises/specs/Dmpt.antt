@@ -1,5 +1,6 @@
--- D-MPT (document 01, "Opening, closing, listening"): an accepted packet delivers its MPEG packets, each a frame of 188 bytes, without those whose PID
--- is 0x1FFF, which are dropped. It holds nothing, so the holding slice stays as it was; and with S clear its number is nobody's, so the table stays too.
+-- D-MPT (document 01, "Opening, closing, listening"): an accepted packet delivers its MPEG packets, each a frame of 188 bytes, without
+-- those whose PID is 0x1FFF, which are dropped. It holds nothing, so the holding slice stays as it was; and with S clear its number is
+-- nobody's, so the table stays too.
 use Prim.Native.Nat.{ℕ, _*_}
 use mathlib.Core.Path.{_≡_}
 use mathlib.Core.Bool.{Bool, true, false, not}
@@ -9,7 +10,7 @@ use lib.ListN.{length}
 use Rattle.packet.specs.Header.{sub, sSet}
 use Rattle.ts.specs.Packet.{mpegLength, pid, nullPid}
 use Rattle.packet.specs.Dmpt.{mpegs}
-use Rattle.table.specs.Rows.{isDmpt, rowAt, termsAt}
+use Rattle.table.specs.Rows.{isDmpt, termsAt}
 use Rattle.card.specs.Receive.{rowOf}
 use Rattle.card.specs.History.{Card, Arrival, hands, framesOf, answer, after}
 use Rattle.promises.specs.Words.{chosen}

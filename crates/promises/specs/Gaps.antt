@@ -1,5 +1,6 @@
--- The gap, along the sender's packets (document 01, "Opening, closing, listening" and "Demand 3 and the next rule suppose"). In a run as demand 3 has it, a packet is
--- late exactly where one sent after it, or itself, has arrived before; and the gap that is reported with any other is how many packets were passed over.
+-- The gap, along the sender's packets (document 01, "Opening, closing, listening" and "Demand 3 and the next rule suppose"). In a run as
+-- demand 3 has it, a packet is late exactly where one sent after it, or itself, has arrived before; and the gap that is reported with any
+-- other is how many packets were passed over.
 use Prim.Native.Nat.{ℕ, suc, _-_}
 use mathlib.Core.Path.{_≡_}
 use mathlib.Core.Bool.{cond}
@@ -21,8 +22,8 @@ verdictsOut kind session flow c (x ∷ more) =
     cond (handsTo kind session flow x) (record { code = (answer c x) .code; gap = (answer c x) .gap } ∷ []) []
     ++ verdictsOut kind session flow (after c x) more
 
--- What they ought to be, told along the sender's packets: the first arrival is accepted with gap 0. From then on one at or beyond the place expected
--- next is accepted, and its gap is how many packets it passed over; any other is late.
+-- What they ought to be, told along the sender's packets: the first arrival is accepted with gap 0. From then on one at or beyond the place
+-- expected next is accepted, and its gap is how many packets it passed over; any other is late.
 unfoldable pub verdictsFrom : ℕ → List ℕ → List Verdict
 verdictsFrom expected [] = []
 verdictsFrom expected (x ∷ more) =

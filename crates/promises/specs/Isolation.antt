@@ -1,6 +1,6 @@
--- Isolation (document 01, "Demand 3 and the next rule suppose"): after a session opens, its packets' answers and its close depend on how it was
--- opened, on its own packets since then and on the slices' sizes, on nothing of another session; and whether an open succeeds depends on the
--- set of open IDs and on what it asks for. Said as: two histories that agree on these things give the same answers.
+-- Isolation (document 01, "Demand 3 and the next rule suppose"): after a session opens, its packets' answers and its close depend on how it
+-- was opened, on its own packets since then and on the slices' sizes, on nothing of another session; and whether an open succeeds depends
+-- on the set of open IDs and on what it asks for. Said as: two histories that agree on these things give the same answers.
 use Prim.Native.Nat.{ℕ}
 use mathlib.Core.Path.{_≡_}
 use mathlib.Core.Bool.{cond}

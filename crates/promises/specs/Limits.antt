@@ -1,6 +1,6 @@
--- What no call passes (document 01, "The card in numbers" and "Opening, closing, listening"): one call delivers at most 127 frames and 6,144
--- bytes, each frame has 1 to 2,048 bytes, and the reported gap is 0 to 32,767: for every table, packet and slices. And from an empty table no
--- call makes a broken one, whatever holding slice it brings.
+-- What no call passes (document 01, "The card in numbers" and "Opening, closing, listening"): one call delivers at most 127 frames and
+-- 6,144 bytes, each frame has 1 to 2,048 bytes, and the reported gap is 0 to 32,767: for every table, packet and slices. And from an empty
+-- table no call makes a broken one, whatever holding slice it brings.
 use Prim.Native.Nat.{ℕ, _≤_, _<_}
 use mathlib.Core.Path.{_≡_}
 use mathlib.Core.Bool.{false}

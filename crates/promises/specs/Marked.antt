@@ -1,7 +1,7 @@
--- The marked cases M1 to M12 (document 01, "Marked cases"), one statement over a list. Each case of the receiver begins with an empty card, on which
--- the session of A is opened; it says what packets come before, which packet is looked at, what is answered, which frames the caller then
--- finds, and which bytes each of the session's four flows then holds in its place. (A and B are for flow 1. Of M6 and M7 the paper gives the number alone: here
--- the packet is that of M5 with another number.)
+-- The marked cases M1 to M12 (document 01, "Marked cases"), one statement over a list. Each case of the receiver begins with an empty card,
+-- on which the session of A is opened; it says what packets come before, which packet is looked at, what is answered, which frames the
+-- caller then finds, and which bytes each of the session's four flows then holds in its place. (A and B are for flow 1. Of M6 and M7 the
+-- paper gives the number alone: here the packet is that of M5 with another number.)
 use Prim.Native.Nat.{ℕ, _+_}
 use mathlib.Core.Path.{_≡_}
 use mathlib.Core.List.{List, [], _∷_, _++_}
@@ -21,7 +21,9 @@ use Rattle.card.specs.History.{Card, Call, opens, hands, framesOf, answer, afte
 use Rattle.sender.specs.Series.{Job, Turn, startOfFrame, seriesPackets}
 
 abbrev pub A : List ℕ
-A = 0x00 ∷ 0x00 ∷ 0x01 ∷ 0x01 ∷ 0x41 ∷ 0x02 ∷ 0xFF ∷ 0xFF ∷ 0xC0 ∷ 0x06 ∷ 0x80 ∷ 0x02 ∷ 0x11 ∷ 0x12 ∷ 0x13 ∷ 0x14 ∷ 0x15 ∷ 0x16 ∷ 0x21 ∷ 0x22 ∷ []
+A =
+    0x00 ∷ 0x00 ∷ 0x01 ∷ 0x01 ∷ 0x41 ∷ 0x02 ∷ 0xFF ∷ 0xFF ∷ 0xC0 ∷ 0x06 ∷ 0x80 ∷ 0x02 ∷ 0x11 ∷ 0x12 ∷ 0x13 ∷ 0x14 ∷ 0x15 ∷ 0x16
+    ∷ 0x21 ∷ 0x22 ∷ []
 
 abbrev pub B : List ℕ
 B = 0x00 ∷ 0x00 ∷ 0x01 ∷ 0x01 ∷ 0x41 ∷ 0x01 ∷ 0x00 ∷ 0x00 ∷ 0x40 ∷ 0x07 ∷ 0x23 ∷ 0x24 ∷ 0x25 ∷ 0x26 ∷ 0x27 ∷ 0x28 ∷ 0x29 ∷ []
@@ -40,7 +42,8 @@ beginning n = single 0 0x8000 n (replicate n 0x44)
 abbrev pub last1 : List ℕ
 last1 = single 1 0x4000 1 (0x55 ∷ [])
 
--- what is seen of a data call: the numbers of its answer, the frames that the caller finds, and the bytes that each flow of the session holds afterwards
+-- what is seen of a data call: the numbers of its answer, the frames that the caller finds, and the bytes that each flow of the session
+-- holds afterwards
 pub record Seen : Type 0 where
   pub code : ℕ
   pub frames : ℕ
@@ -70,8 +73,8 @@ seenOf c x =
 abbrev pub onFlow1 : List ℕ → List (List ℕ)
 onFlow1 held = [] ∷ held ∷ [] ∷ [] ∷ []
 
--- accepted: how many frames and bytes are delivered, how many bytes dropped, the gap, the frames found and the bytes held; refused: its number, all counts 0,
--- no frame, and the bytes that are held still
+-- accepted: how many frames and bytes are delivered, how many bytes dropped, the gap, the frames found and the bytes held; refused: its
+-- number, all counts 0, no frame, and the bytes that are held still
 abbrev pub accepts : ℕ → ℕ → ℕ → ℕ → List (List ℕ) → List ℕ → Seen
 accepts frames bytes dropped gap found held =
     record { code = 0; frames = frames; bytes = bytes; dropped = dropped; gap = gap; found = found; held = onFlow1 held }
@@ -137,9 +140,9 @@ Holds (sends job number turns packets) = seriesPackets job number (startOfFrame 
 abbrev pub Marked : Type 0
 Marked = Each Holds cases
 
--- Beside them, of the same form, what the paper's wrong turns and rules ask for and no marked case shows: a frame begun while bytes are held, without a
--- gap, drops these; a gap forbids the join though the lengths would suit; of an overlong frame without E nothing is held, its tail neither; and a segment
--- without B and E joins and is held.
+-- Beside them, of the same form, what the paper's wrong turns and rules ask for and no marked case shows: a frame begun while bytes are
+-- held, without a gap, drops these; a gap forbids the join though the lengths would suit; of an overlong frame without E nothing is held,
+-- its tail neither; and a segment without B and E joins and is held.
 abbrev pub middle1 : ℕ → List ℕ
 middle1 number = single number 0 1 (0x66 ∷ [])
 

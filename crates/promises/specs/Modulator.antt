@@ -1,6 +1,7 @@
--- From the core to the modulator (W3). What comes out of a flow is written as MPEG packets, and a modem's reader gets it back. Together with demand 3: where all that comes out
--- keeps W3's rules, and the writer is called often enough, the frames that a modem gets are precisely those that the core sent and whose every packet arrived before any
--- packet sent after it. And one outcome for each of W3's calls.
+-- From the core to the modulator (W3). What comes out of a flow is written as MPEG packets, and a modem's reader gets it back. Together
+-- with demand 3: where all that comes out keeps W3's rules, and the writer is called often enough, the frames that a modem gets are
+-- precisely those that the core sent and whose every packet arrived before any packet sent after it. And one outcome for each of W3's
+-- calls.
 use Prim.Native.Nat.{ℕ, _≤_}
 use mathlib.Core.Path.{_≡_}
 use mathlib.Core.Bool.{true}
@@ -18,16 +19,16 @@ use Rattle.promises.specs.Arrivals.{Kept}
 use Rattle.promises.specs.Demand.{Sending, Run, comesOut, WholeIn}
 use Rattle.promises.specs.Unique.{OneOutcome, One, SameSlice}
 
--- Every frame that comes out of the card keeps W3's own rules. (One that does not makes the writer answer 52 as long as it is among those given.) It is so where every
--- frame that the core sent keeps them: `sent-may-travel`.
+-- Every frame that comes out of the card keeps W3's own rules. (One that does not makes the writer answer 52 as long as it is among those
+-- given.) It is so where every frame that the core sent keeps them: `sent-may-travel`.
 abbrev pub MayTravel : (s : Sending) → Run s → Type 0
 MayTravel s r = Each Good (comesOut s r)
 
 abbrev pub SentMayTravel : Type 0
 SentMayTravel = (s : Sending) (r : Run s) → Each (λ f. Good (joined f)) (s .frames) → MayTravel s r
 
--- What comes out of a run of the card is given to the writer, in any bursts, with any first count, and the writer is called until all is sent: each call sends at least
--- one byte as long as any wait.
+-- What comes out of a run of the card is given to the writer, in any bursts, with any first count, and the writer is called until all is
+-- sent: each call sends at least one byte as long as any wait.
 pub record Modulation (s : Sending) (r : Run s) : Type 0 where
   pub count : ℕ
   pub bursts : List Burst
@@ -35,7 +36,8 @@ pub record Modulation (s : Sending) (r : Run s) : Type 0 where
   pub all-given : allFrames bursts ≡ comesOut s r
   pub enough : length (joined (comesOut s r)) ≤ calls
 
--- The packets that the writer writes, in order. They are handed out as they are, or with null packets more where no frame has begun (`nulls-between`).
+-- The packets that the writer writes, in order. They are handed out as they are, or with null packets more where no frame has begun
+-- (`nulls-between`).
 abbrev pub leaves : (s : Sending) (r : Run s) → Modulation s r → List ℕ
 leaves s r m = joined (runPackets (noBacklog (m .count)) (drained (m .bursts) (m .calls)))
 

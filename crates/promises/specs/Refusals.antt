@@ -2,7 +2,6 @@
 -- position and the number that it was given. For every table, packet and slices. (That the number is the right one is for the definitions.)
 use Prim.Native.Nat.{ℕ}
 use mathlib.Core.Path.{_≡_}
-use mathlib.Core.List.{List}
 use Rattle.card.specs.History.{Card, Arrival, Call, hands, answer, after}
 use Rattle.sender.specs.Send.{Asked, sent}
 

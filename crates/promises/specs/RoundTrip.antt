@@ -20,8 +20,8 @@ use Rattle.promises.specs.Words.{packetsTo, framesOut, LongEnough, Stays
 use Rattle.promises.specs.Arrivals.{Kept}
 use Rattle.promises.specs.Demand.{Sending, opening, kindOn, Run, WholeIn, comesOut}
 
--- An address and frames that 31 and 33 do not refuse, a number of two bytes, and calls enough to send them: each sends at least one byte, and those
--- behind the last frame are refused by 35 and send nothing. And the ways that the packets take, over IP or over UDP.
+-- An address and frames that 31 and 33 do not refuse, a number of two bytes, and calls enough to send them: each sends at least one byte,
+-- and those behind the last frame are refused by 35 and send nothing. And the ways that the packets take, over IP or over UDP.
 pub record Given : Type 0 where
   pub job : Job
   pub number : ℕ
@@ -53,8 +53,8 @@ pub record SenderKeepsRules : Type 0 where
   pub pieces : Given → List Pieces
   pub are-sent : (g : Given) → IsSent g (pieces g)
 
--- .. and one sending behind another, numbered on, is a sending; and the number that a series gives back is the one to go on with. So frames may be given to
--- the sender 127 at a time, which is all that 33 lets pass, for ever.
+-- .. and one sending behind another, numbered on, is a sending; and the number that a series gives back is the one to go on with. So frames
+-- may be given to the sender 127 at a time, which is all that 33 lets pass, for ever.
 pub record SendingsGoOn : Type 0 where
   pub joined-up : (line : Line) (frames more : List Pieces) (unfinished : Pieces) (packets behind : List Packet) →
       KeepsRules line frames [] packets →

@@ -1,6 +1,7 @@
--- How tight the contracts are (document 01, "How tight the promises are"): for each input there is one permitted answer and one permitted content
--- of table, places and outputs, refused calls included. `Permits..` are the very predicates that the contracts of the calls in the code cite. That
--- something is permitted says that no contract is empty; that any two permitted outcomes are equal, that none leaves its outcome open.
+-- How tight the contracts are (document 01, "How tight the promises are"): for each input there is one permitted answer and one permitted
+-- content of table, places and outputs, refused calls included. `Permits..` are the very predicates that the contracts of the calls in the
+-- code cite. That something is permitted says that no contract is empty; that any two permitted outcomes are equal, that none leaves its
+-- outcome open.
 use Prim.Native.Nat.{ℕ}
 use mathlib.Core.Path.{_≡_}
 use mathlib.Core.List.{List}

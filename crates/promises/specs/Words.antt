@@ -12,7 +12,7 @@ use Rattle.table.specs.declared.Kind.{Kind}
 use Rattle.join.specs.Slices.{mostBytes, mostFrames}
 use Rattle.card.specs.Hear.{flowIn}
 use Rattle.card.specs.Receive.{holdingSize}
-use Rattle.card.specs.History.{Card, Arrival, Call, opens, closes, hands, framesOf, answer, after}
+use Rattle.card.specs.History.{Card, Call, opens, closes, hands, framesOf, answer, after}
 
 -- Of a session are the packets with its ID. There is no telling where an ID stands in a packet by a transport that there is not (24), and
 -- over UDP in one that has T set or another version (15); and a packet that is too short has none (2). These are of no session.

@@ -15,7 +15,8 @@ use Rattle.pspmpeg.specs.declared.gather.Gathered.{Gathered}
 use Rattle.pspmpeg.specs.Inside.{Adds, FitsFound}
 
 -- the frames that a call has left in two slices
-module _ (output lengths : List ℕ) (more : ℕ) (lengths-there : more ≤ length lengths) (bytes-there : sumTo (byteAt lengths) more ≤ length output) where
+module _ (output lengths : List ℕ) (more : ℕ) (lengths-there : more ≤ length lengths)
+    (bytes-there : sumTo (byteAt lengths) more ≤ length output) where
   total-is : total (part lengths 0 more) ≡ sumTo (byteAt lengths) more
   total-is = total-part lengths more lengths-there
 
@@ -27,7 +28,8 @@ module _ (output lengths : List ℕ) (more : ℕ) (lengths-there : more ≤ leng
 
   pub found-many : length (framesFound more lengths output) ≡ more
   found-many =
-      sym (length-lengthsOf (framesFound more lengths output)) ∙ ap length found-lengths ∙ length-part lengths 0 more (omega (arith, lengths-there))
+      sym (length-lengthsOf (framesFound more lengths output)) ∙ ap length found-lengths
+      ∙ length-part lengths 0 more (omega (arith, lengths-there))
 
   pub found-long : length (joined (framesFound more lengths output)) ≡ sumTo (byteAt lengths) more
   found-long = ap length found-joined ∙ length-part output 0 (sumTo (byteAt lengths) more) (omega (arith, bytes-there))
@@ -76,8 +78,10 @@ module _ {lengths sizes₀ sizes : List ℕ} {count more sum i : ℕ} (a : Appen
       let all : i ≡ more = omega (arith, a .within, past) in
       (a .sizes-now ∙ ap (λ (n : ℕ). put sizes₀ count (part lengths 0 n)) all, a .sum-is ∙ ap (sumTo (byteAt lengths)) all)
 
-pub append-adds : {output lengths bytes sizes bytes′ sizes′ : List ℕ} {more sum : ℕ} {g : Gathered} → FitsFound output lengths more bytes sizes g →
-    bytes′ ≡ put bytes (g .bytes) (part output 0 sum) → (sizes′ ≡ put sizes (g .count) (part lengths 0 more)) × (sum ≡ sumTo (byteAt lengths) more) →
+pub append-adds : {output lengths bytes sizes bytes′ sizes′ : List ℕ} {more sum : ℕ} {g : Gathered} →
+    FitsFound output lengths more bytes sizes g →
+    bytes′ ≡ put bytes (g .bytes) (part output 0 sum) →
+    (sizes′ ≡ put sizes (g .count) (part lengths 0 more)) × (sum ≡ sumTo (byteAt lengths) more) →
     Adds (framesFound more lengths output) bytes sizes bytes′ sizes′ g (record { count = g .count + more; bytes = g .bytes + sum })
 append-adds {output} {lengths} {bytes} {sizes} {bytes′} {sizes′} {more} {sum} {g} f b (s, e) =
     record {
@@ -85,7 +89,8 @@ append-adds {output} {lengths} {bytes} {sizes} {bytes′} {sizes′} {more} {sum
           ∙ ap (put bytes (g .bytes)) (sym (found-joined output lengths more (f .lengths-there) (f .bytes-there)));
       sizes-then = s ∙ ap (put sizes (g .count)) (sym (found-lengths output lengths more (f .lengths-there) (f .bytes-there)));
       counts-then =
-          ap (λ (n : ℕ). record { count = g .count + n; bytes = g .bytes + sum }) (sym (found-many output lengths more (f .lengths-there) (f .bytes-there)))
+          ap (λ (n : ℕ). record { count = g .count + n; bytes = g .bytes + sum })
+          (sym (found-many output lengths more (f .lengths-there) (f .bytes-there)))
           ∙ ap (λ (n : ℕ). record { count = g .count + length (framesFound more lengths output); bytes = g .bytes + n })
           (e ∙ sym (found-long output lengths more (f .lengths-there) (f .bytes-there)));
     }

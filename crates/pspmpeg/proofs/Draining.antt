@@ -31,10 +31,17 @@ use Rattle.pspmpeg.specs.Inside.{streamRoom, packetsFrom, streamFrom}
 use Rattle.mpeg.proofs.Surveying.{left-there}
 
 -- where bytes wait a packet is 188 long, and carries 183 at least or all of them
-packet-by : (b : Bool) (head-a head-b waiting : List ℕ) (r : ℕ) → leb payloadLength r ≡ b → r ≤ length waiting → length head-a ≡ 4 → length head-b ≡ 4 →
-    length (cond b (head-a ++ part waiting 0 payloadLength) (head-b ++ (r ∷ filledTo pointedLength (part waiting 0 pointedLength)))) ≡ mpegLength
+packet-by : (b : Bool) (head-a head-b waiting : List ℕ) (r : ℕ) → leb payloadLength r ≡ b → r ≤ length waiting → length head-a ≡ 4 →
+    length head-b ≡ 4 →
+    length (cond b (head-a ++ part waiting 0 payloadLength) (head-b ++ (r ∷ filledTo pointedLength (part waiting 0 pointedLength))))
+    ≡ mpegLength
 packet-by true head-a head-b waiting r e few p q =
-    omega (arith, p, length-append head-a (part waiting 0 payloadLength), length-part waiting 0 payloadLength (omega (arith, leb-true payloadLength r e, few)))
+    omega (
+      arith,
+      p,
+      length-append head-a (part waiting 0 payloadLength),
+      length-part waiting 0 payloadLength (omega (arith, leb-true payloadLength r e, few)),
+    )
 packet-by false head-a head-b waiting r e few p q =
     let x = part waiting 0 pointedLength in
     omega (
@@ -46,12 +53,16 @@ packet-by false head-a head-b waiting r e few p q =
       part-short waiting 0 pointedLength,
     )
 
-pub packet-long : (count r : ℕ) (waiting : List ℕ) → 1 ≤ length waiting → r ≤ length waiting → length (packetOf count r waiting) ≡ mpegLength
+pub packet-long : (count r : ℕ) (waiting : List ℕ) → 1 ≤ length waiting → r ≤ length waiting →
+    length (packetOf count r waiting) ≡ mpegLength
 unfolding packetOf
 packet-long count r [] some few = absurd (not-suc-le-zero some)
-packet-long count r (x ∷ waiting) some few = packet-by (leb payloadLength r) (header false framesPid count) (header true framesPid count) (x ∷ waiting) r refl few refl refl
+packet-long count r (x ∷ waiting) some few =
+    packet-by (leb payloadLength r) (header false framesPid count) (header true framesPid count) (x ∷ waiting) r refl few refl refl
 
-carries-by : (b : Bool) (n : ℕ) → 1 ≤ n → (1 ≤ cond b payloadLength (min pointedLength n)) × ((pointedLength ≤ cond b payloadLength (min pointedLength n)) ⊎ (n ≤ cond b payloadLength (min pointedLength n)))
+carries-by : (b : Bool) (n : ℕ) → 1 ≤ n →
+    (1 ≤ cond b payloadLength (min pointedLength n))
+    × ((pointedLength ≤ cond b payloadLength (min pointedLength n)) ⊎ (n ≤ cond b payloadLength (min pointedLength n)))
 carries-by true n some = (omega arith, inl (omega arith))
 carries-by false n some = (omega arith, split (leb pointedLength n) refl)
   where
@@ -103,7 +114,8 @@ module _ (bytes lengths packet : List ℕ) (long : length packet ≡ mpegLength)
         by (inl h) = ap (λ (n : ℕ). refusedLine n) (ap answered (e ∙ written-bad h)) ∙ rw h refl
         by (inr h) = absurd (some (ap answered (e ∙ written-sound h)))
 
-none-waits : (n : ℕ) (bytes lengths : List ℕ) (place count : ℕ) → length (rest bytes place) ≡ 0 → packetsFrom n bytes lengths place count ≡ []
+none-waits : (n : ℕ) (bytes lengths : List ℕ) (place count : ℕ) → length (rest bytes place) ≡ 0 →
+    packetsFrom n bytes lengths place count ≡ []
 unfolding packetsFrom
 none-waits zero bytes lengths place count e = refl
 none-waits (suc n) bytes lengths place count e = rw (none-length (rest bytes place) e) refl
@@ -137,7 +149,8 @@ drain-begin bytes lengths text h =
       inside = omega arith;
     }
 
-module _ {bytes lengths text₀ text : List ℕ} {place count at : ℕ} (d : Draining bytes lengths text₀ text place count at) (room : streamRoom ≤ length text₀) where
+module _ {bytes lengths text₀ text : List ℕ} {place count at : ℕ} (d : Draining bytes lengths text₀ text place count at)
+    (room : streamRoom ≤ length text₀) where
   pub text-same : length text ≡ length text₀
   text-same = ap length (d .text-now) ∙ length-put text₀ 0 (joined (d .written-so-far)) (omega (arith, d .at-is, d .inside, room))
 
@@ -251,7 +264,8 @@ module _ {bytes lengths text₀ text : List ℕ} {place count at : ℕ} (d : Dra
       let none-left : packetsFrom (d .steps-left) bytes lengths place count ≡ [] = none-more (d .steps-left) in
       let all : packetsFrom (length bytes) bytes lengths 0 0 ≡ d .written-so-far =
       d .all-are ∙ ap (λ (l : List (List ℕ)). d .written-so-far ++ l) none-left ∙ append-nil (d .written-so-far) in
-      wrote-as (ap joined (sym all) ∙ ap (λ (b : Bool). cond b (refusedLine 52) (joined (packetsFrom (length bytes) bytes lengths 0 0))) (sym (d .sound)))
+      wrote-as (ap joined (sym all)
+      ∙ ap (λ (b : Bool). cond b (refusedLine 52) (joined (packetsFrom (length bytes) bytes lengths 0 0))) (sym (d .sound)))
       (record { there = d .text-now; next-place = omega (arith, d .at-is); inside = omega (arith, d .at-is, d .inside, room) })
     where
       none-more : (n : ℕ) → packetsFrom n bytes lengths place count ≡ []
@@ -284,7 +298,8 @@ drain-from (suc n) frames place count =
 pub stream-is : (frames : List (List ℕ)) → streamFrom (joined frames) (lengthsOf frames) ≡ streamOf frames
 unfolding streamFrom
 stream-is frames =
-    ap (λ (b : Bool). cond b (refusedLine 52) (joined (packetsFrom (length (joined frames)) (joined frames) (lengthsOf frames) 0 0))) (bad-is-not-good frames)
+    ap (λ (b : Bool). cond b (refusedLine 52) (joined (packetsFrom (length (joined frames)) (joined frames) (lengthsOf frames) 0 0)))
+    (bad-is-not-good frames)
     ∙ ap (λ (l : List (List ℕ)). cond (not (allGood frames)) (refusedLine 52) (joined l)) (drain-from (length (joined frames)) frames 0 0)
     ∙ by (allGood frames)
   where

@@ -30,7 +30,8 @@ use Rattle.pspmpeg.proofs.Rooms.{few-bytes, few-frames}
 
 -- One entry. What is said of it before it is run is what the definition says.
 module _ {file : List ℕ} {w : Walk} {holding output lengths : List ℕ} (s : Stands file w holding output lengths) (session : ℕ) where
-  pub chosen : (kind : ℕ) (body : List ℕ) (wanted : Bool) → kind ≡ kindAt headLength entryLength file (w .index) → body ≡ nthEntry file (w .index) .body →
+  pub chosen : (kind : ℕ) (body : List ℕ) (wanted : Bool) → kind ≡ kindAt headLength entryLength file (w .index) →
+      body ≡ nthEntry file (w .index) .body →
       wanted ≡ isFor session (w .table) (record { kind = kind; body = body }) →
       framesAt session file (w .index) ≡ cond wanted (framesOf (answerAt file (w .index))) []
   unfolding framesAt nthEntry
@@ -42,7 +43,8 @@ module _ {file : List ℕ} {w : Walk} {holding output lengths : List ℕ} (s : S
       ∙ ap (λ (r : Running). isFor session (r .card .table) (nthEntry file (w .index))) (s .its-run) in
       ap (λ (t : Bool). cond t (framesOf (answerAt file (w .index))) []) (sym same)
 
-pub not-chosen : (found : List (List ℕ)) {frames : List (List ℕ)} {wanted : Bool} {bytes sizes : List ℕ} {g : Gathered} → frames ≡ cond wanted found [] → wanted ≡ false →
+pub not-chosen : (found : List (List ℕ)) {frames : List (List ℕ)} {wanted : Bool} {bytes sizes : List ℕ} {g : Gathered} →
+    frames ≡ cond wanted found [] → wanted ≡ false →
     Adds frames bytes sizes bytes sizes g g
 not-chosen found {frames} {wanted} {bytes} {sizes} {g} e n =
     let none : frames ≡ [] = e ∙ ap (λ (t : Bool). cond t found []) n in
@@ -69,7 +71,8 @@ module _ {file : List ℕ} {w : Walk} {s : Stepped} {holding output lengths : Li
   bytes-there : sumTo (byteAt lengths) more ≤ length output
   bytes-there = omega (arith, there .all-short, there .output-long)
 
-  module _ {frames : List (List ℕ)} {wanted : Bool} (e : frames ≡ cond wanted (framesOf (answerAt file (w .index))) []) (y : wanted ≡ true) where
+  module _ {frames : List (List ℕ)} {wanted : Bool} (e : frames ≡ cond wanted (framesOf (answerAt file (w .index))) [])
+      (y : wanted ≡ true) where
     frames-are : frames ≡ framesFound more lengths output
     frames-are = e ∙ ap (λ (t : Bool). cond t (framesOf (answerAt file (w .index))) []) y ∙ sym (frames-found stepped)
 
@@ -78,20 +81,36 @@ module _ {file : List ℕ} {w : Walk} {s : Stepped} {holding output lengths : Li
         record {
           lengths-there = lengths-there;
           bytes-there = bytes-there;
-          bytes-fit = omega (arith, f .bytes-fit, ap (λ (l : List (List ℕ)). length (joined l)) frames-are, found-long output lengths more lengths-there bytes-there);
-          sizes-fit = omega (arith, f .sizes-fit, ap (λ (l : List (List ℕ)). length l) frames-are, found-many output lengths more lengths-there bytes-there);
+          bytes-fit =
+              omega (
+                arith,
+                f .bytes-fit,
+                ap (λ (l : List (List ℕ)). length (joined l)) frames-are,
+                found-long output lengths more lengths-there bytes-there,
+              );
+          sizes-fit =
+              omega (
+                arith,
+                f .sizes-fit,
+                ap (λ (l : List (List ℕ)). length l) frames-are,
+                found-many output lengths more lengths-there bytes-there,
+              );
         }
 
-    pub adds-found : {bytes sizes bytes′ sizes′ : List ℕ} {g g′ : Gathered} → Adds (framesFound more lengths output) bytes sizes bytes′ sizes′ g g′ →
+    pub adds-found : {bytes sizes bytes′ sizes′ : List ℕ} {g g′ : Gathered} →
+        Adds (framesFound more lengths output) bytes sizes bytes′ sizes′ g g′ →
         Adds frames bytes sizes bytes′ sizes′ g g′
-    adds-found {bytes} {sizes} {bytes′} {sizes′} {g} {g′} a = subst (λ (l : List (List ℕ)). Adds l bytes sizes bytes′ sizes′ g g′) (sym frames-are) a
+    adds-found {bytes} {sizes} {bytes′} {sizes′} {g} {g′} a =
+        subst (λ (l : List (List ℕ)). Adds l bytes sizes bytes′ sizes′ g g′) (sym frames-are) a
 
 -- All entries.
-pub record Gathering (session : ℕ) (file bytes₀ sizes₀ : List ℕ) (stage : Stage) (holding output lengths bytes sizes : List ℕ) : Type 0 where
+pub record Gathering (session : ℕ) (file bytes₀ sizes₀ : List ℕ) (stage : Stage)
+    (holding output lengths bytes sizes : List ℕ) : Type 0 where
   pub stands : Stands file (stage .walk) holding output lengths
   pub so-far : Gathers (deliveredBefore session file (stage .walk .index)) bytes₀ sizes₀ bytes sizes (stage .gathered)
 
-pub gather-begin : {session : ℕ} {file holding output lengths : List ℕ} {w : Walk} (bytes sizes : List ℕ) → Stands file w holding output lengths → w .index ≡ 0 →
+pub gather-begin : {session : ℕ} {file holding output lengths : List ℕ} {w : Walk} (bytes sizes : List ℕ) →
+    Stands file w holding output lengths → w .index ≡ 0 →
     Gathering session file bytes sizes (record { walk = w; gathered = record { count = 0; bytes = 0 } }) holding output lengths bytes sizes
 unfolding deliveredBefore
 gather-begin {session} {file} {holding} {output} {lengths} {w} bytes sizes s z =
@@ -108,7 +127,8 @@ gather-begin {session} {file} {holding} {output} {lengths} {w} bytes sizes s z =
     }
 
 module _ {session : ℕ} {file bytes₀ sizes₀ : List ℕ} {stage : Stage} {holding output lengths bytes sizes : List ℕ}
-    (g : Gathering session file bytes₀ sizes₀ stage holding output lengths bytes sizes) (bytes-long : longestFile ≤ length bytes₀) (sizes-long : mostGathered ≤ length sizes₀) where
+    (g : Gathering session file bytes₀ sizes₀ stage holding output lengths bytes sizes) (bytes-long : longestFile ≤ length bytes₀)
+    (sizes-long : mostGathered ≤ length sizes₀) where
   abbrev before : List (List ℕ)
   before = deliveredBefore session file (stage .walk .index)
 
@@ -125,7 +145,8 @@ module _ {session : ℕ} {file bytes₀ sizes₀ : List ℕ} {stage : Stage} {ho
   bytes-same = ap length (g .so-far .bytes-now) ∙ length-put bytes₀ 0 (joined before) (omega (arith, short, bytes-long))
 
   pub sizes-same : length sizes ≡ length sizes₀
-  sizes-same = ap length (g .so-far .sizes-now) ∙ length-put sizes₀ 0 (lengthsOf before) (omega (arith, length-lengthsOf before, many, sizes-long))
+  sizes-same =
+      ap length (g .so-far .sizes-now) ∙ length-put sizes₀ 0 (lengthsOf before) (omega (arith, length-lengthsOf before, many, sizes-long))
 
   module _ (more : stage .walk .index < entryCount headLength file) where
     abbrev next : List (List ℕ)
@@ -143,12 +164,29 @@ module _ {session : ℕ} {file bytes₀ sizes₀ : List ℕ} {stage : Stage} {ho
     next-fits =
         record {
           bytes-fit =
-              omega (arith, bytes-same, bytes-long, g .so-far .total-is, joined-next, few-bytes session file (suc (stage .walk .index)) (g .stands .sound) (omega (arith, more)));
+              omega (
+                arith,
+                bytes-same,
+                bytes-long,
+                g .so-far .total-is,
+                joined-next,
+                few-bytes session file (suc (stage .walk .index)) (g .stands .sound) (omega (arith, more)),
+              );
           sizes-fit =
-              omega (arith, sizes-same, sizes-long, g .so-far .counted, length-next, few-frames session file (suc (stage .walk .index)), more, is-sound file (g .stands .sound) .few);
+              omega (
+                arith,
+                sizes-same,
+                sizes-long,
+                g .so-far .counted,
+                length-next,
+                few-frames session file (suc (stage .walk .index)),
+                more,
+                is-sound file (g .stands .sound) .few,
+              );
         }
 
-    pub gather-turn : {stage′ : Stage} {holding′ output′ lengths′ bytes′ sizes′ : List ℕ} → Stands file (stage′ .walk) holding′ output′ lengths′ →
+    pub gather-turn : {stage′ : Stage} {holding′ output′ lengths′ bytes′ sizes′ : List ℕ} →
+        Stands file (stage′ .walk) holding′ output′ lengths′ →
         stage′ .walk .index ≡ stage .walk .index + 1 → Adds next bytes sizes bytes′ sizes′ (stage .gathered) (stage′ .gathered) →
         Gathering session file bytes₀ sizes₀ stage′ holding′ output′ lengths′ bytes′ sizes′
     unfolding deliveredBefore
@@ -166,16 +204,22 @@ module _ {session : ℕ} {file bytes₀ sizes₀ : List ℕ} {stage : Stage} {ho
                     ∙ ap (put bytes₀ 0) (sym (joined-append before next));
                 sizes-now =
                     a .sizes-then ∙ ap (λ (l : List ℕ). put l (stage .gathered .count) (lengthsOf next)) (g .so-far .sizes-now)
-                    ∙ ap (λ (n : ℕ). put (put sizes₀ 0 (lengthsOf before)) n (lengthsOf next)) (g .so-far .counted ∙ sym (length-lengthsOf before))
+                    ∙ ap (λ (n : ℕ). put (put sizes₀ 0 (lengthsOf before)) n (lengthsOf next))
+                    (g .so-far .counted ∙ sym (length-lengthsOf before))
                     ∙ put-put-front sizes₀ (lengthsOf before) (lengthsOf next) (omega (arith, length-lengthsOf before, many, sizes-long))
                     ∙ ap (put sizes₀ 0) (sym (lengthsOf-append before next));
-                counted = ap (λ (x : Gathered). x .count) (a .counts-then) ∙ ap (λ (n : ℕ). n + length next) (g .so-far .counted) ∙ sym length-next;
-                total-is = ap (λ (x : Gathered). x .bytes) (a .counts-then) ∙ ap (λ (n : ℕ). n + length (joined next)) (g .so-far .total-is) ∙ sym joined-next;
+                counted =
+                    ap (λ (x : Gathered). x .count) (a .counts-then) ∙ ap (λ (n : ℕ). n + length next) (g .so-far .counted)
+                    ∙ sym length-next;
+                total-is =
+                    ap (λ (x : Gathered). x .bytes) (a .counts-then) ∙ ap (λ (n : ℕ). n + length (joined next)) (g .so-far .total-is)
+                    ∙ sym joined-next;
               });
         }
 
   pub gather-end : entryCount headLength file ≤ stage .walk .index →
-      Gathers (delivered session file) bytes₀ sizes₀ bytes sizes (stage .gathered) × (stage .gathered .bytes ≤ longestFile) × (stage .gathered .count ≤ mostGathered)
+      Gathers (delivered session file) bytes₀ sizes₀ bytes sizes (stage .gathered) × (stage .gathered .bytes ≤ longestFile)
+      × (stage .gathered .count ≤ mostGathered)
   gather-end past =
       let all : stage .walk .index ≡ entryCount headLength file = omega (arith, g .stands .within, past) in (
         subst (λ (n : ℕ). Gathers (deliveredBefore session file n) bytes₀ sizes₀ bytes sizes (stage .gathered)) all (g .so-far),

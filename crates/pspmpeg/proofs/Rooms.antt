@@ -1,16 +1,16 @@
--- The rooms are enough: the frames that a capture delivers on a session have no more bytes than the capture, by the byte account; and an entry
--- delivers no more frames than a call can.
+-- The rooms are enough: the frames that a capture delivers on a session have no more bytes than the capture, by the byte account; and an
+-- entry delivers no more frames than a call can.
 use Prim.Native.Nat.{ℕ, zero, suc, _+_, _-_, _*_, _≤_}
 use mathlib.Core.Path.{_≡_, refl, ap, subst}
 use mathlib.Core.Bool.{Bool, true, false, cond}
 use mathlib.Core.List.{List, [], _∷_}
 use native.Mathlib.Omega.{arith}
 use lib.Dec.{eqb}
-use lib.ListN.{length, drop, replicate, length-append}
+use lib.ListN.{length, replicate, length-append}
 use Rattle.refusal.specs.Refusal.{first}
 use Rattle.octets.specs.Bytes.{be32At}
 use Rattle.octets.specs.Count.{sumTo, upTo}
-use Rattle.octets.specs.Stretch.{part, joined, lengthsOf, cutBy}
+use Rattle.octets.specs.Stretch.{part, joined}
 use Rattle.octets.proofs.Counts.{sum-below}
 use Rattle.octets.proofs.Stretches.{part-short, length-rest, length-joined-none, joined-append, length-cut}
 use Rattle.packet.specs.Header.{Packet, lead, idLength, sub, segmentCount}
@@ -20,14 +20,15 @@ use Rattle.packet.specs.Dmpt.{carried, dmptRefusals}
 use Rattle.packet.proofs.Passing.{psp-passed}
 use Rattle.table.specs.declared.Kind.the-variants as kind
 use Rattle.table.specs.declared.Terms.{Terms}
-use Rattle.table.specs.Rows.{isDmpt, rowAt, termsAt}
+use Rattle.table.specs.Rows.{isDmpt, termsAt}
 use Rattle.join.specs.Slices.{mostFrames, Slices}
 use Rattle.card.specs.Hear.{widthIn}
 use Rattle.card.specs.Receive.{holdingSize, rowOf, flowOf, heldBy, packetRefusals, received}
 use Rattle.card.specs.History.{Card, Arrival, opens, closes, hands, lentWith, framesOf, answer}
 use Rattle.card.proofs.Accepted as call
 use Rattle.card.proofs.Limits.{bodyBytes, accepted-bounded, held-length}
-use Rattle.capture.specs.File.{Entry, headLength, entryLength, longestFile, openPsp, openDmpt, closing, entryCount, bodyLength, bodyStart, fileRefusal, nthEntry}
+use Rattle.capture.specs.File.{Entry, headLength, entryLength, longestFile, openPsp, openDmpt, closing, entryCount, bodyLength, bodyStart}
+use Rattle.capture.specs.File.{fileRefusal, nthEntry}
 use Rattle.capture.proofs.Checking.{is-sound}
 use Rattle.replay.specs.Run.{Running, asks, packetOf, callOf, answerTo, runOne, begin, standing, answerAt}
 use Rattle.replay.proofs.Standing.{frames-short}
@@ -64,7 +65,8 @@ module _ (c : Card) (x : Arrival) where
   abbrev behind : List ℕ
   behind = sub packet
 
-  packet-few : received (c .table) packet slices .answer .code ≡ 0 → length (packetBody (termsAt (c .table) row .kind) behind) ≤ length (packet .bytes)
+  packet-few : received (c .table) packet slices .answer .code ≡ 0 →
+      length (packetBody (termsAt (c .table) row .kind) behind) ≤ length (packet .bytes)
   packet-few z =
       let a = call.accepted (c .table) packet slices z in
       let tells = heard-tells length by-length (termsAt (c .table) row) (flowOf (c .table) row behind)
@@ -95,7 +97,9 @@ entry-few : (r : Running) (e : Entry) → length (takenBy (r .card) (callOf r e)
 entry-few r e = by (eqb (e .kind) openPsp) (eqb (e .kind) openDmpt) (eqb (e .kind) closing)
   where
     by : (a b d : Bool) →
-        length (takenBy (r .card) (cond a (opens (asks kind.Psp e)) (cond b (opens (asks kind.Dmpt e)) (cond d (closes (be32At (e .body) 0)) (hands (lent r e))))))
+        length (takenBy (r .card)
+        (cond a (opens (asks kind.Psp e))
+        (cond b (opens (asks kind.Dmpt e)) (cond d (closes (be32At (e .body) 0)) (hands (lent r e))))))
         ≤ length (e .body)
     by true b d = omega arith
     by false true d = omega arith
@@ -115,7 +119,8 @@ entry-balances file k =
     let x = callOf (standing file k) (nthEntry file k) in
     omega (arith, call-balances table-keeps c (standing-good file k) x, entry-few (standing file k) (nthEntry file k))
 
-chosen-few : (b : Bool) (frames : List (List ℕ)) → (length (cond b frames []) ≤ length frames) × (length (joined (cond b frames [])) ≤ length (joined frames))
+chosen-few : (b : Bool) (frames : List (List ℕ)) →
+    (length (cond b frames []) ≤ length frames) × (length (joined (cond b frames [])) ≤ length (joined frames))
 chosen-few true frames = (omega arith, omega arith)
 chosen-few false frames = (omega arith, omega (arith, length-joined-none))
 
@@ -130,7 +135,8 @@ unfolding nthEntry
 body-short file k = part-short file (bodyStart headLength entryLength file k) (bodyLength headLength entryLength file k)
 
 told-before : (session : ℕ) (file : List ℕ) (k : ℕ) →
-    length (joined (deliveredBefore session file k)) + keptInAll inTable (standing file k .card) ≤ sumTo (bodyLength headLength entryLength file) k
+    length (joined (deliveredBefore session file k)) + keptInAll inTable (standing file k .card)
+    ≤ sumTo (bodyLength headLength entryLength file) k
 unfolding deliveredBefore standing begin sumTo
 told-before session file zero = omega (arith, length-joined-none, empty-keeps table-keeps (replicate holdingSize 0))
 told-before session file (suc k) =

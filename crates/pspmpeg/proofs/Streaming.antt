@@ -14,12 +14,14 @@ use Rattle.pspmpeg.specs.Stream.{delivered, streamBy, stream}
 use Rattle.pspmpeg.specs.Inside.{Gathers, streamFrom}
 use Rattle.pspmpeg.proofs.Draining.{stream-is}
 
-pub stream-refused : (session : ℕ) (file : List ℕ) (number : ℕ) → number ≡ fileRefusal file → (number ≡ 0 → ⊥) → refusedLine number ≡ stream session file
+pub stream-refused : (session : ℕ) (file : List ℕ) (number : ℕ) → number ≡ fileRefusal file → (number ≡ 0 → ⊥) →
+    refusedLine number ≡ stream session file
 unfolding stream streamBy
 stream-refused session file zero e some = absurd (some refl)
 stream-refused session file (suc c) e some = ap (λ (n : ℕ). streamBy n session file) e
 
-pub stream-sound : (session : ℕ) (file : List ℕ) {bytes sizes bytes′ sizes′ text text′ : List ℕ} {g : Gathered} {next : ℕ} → fileRefusal file ≡ 0 →
+pub stream-sound : (session : ℕ) (file : List ℕ) {bytes sizes bytes′ sizes′ text text′ : List ℕ} {g : Gathered} {next : ℕ} →
+    fileRefusal file ≡ 0 →
     Gathers (delivered session file) bytes sizes bytes′ sizes′ g → g .bytes ≤ length bytes → g .count ≤ length sizes →
     Wrote text text′ 0 next (streamFrom (take (g .bytes) bytes′) (take (g .count) sizes′)) → Wrote text text′ 0 next (stream session file)
 unfolding stream streamBy

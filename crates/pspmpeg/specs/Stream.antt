@@ -1,7 +1,7 @@
 -- What pspmpeg writes (W3): the frames that a capture delivers on a session, in the order delivered, as MPEG packets for the modulator. All
 -- frames wait before the first packet is written, and the first count is 0; packets are written until nothing waits. So only the last one
--- is filled up, and there is no null packet. A capture that is refused comes to one line, as in a listing, and so does a frame that W3 does not
--- let travel, by 52.
+-- is filled up, and there is no null packet. A capture that is refused comes to one line, as in a listing, and so does a frame that W3 does
+-- not let travel, by 52.
 use Prim.Native.Nat.{ℕ, zero, suc}
 use mathlib.Core.Bool.{Bool, true, not, cond, _&&_, _||_}
 use mathlib.Core.List.{List, [], _∷_, _++_}
@@ -42,7 +42,8 @@ deliveredBefore session file (suc k) = deliveredBefore session file k ++ framesA
 abbrev pub delivered : ℕ → List ℕ → List (List ℕ)
 delivered session file = deliveredBefore session file (entryCount headLength file)
 
--- The packets of a backlog to which nothing is added, until nothing waits. Each carries a byte at least, so as many steps as there are bytes are enough.
+-- The packets of a backlog to which nothing is added, until nothing waits. Each carries a byte at least, so as many steps as there are
+-- bytes are enough.
 unfoldable pub drain : ℕ → Backlog → List (List ℕ)
 drain zero q = []
 drain (suc n) q = cond (none (waitingIn q)) [] (packetNext q ∷ drain n (afterNext q))

@@ -96,7 +96,8 @@ fn gather_entry(
     bytes: &mut [u8],
     sizes: &mut [u16],
 ) -> Stage
-    requires { ⌜ Stands (now file) (stage .walk) (now holding) (now output) (now lengths) × (stage .walk .index < entryCount headLength (now file)) ⌝ }
+    requires { ⌜ Stands (now file) (stage .walk) (now holding) (now output) (now lengths)
+        × (stage .walk .index < entryCount headLength (now file)) ⌝ }
     requires { ⌜ Fits (framesAt session (now file) (stage .walk .index)) (now bytes) (now sizes) (stage .gathered) ⌝ }
     ensures { λ r. ⌜ Stands (now (file .entry)) (r .walk) (now (holding .exit)) (now (output .exit)) (now (lengths .exit)) ⌝ }
     ensures { λ r. ⌜ r .walk .index ≡ stage .walk .index + 1 ⌝ }

@@ -1,5 +1,5 @@
--- A run of a capture is a history: the answers listed are those of the calls one after another, and the card goes on as they leave it. So what is
--- proved of histories of calls holds of captures.
+-- A run of a capture is a history: the answers listed are those of the calls one after another, and the card goes on as they leave it. So
+-- what is proved of histories of calls holds of captures.
 use Prim.Native.Nat.{ℕ, zero, suc, _+_}
 use mathlib.Core.Path.{_≡_, refl, ap, _∙_}
 use mathlib.Core.List.{List, [], _∷_, _++_}
@@ -31,7 +31,8 @@ callAt file k = callOf (standing file k) (nthEntry file k)
 pub run-card : (file : List ℕ) (k : ℕ) → afterAll startCard (upTo (callAt file) k) ≡ standing file k .card
 unfolding upTo standing begin runOne afterAll
 run-card file zero = refl
-run-card file (suc k) = after-more startCard (upTo (callAt file) k) (callAt file k) ∙ ap (λ (c : Card). after c (callAt file k)) (run-card file k)
+run-card file (suc k) =
+    after-more startCard (upTo (callAt file) k) (callAt file k) ∙ ap (λ (c : Card). after c (callAt file k)) (run-card file k)
 
 pub run-answers : (file : List ℕ) (k : ℕ) → answers startCard (upTo (callAt file) k) ≡ upTo (answerAt file) k
 unfolding upTo answers answerAt

@@ -25,9 +25,14 @@ abbrev entryOf : ℕ → List ℕ → Entry
 entryOf kind body = record { kind = kind; body = body }
 
 -- what an entry comes to, by the call that it stands for
-ran-as : (before : Running) (e : Entry) (x : Call) (r : Received) (holding output lengths : List ℕ) → callOf before e ≡ x → Counts r (answer (before .card) x) →
+ran-as : (before : Running) (e : Entry) (x : Call) (r : Received) (holding output lengths : List ℕ) → callOf before e ≡ x →
+    Counts r (answer (before .card) x) →
     asRunning (r .table) holding output lengths
-    ≡ record { card = after (before .card) x; output = outputAfter x (before .output) (answer (before .card) x); lengths = lengthsAfter x (before .lengths) (answer (before .card) x) } →
+    ≡ record {
+      card = after (before .card) x;
+      output = outputAfter x (before .output) (answer (before .card) x);
+      lengths = lengthsAfter x (before .lengths) (answer (before .card) x);
+    } →
     RunsTo before e r holding output lengths
 unfolding runOne
 ran-as before e x r holding output lengths same counts stands =
@@ -36,7 +41,8 @@ ran-as before e x r holding output lengths same counts stands =
       stands =
           stands
           ∙ ap (λ (y : Call). asRunning (after (before .card) y .table) (after (before .card) y .holding)
-          (outputAfter y (before .output) (answer (before .card) y)) (lengthsAfter y (before .lengths) (answer (before .card) y))) (sym same);
+          (outputAfter y (before .output) (answer (before .card) y))
+          (lengthsAfter y (before .lengths) (answer (before .card) y))) (sym same);
     }
 
 module _ (t : Table) (holding output lengths : List ℕ) (kind : ℕ) (body : List ℕ) where
@@ -47,8 +53,10 @@ module _ (t : Table) (holding output lengths : List ℕ) (kind : ℕ) (body : Li
   lent = record { packet = packetOf (entryOf kind body); output = output; lengths = lengths }
 
   -- an entry that opens, as PSP or as D-MPT
-  opened-as : (asked : Kind) (id : ℕ) (r : Received) → callOf before (entryOf kind body) ≡ opens (asks asked (entryOf kind body)) → id ≡ be32At body 0 →
-      r ≡ answered (opened t (asking asked id) .code) 0 (opened t (asking asked id) .table) → RunsTo before (entryOf kind body) r holding output lengths
+  opened-as : (asked : Kind) (id : ℕ) (r : Received) → callOf before (entryOf kind body) ≡ opens (asks asked (entryOf kind body)) →
+      id ≡ be32At body 0 →
+      r ≡ answered (opened t (asking asked id) .code) 0 (opened t (asking asked id) .table) →
+      RunsTo before (entryOf kind body) r holding output lengths
   unfolding answer after
   opened-as asked id r x i e =
       let e′ : r ≡ answered (opened t (asking asked (be32At body 0)) .code) 0 (opened t (asking asked (be32At body 0)) .table) =
@@ -58,14 +66,16 @@ module _ (t : Table) (holding output lengths : List ℕ) (kind : ℕ) (body : Li
       (record { its-code = refl; its-frames = refl; its-bytes = refl; its-dropped = refl; its-gap = refl }) refl)
 
   -- a body that has to be a session ID can be read as one
-  id-inside : takesLength (bodyIn kinds kind) (length body) ≡ eqb (length body) idBody → takesLength (bodyIn kinds kind) (length body) ≡ true → 0 + 3 < length body
+  id-inside : takesLength (bodyIn kinds kind) (length body) ≡ eqb (length body) idBody →
+      takesLength (bodyIn kinds kind) (length body) ≡ true → 0 + 3 < length body
   id-inside e takes = omega (arith, eqb-true (length body) idBody (sym e ∙ takes))
 
   module _ (psp : kind ≡ openPsp) where
     pub psp-body : takesLength (bodyIn kinds kind) (length body) ≡ true → 0 + 3 < length body
     psp-body = id-inside (rw (eq-eqb kind openPsp psp) refl)
 
-    pub opens-psp : (id : ℕ) (r : Received) → id ≡ be32At body 0 → r ≡ answered (opened t (asking session-kind.Psp id) .code) 0 (opened t (asking session-kind.Psp id) .table) →
+    pub opens-psp : (id : ℕ) (r : Received) → id ≡ be32At body 0 →
+        r ≡ answered (opened t (asking session-kind.Psp id) .code) 0 (opened t (asking session-kind.Psp id) .table) →
         RunsTo before (entryOf kind body) r holding output lengths
     opens-psp id r = opened-as session-kind.Psp id r (rw (eq-eqb kind openPsp psp) refl)
 
@@ -74,7 +84,8 @@ module _ (t : Table) (holding output lengths : List ℕ) (kind : ℕ) (body : Li
       pub dmpt-body : takesLength (bodyIn kinds kind) (length body) ≡ true → 0 + 3 < length body
       dmpt-body = id-inside (rw (ne-eqb kind openPsp other, eq-eqb kind openDmpt dmpt) refl)
 
-      pub opens-dmpt : (id : ℕ) (r : Received) → id ≡ be32At body 0 → r ≡ answered (opened t (asking session-kind.Dmpt id) .code) 0 (opened t (asking session-kind.Dmpt id) .table) →
+      pub opens-dmpt : (id : ℕ) (r : Received) → id ≡ be32At body 0 →
+          r ≡ answered (opened t (asking session-kind.Dmpt id) .code) 0 (opened t (asking session-kind.Dmpt id) .table) →
           RunsTo before (entryOf kind body) r holding output lengths
       opens-dmpt id r = opened-as session-kind.Dmpt id r (rw (ne-eqb kind openPsp other, eq-eqb kind openDmpt dmpt) refl)
 
@@ -86,7 +97,8 @@ module _ (t : Table) (holding output lengths : List ℕ) (kind : ℕ) (body : Li
         pub close-body : takesLength (bodyIn kinds kind) (length body) ≡ true → 0 + 3 < length body
         close-body = id-inside (rw (ne-eqb kind openPsp other, ne-eqb kind openDmpt not-dmpt, eq-eqb kind closing close) refl)
 
-        pub closes-row : (id : ℕ) (r : Received) → id ≡ be32At body 0 → r ≡ answered (closed t id .code) (closed t id .dropped) (closed t id .table) →
+        pub closes-row : (id : ℕ) (r : Received) → id ≡ be32At body 0 →
+            r ≡ answered (closed t id .code) (closed t id .dropped) (closed t id .table) →
             RunsTo before (entryOf kind body) r holding output lengths
         unfolding answer after
         closes-row id r i e =
@@ -110,8 +122,16 @@ module _ (t : Table) (holding output lengths : List ℕ) (kind : ℕ) (body : Li
             let p : PermitsReceive t (packetOf (entryOf kind body)) (asSlices holding output lengths) o =
             subst (λ (n : ℕ). PermitsReceive t (packetBy n body) (asSlices holding output lengths) o) named permitted in
             ran-as before (entryOf kind body) (hands lent) r holding′ output′ lengths′ data-call
-            (record { its-code = p .its-number; its-frames = p .its-frames; its-bytes = p .its-bytes; its-dropped = p .its-dropped; its-gap = p .its-gap })
+            (record {
+              its-code = p .its-number;
+              its-frames = p .its-frames;
+              its-bytes = p .its-bytes;
+              its-dropped = p .its-dropped;
+              its-gap = p .its-gap;
+            })
             (ap (λ (x : Table). asRunning x holding′ output′ lengths′) (p .its-table)
             ∙ ap (λ (x : List ℕ). asRunning (handed (before .card) lent .answer .table) x output′ lengths′) (p .its-holding)
-            ∙ ap (λ (x : List ℕ). asRunning (handed (before .card) lent .answer .table) (handed (before .card) lent .slices .holding) x lengths′) (p .its-output)
-            ∙ ap (asRunning (handed (before .card) lent .answer .table) (handed (before .card) lent .slices .holding) (handed (before .card) lent .slices .output)) (p .its-lengths))
+            ∙ ap (λ (x : List ℕ). asRunning (handed (before .card) lent .answer .table) (handed (before .card) lent .slices .holding) x
+            lengths′) (p .its-output)
+            ∙ ap (asRunning (handed (before .card) lent .answer .table) (handed (before .card) lent .slices .holding)
+            (handed (before .card) lent .slices .output)) (p .its-lengths))

@@ -1,5 +1,5 @@
 -- A walk through the entries of a sound file: what holds before an entry, and one entry further on.
-use Prim.Native.Nat.{ℕ, zero, suc, _+_, _*_, _<_, _≤_}
+use Prim.Native.Nat.{ℕ, suc, _+_, _*_, _<_, _≤_}
 use mathlib.Core.Path.{_≡_, refl, sym, ap, subst, _∙_}
 use mathlib.Core.Bool.{true}
 use mathlib.Core.List.{List}
@@ -18,14 +18,16 @@ use Rattle.replay.specs.declared.Walk.{Walk}
 use Rattle.replay.specs.Run.{Running, answerTo, runOne, begin, standing, answerAt}
 use Rattle.replay.specs.Inside.{asRunning, Counts, RunsTo, Sized, Stands, Begins, Unused, Steps}
 
-module _ {file : List ℕ} {w : Walk} {holding output lengths : List ℕ} (s : Stands file w holding output lengths) (more : w .index < entryCount headLength file) where
+module _ {file : List ℕ} {w : Walk} {holding output lengths : List ℕ} (s : Stands file w holding output lengths)
+    (more : w .index < entryCount headLength file) where
   pub stands-at : StandsAt file (w .index) (w .start)
   stands-at = record { sound = s .sound; not-past = more; its-start = s .its-start }
 
   pub index-few : w .index < mostEntries
   index-few = omega (arith, more, is-sound file (s .sound) .few)
 
-  module _ (kind : ℕ) (body : List ℕ) (k : kind ≡ kindAt headLength entryLength file (w .index)) (b : body ≡ nthEntry file (w .index) .body) where
+  module _ (kind : ℕ) (body : List ℕ) (k : kind ≡ kindAt headLength entryLength file (w .index))
+      (b : body ≡ nthEntry file (w .index) .body) where
     pub takes-length : takesLength (bodyIn kinds kind) (length body) ≡ true
     takes-length =
         ap (λ (x : ℕ). takesLength (bodyIn kinds x) (length body)) k
@@ -40,7 +42,8 @@ module _ {file : List ℕ} {w : Walk} {holding output lengths : List ℕ} (s : S
     pub body-fits : w .start + length body < 18446744073709551616
     body-fits = omega (arith, body-inside stands-at (ap length b ∙ body-long stands-at), is-sound file (s .sound) .short)
 
-    module _ (r : Received) (holding′ output′ lengths′ : List ℕ) (ran : RunsTo (asRunning (w .table) holding output lengths) (record { kind = kind; body = body }) r holding′ output′ lengths′) where
+    module _ (r : Received) (holding′ output′ lengths′ : List ℕ)
+        (ran : RunsTo (asRunning (w .table) holding output lengths) (record { kind = kind; body = body }) r holding′ output′ lengths′) where
       pub counts-are : Counts r (answerAt file (w .index))
       unfolding answerAt
       counts-are =
@@ -58,7 +61,11 @@ module _ {file : List ℕ} {w : Walk} {holding output lengths : List ℕ} (s : S
 
       -- one entry further on
       pub steps : length holding′ ≡ length holding → length output′ ≡ length output → length lengths′ ≡ length lengths →
-          Steps file w (record { kind = kind; answer = r; walk = record { index = w .index + 1; start = w .start + length body; table = r .table } })
+          Steps file w (record {
+            kind = kind;
+            answer = r;
+            walk = record { index = w .index + 1; start = w .start + length body; table = r .table };
+          })
           holding′ output′ lengths′
       steps same-holding same-output same-lengths =
           record {
@@ -89,7 +96,8 @@ unused-sized u =
       lengths-size = ap length (u .lengths-zero) ∙ length-replicate {A = ℕ} mostFrames 0;
     }
 
-pub stands-first : {file holding output lengths : List ℕ} {w : Walk} → Unused file holding output lengths → Begins file w → Stands file w holding output lengths
+pub stands-first : {file holding output lengths : List ℕ} {w : Walk} → Unused file holding output lengths → Begins file w →
+    Stands file w holding output lengths
 unfolding standing begin
 stands-first {file} {holding} {output} {lengths} {w} f b =
     record {
@@ -106,7 +114,8 @@ stands-first {file} {holding} {output} {lengths} {w} f b =
     }
 
 -- so wherever a run stands its slices are as long as those that it began with
-pub slices-same : {file holding₀ output₀ lengths₀ holding output lengths : List ℕ} {w : Walk} → Unused file holding₀ output₀ lengths₀ → Stands file w holding output lengths →
+pub slices-same : {file holding₀ output₀ lengths₀ holding output lengths : List ℕ} {w : Walk} → Unused file holding₀ output₀ lengths₀ →
+    Stands file w holding output lengths →
     (length holding ≡ length holding₀) × (length output ≡ length output₀) × (length lengths ≡ length lengths₀)
 slices-same u s = (
   s .sized .holding-size ∙ sym (unused-sized u .holding-size),
@@ -115,7 +124,8 @@ slices-same u s = (
 )
 
 -- where a sound file's first body starts, and that this is a small number
-pub first-body : (file : List ℕ) (count : ℕ) → count ≡ entryCount headLength file → headLength + entryLength * count ≡ bodyStart headLength entryLength file 0
+pub first-body : (file : List ℕ) (count : ℕ) → count ≡ entryCount headLength file →
+    headLength + entryLength * count ≡ bodyStart headLength entryLength file 0
 first-body file count e = ap (λ (n : ℕ). headLength + entryLength * n) e ∙ sym (start-first file)
 
 pub count-few : (file : List ℕ) (count : ℕ) → fileRefusal file ≡ 0 → count ≡ entryCount headLength file → count ≤ mostEntries

@@ -1,5 +1,5 @@
--- A capture, run from an empty table (document 01, "Capture file and listing"): each entry is a call, and the card goes from entry to entry.
--- The output and the lengths slice are the runner's own, lent again and again, so they go along. All three slices begin as zeros.
+-- A capture, run from an empty table (document 01, "Capture file and listing"): each entry is a call, and the card goes from entry to
+-- entry. The output and the lengths slice are the runner's own, lent again and again, so they go along. All three slices begin as zeros.
 use Prim.Native.Nat.{ℕ, zero, suc}
 use mathlib.Core.Bool.{cond}
 use mathlib.Core.List.{List}

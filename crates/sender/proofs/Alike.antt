@@ -34,26 +34,34 @@ module _ (job : Job) (number : ℕ) (at : Position) (limit : ℕ) (s t : List �
   alike-refused = by (eqb (first early) 0) refl
     where
       by : (b : Bool) → eqb (first early) 0 ≡ b →
-          first (early ++ laterRefusals limit (job .lengths) at (length s)) ≡ first (early ++ laterRefusals limit (job .lengths) at (length t))
+          first (early ++ laterRefusals limit (job .lengths) at (length s))
+          ≡ first (early ++ laterRefusals limit (job .lengths) at (length t))
       by false e =
           let stops = eqb-false (first early) 0 e in
-          first-stopped early (laterRefusals limit (job .lengths) at (length s)) stops ∙ sym (first-stopped early (laterRefusals limit (job .lengths) at (length t)) stops)
+          first-stopped early (laterRefusals limit (job .lengths) at (length s)) stops
+          ∙ sym (first-stopped early (laterRefusals limit (job .lengths) at (length t)) stops)
       by true e =
           let z = eqb-true (first early) 0 e in
-          let small = limit-small (job .session) (job .flow) limit (length (job .bytes)) (job .lengths) (early-passed (job .session) (job .flow) limit (length (job .bytes)) (job .lengths) z) in
+          let small =
+          limit-small (job .session) (job .flow) limit (length (job .bytes)) (job .lengths)
+          (early-passed (job .session) (job .flow) limit (length (job .bytes)) (job .lengths) z) in
           let same : first (laterRefusals limit (job .lengths) at (length s)) ≡ first (laterRefusals limit (job .lengths) at (length t)) =
           rw (le-ltb (length s) (limit + idLength) (s-long small), le-ltb (length t) (limit + idLength) (t-long small)) refl in
-          first-passed early (laterRefusals limit (job .lengths) at (length s)) refl z ∙ same ∙ sym (first-passed early (laterRefusals limit (job .lengths) at (length t)) refl z)
+          first-passed early (laterRefusals limit (job .lengths) at (length s)) refl z ∙ same
+          ∙ sym (first-passed early (laterRefusals limit (job .lengths) at (length t)) refl z)
 
   pub alike-code : one .answer .code ≡ other .answer .code
-  alike-code = code-is (askedFor job number at (record { limit = limit; output = s })) ∙ alike-refused ∙ sym (code-is (askedFor job number at (record { limit = limit; output = t })))
+  alike-code =
+      code-is (askedFor job number at (record { limit = limit; output = s })) ∙ alike-refused
+      ∙ sym (code-is (askedFor job number at (record { limit = limit; output = t })))
 
   module _ (z : first (sendRefusals (askedFor job number at (record { limit = limit; output = s }))) ≡ 0) where
     pub alike-answer : one .answer ≡ other .answer
     unfolding written cutFor
     alike-answer =
         ap (λ (o : SendOutcome). o .answer) (sym (sent-written (askedFor job number at (record { limit = limit; output = s })) z))
-        ∙ ap (λ (o : SendOutcome). o .answer) (sent-written (askedFor job number at (record { limit = limit; output = t })) (sym alike-refused ∙ z))
+        ∙ ap (λ (o : SendOutcome). o .answer)
+        (sent-written (askedFor job number at (record { limit = limit; output = t })) (sym alike-refused ∙ z))
 
     pub alike-packet : packetLeft one ≡ packetLeft other
     unfolding cutFor

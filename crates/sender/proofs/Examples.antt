@@ -63,7 +63,8 @@ abbrev job : Job
 job = record { session = 0x101; flow = 1; bytes = twoFrames; lengths = 6 ∷ 9 ∷ [] }
 
 series : (seriesPackets job 0xFFFF (at 0 0) (turn 20 ∷ turn 16 ∷ [])
-    ≡ (0x00 ∷ 0x00 ∷ 0x01 ∷ 0x01 ∷ 0x41 ∷ 0x02 ∷ 0xFF ∷ 0xFF ∷ 0xC0 ∷ 0x06 ∷ 0x80 ∷ 0x06 ∷ 0x11 ∷ 0x12 ∷ 0x13 ∷ 0x14 ∷ 0x15 ∷ 0x16 ∷ 0x21 ∷ 0x22 ∷ 0x23 ∷ 0x24 ∷ 0x25 ∷ 0x26 ∷ [])
+    ≡ (0x00 ∷ 0x00 ∷ 0x01 ∷ 0x01 ∷ 0x41 ∷ 0x02 ∷ 0xFF ∷ 0xFF ∷ 0xC0 ∷ 0x06 ∷ 0x80 ∷ 0x06 ∷ 0x11 ∷ 0x12 ∷ 0x13 ∷ 0x14 ∷ 0x15 ∷ 0x16 ∷ 0x21
+    ∷ 0x22 ∷ 0x23 ∷ 0x24 ∷ 0x25 ∷ 0x26 ∷ [])
     ∷ (0x00 ∷ 0x00 ∷ 0x01 ∷ 0x01 ∷ 0x41 ∷ 0x01 ∷ 0x00 ∷ 0x00 ∷ 0x40 ∷ 0x03 ∷ 0x27 ∷ 0x28 ∷ 0x29 ∷ []) ∷ [])
     × (seriesPackets job 0xFFFF (at 0 0) (turn 16 ∷ turn 15 ∷ turn 16 ∷ []) ≡ A ∷ [])
     × (seriesEnd job 0xFFFF (at 0 0) (turn 16 ∷ turn 15 ∷ turn 16 ∷ []) ≡ at 1 2)
@@ -76,29 +77,45 @@ gives-back : sent (asks 15 0xFFFF (at 1 2))
 unfolding sent sentBy refused any sumTo
 gives-back = refl
 
--- The limit; positions: behind a frame's last byte, behind the last frame with and without an offset, beyond; the room for L + 4 bytes, though
--- the packet itself would fit (it has 17 bytes from (1, 2) on, and 20 with L = 16).
-limits-and-positions : (code (asks 15 0 (at 0 0)) ≡ 32) × (code (asks 16 0 (at 0 0)) ≡ 0) × (code (asks 4096 0 (at 0 0)) ≡ 36) × (code (asks 4097 0 (at 0 0)) ≡ 32)
-    × (code (asks 16 0 (at 0 5)) ≡ 0) × (code (asks 16 0 (at 0 6)) ≡ 34) × (code (asks 16 0 (at 1 8)) ≡ 0) × (code (asks 16 0 (at 1 9)) ≡ 34)
-    × (code (asks 16 0 (at 2 0)) ≡ 35) × (code (asks 16 0 (at 2 1)) ≡ 34) × (code (asks 16 0 (at 3 0)) ≡ 34) × (code (asks 18 0 (at 0 0)) ≡ 0)
-    × (code (asks 19 0 (at 0 0)) ≡ 36) × (code (asks 19 0 (at 1 2)) ≡ 36) × (code (asks 19 0 (at 2 0)) ≡ 35) × (code (asks 19 0 (at 2 1)) ≡ 34)
+-- The limit; positions: behind a frame's last byte, behind the last frame with and without an offset, beyond; the room for L + 4 bytes,
+-- though the packet itself would fit (it has 17 bytes from (1, 2) on, and 20 with L = 16).
+limits-and-positions : (code (asks 15 0 (at 0 0)) ≡ 32) × (code (asks 16 0 (at 0 0)) ≡ 0) × (code (asks 4096 0 (at 0 0)) ≡ 36)
+    × (code (asks 4097 0 (at 0 0)) ≡ 32)
+    × (code (asks 16 0 (at 0 5)) ≡ 0) × (code (asks 16 0 (at 0 6)) ≡ 34) × (code (asks 16 0 (at 1 8)) ≡ 0)
+    × (code (asks 16 0 (at 1 9)) ≡ 34)
+    × (code (asks 16 0 (at 2 0)) ≡ 35) × (code (asks 16 0 (at 2 1)) ≡ 34) × (code (asks 16 0 (at 3 0)) ≡ 34)
+    × (code (asks 18 0 (at 0 0)) ≡ 0)
+    × (code (asks 19 0 (at 0 0)) ≡ 36) × (code (asks 19 0 (at 1 2)) ≡ 36) × (code (asks 19 0 (at 2 0)) ≡ 35)
+    × (code (asks 19 0 (at 2 1)) ≡ 34)
 unfolding sent sentBy written refused cutFor any sumTo
 limits-and-positions = (refl, refl, refl, refl, refl, refl, refl, refl, refl, refl, refl, refl, refl, refl, refl, refl)
 
--- The address; the frames: lengths of 0, 2,048 and 2,049, sums that are a byte off, 127 and 128 frames, none; and 31 before 32 before 33 before 34.
+-- The address; the frames: lengths of 0, 2,048 and 2,049, sums that are a byte off, 127 and 128 frames, none; and 31 before 32 before 33
+-- before 34.
 abbrev bare : ℕ → ℕ → ℕ → List ℕ → ℕ → Asked
 bare session flow limit lengths n =
-    record { session = session; flow = flow; number = 0; limit = limit; bytes = replicate n 7; lengths = lengths; position = at 0 0; output = replicate 20 0 }
+    record {
+      session = session;
+      flow = flow;
+      number = 0;
+      limit = limit;
+      bytes = replicate n 7;
+      lengths = lengths;
+      position = at 0 0;
+      output = replicate 20 0;
+    }
 
-addresses-and-frames : (code (bare 0 0 16 (1 ∷ []) 1) ≡ 31) × (code (bare 4294967295 0 16 (1 ∷ []) 1) ≡ 0) × (code (bare 1 3 16 (1 ∷ []) 1) ≡ 0) × (code (bare 1 4 16 (1 ∷ []) 1) ≡ 31)
+addresses-and-frames : (code (bare 0 0 16 (1 ∷ []) 1) ≡ 31) × (code (bare 4294967295 0 16 (1 ∷ []) 1) ≡ 0)
+    × (code (bare 1 3 16 (1 ∷ []) 1) ≡ 0) × (code (bare 1 4 16 (1 ∷ []) 1) ≡ 31)
     × (code (bare 1 0 16 (1 ∷ 0 ∷ []) 1) ≡ 33) × (code (bare 1 0 16 (2048 ∷ []) 2048) ≡ 0) × (code (bare 1 0 16 (2049 ∷ []) 2049) ≡ 33)
-    × (code (bare 1 0 16 (3 ∷ []) 2) ≡ 33) × (code (bare 1 0 16 (3 ∷ []) 4) ≡ 33) × (code (bare 1 0 16 (replicate 127 1) 127) ≡ 0) × (code (bare 1 0 16 (replicate 128 1) 128) ≡ 33)
+    × (code (bare 1 0 16 (3 ∷ []) 2) ≡ 33) × (code (bare 1 0 16 (3 ∷ []) 4) ≡ 33) × (code (bare 1 0 16 (replicate 127 1) 127) ≡ 0)
+    × (code (bare 1 0 16 (replicate 128 1) 128) ≡ 33)
     × (code (bare 1 0 16 [] 0) ≡ 35) × (code (bare 1 0 16 [] 1) ≡ 33) × (code (bare 0 0 15 [] 1) ≡ 31) × (code (bare 1 0 15 [] 1) ≡ 32)
 unfolding sent sentBy written refused cutFor any sumTo
 addresses-and-frames = (refl, refl, refl, refl, refl, refl, refl, refl, refl, refl, refl, refl, refl, refl, refl)
 
--- The cut, by how much room is left: a room of 12 and a first frame of n bytes leave 10 - n. With 3 left a byte of the second frame is placed,
--- with 2, 1 or 0 nothing; and a frame of 11 is cut.
+-- The cut, by how much room is left: a room of 12 and a first frame of n bytes leave 10 - n. With 3 left a byte of the second frame is
+-- placed, with 2, 1 or 0 nothing; and a frame of 11 is cut.
 abbrev cuts : ℕ → SendOutcome
 cuts n =
     sent (record {
@@ -130,7 +147,16 @@ room-bytes = (refl, refl, refl)
 -- 127 frames of one byte with the greatest limit: all in one packet, though there is room for more; then nothing is left
 abbrev many : ℕ → Asked
 many frame =
-    record { session = 1; flow = 3; number = 7; limit = 4096; bytes = replicate 127 9; lengths = replicate 127 1; position = at frame 0; output = replicate 4100 0 }
+    record {
+      session = 1;
+      flow = 3;
+      number = 7;
+      limit = 4096;
+      bytes = replicate 127 9;
+      lengths = replicate 127 1;
+      position = at frame 0;
+      output = replicate 4100 0;
+    }
 
 all-127 : ((sent (many 0)) .answer ≡ record { code = 0; length = 389; position = at 127 0; number = 8 }) × (code (many 127) ≡ 35)
 unfolding sent sentBy written refused cutFor cut packetOf frameStart part put joined any sumTo next

@@ -1,5 +1,5 @@
--- What the rules of any sender allow and what they exclude, by computation: packets A and B of document 01 keep them, and for each rule there
--- are packets that do not. Without that rule the line would be refused.
+-- What the rules of any sender allow and what they exclude, by computation: packets A and B of document 01 keep them, and for each rule
+-- there are packets that do not. Without that rule the line would be refused.
 use Prim.Native.Nat.{ℕ, zero, suc, _<_}
 use mathlib.Core.Path.{_≡_, refl, ap}
 use mathlib.Core.Bool.{true, false}
@@ -32,14 +32,17 @@ behind = 0x23 ∷ 0x24 ∷ 0x25 ∷ 0x26 ∷ 0x27 ∷ 0x28 ∷ 0x29 ∷ []
 marks : (wholeFrame true (front ∷ six ∷ behind ∷ [])
     ≡ record { begins = true; ends = false; body = front } ∷ record { begins = false; ends = false; body = six }
     ∷ record { begins = false; ends = true; body = behind } ∷ [])
-    × (begunFrame true (front ∷ six ∷ []) ≡ record { begins = true; ends = false; body = front } ∷ record { begins = false; ends = false; body = six } ∷ [])
+    × (begunFrame true (front ∷ six ∷ [])
+    ≡ record { begins = true; ends = false; body = front } ∷ record { begins = false; ends = false; body = six } ∷ [])
     × (inTurn ((six ∷ []) ∷ (front ∷ behind ∷ []) ∷ [])
-    ≡ record { begins = true; ends = true; body = six } ∷ record { begins = true; ends = false; body = front } ∷ record { begins = false; ends = true; body = behind } ∷ [])
+    ≡ record { begins = true; ends = true; body = six } ∷ record { begins = true; ends = false; body = front }
+    ∷ record { begins = false; ends = true; body = behind } ∷ [])
 unfolding wholeFrame begunFrame inTurn
 marks = (refl, refl, refl)
 
 a-and-b : KeepsRules (record { session = 0x101; flow = 1; start = 0xFFFF }) ((six ∷ []) ∷ (front ∷ behind ∷ []) ∷ []) [] (ip A ∷ ip B ∷ [])
-unfolding check checkRefusals segments segmentAt bodyAt wanted part rest joined any sumTo upTo wholeFrame begunFrame inTurn allSegments numberAt
+unfolding check checkRefusals segments segmentAt bodyAt wanted part rest joined any sumTo upTo wholeFrame begunFrame inTurn
+    allSegments numberAt
 a-and-b =
     record {
       sizes = ((omega arith, omega arith), ((omega arith, omega arith), tt));
@@ -73,7 +76,8 @@ module _ (line : Line) (frames : List Pieces) (unfinished : Pieces) (packets : L
   no-other-session : KeepsRules (record { session = 0x102; flow = line .flow; start = line .start }) frames unfinished (ip A ∷ packets) → ⊥
   no-other-session k = omega (arith, k .addressed .0 .0)
 
-  no-other-flow : KeepsRules (record { session = line .session; flow = 2; start = line .start }) frames unfinished (ip A ∷ ip B ∷ packets) → ⊥
+  no-other-flow : KeepsRules (record { session = line .session; flow = 2; start = line .start }) frames unfinished
+      (ip A ∷ ip B ∷ packets) → ⊥
   unfolding rest
   no-other-flow k = omega (arith, k .addressed .1 .0 .1)
 
@@ -82,7 +86,8 @@ module _ (line : Line) (frames : List Pieces) (unfinished : Pieces) (packets : L
   unfolding rest numberAt
   no-other-start k = omega (arith, k .numbered 0 (omega arith))
 
-  no-number-twice : KeepsRules (record { session = line .session; flow = line .flow; start = 0xFFFF }) frames unfinished (ip A ∷ ip A ∷ packets) → ⊥
+  no-number-twice : KeepsRules (record { session = line .session; flow = line .flow; start = 0xFFFF }) frames unfinished
+      (ip A ∷ ip A ∷ packets) → ⊥
   unfolding rest numberAt
   no-number-twice k = omega (arith, k .numbered 1 (omega arith))
 

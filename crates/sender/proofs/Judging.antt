@@ -18,7 +18,8 @@ use Rattle.flow.specs.Flow.{topFlow}
 use Rattle.packet.specs.Header.{idLength}
 use Rattle.sender.specs.declared.Position.{Position}
 use Rattle.sender.specs.Cut.{frameLength}
-use Rattle.sender.specs.Send.{mostFrames, leastLimit, greatestLimit, badAddress, badLimit, badSize, badLength, badFrames, outside, earlyRefusals, laterRefusals}
+use Rattle.sender.specs.Send.{mostFrames, leastLimit, greatestLimit, badAddress, badLimit, badSize, badLength, badFrames, outside}
+use Rattle.sender.specs.Send.{earlyRefusals, laterRefusals}
 
 -- The survey of the lengths.
 pub record Surveying (lengths : List ℕ) (n total : ℕ) (bad : Bool) (k : ℕ) : Type 0 where
@@ -27,7 +28,8 @@ pub record Surveying (lengths : List ℕ) (n total : ℕ) (bad : Bool) (k : ℕ)
   pub small : total ≤ 65536 * k
 
 pub survey-begin : (lengths : List ℕ) (n : ℕ) → Surveying lengths n 0 false 0
-survey-begin lengths n = record { gathered = gather-begin false (badLength lengths) n; sum = sym (sum-none (frameLength lengths)); small = omega arith }
+survey-begin lengths n =
+    record { gathered = gather-begin false (badLength lengths) n; sum = sym (sum-none (frameLength lengths)); small = omega arith }
 
 pub survey-turn : {lengths : List ℕ} {n total : ℕ} {bad : Bool} {k size : ℕ} {r : Bool} → Surveying lengths n total bad k → k < n →
     size ≡ frameLength lengths k → size < 65536 → r ≡ badSize size → Surveying lengths n (total + size) (bad || r) (k + 1)
@@ -38,10 +40,13 @@ survey-turn {lengths} {n} {total} {bad} {k} {size} {r} s l e small j =
       small = omega (arith, s .small);
     }
 
-pub survey-sum : {lengths : List ℕ} {n total : ℕ} {bad : Bool} {k : ℕ} → Surveying lengths n total bad k → n ≤ k → total ≡ sumTo (frameLength lengths) n
-survey-sum {lengths} {n} {total} {bad} {k} s l = let q : k ≡ n = omega (arith, s .gathered .within) in s .sum ∙ ap (sumTo (frameLength lengths)) q
+pub survey-sum : {lengths : List ℕ} {n total : ℕ} {bad : Bool} {k : ℕ} → Surveying lengths n total bad k → n ≤ k →
+    total ≡ sumTo (frameLength lengths) n
+survey-sum {lengths} {n} {total} {bad} {k} s l =
+    let q : k ≡ n = omega (arith, s .gathered .within) in s .sum ∙ ap (sumTo (frameLength lengths)) q
 
-pub survey-bad : {lengths : List ℕ} {n total : ℕ} {bad : Bool} {k : ℕ} → Surveying lengths n total bad k → n ≤ k → bad ≡ any (badLength lengths) n
+pub survey-bad : {lengths : List ℕ} {n total : ℕ} {bad : Bool} {k : ℕ} → Surveying lengths n total bad k → n ≤ k →
+    bad ≡ any (badLength lengths) n
 survey-bad s l = gather-end (s .gathered) l
 
 pub survey-small : {lengths : List ℕ} {n total : ℕ} {bad : Bool} {k : ℕ} → Surveying lengths n total bad k → n ≤ k → total ≤ 65536 * n
@@ -52,14 +57,21 @@ pub frames-many : (total : ℕ) (lengths : List ℕ) → mostFrames < length len
 frames-many total lengths h = simp (lt-ltb mostFrames (length lengths) h)
 
 pub frames-judged : (total : ℕ) (lengths : List ℕ) → length lengths ≤ mostFrames → (sum : ℕ) (bad : Bool) →
-    sum ≡ sumTo (frameLength lengths) (length lengths) → bad ≡ any (badLength lengths) (length lengths) → (bad || not (eqb sum total)) ≡ badFrames total lengths
+    sum ≡ sumTo (frameLength lengths) (length lengths) → bad ≡ any (badLength lengths) (length lengths) →
+    (bad || not (eqb sum total)) ≡ badFrames total lengths
 frames-judged total lengths few sum bad e j = rw (e, j, le-ltb mostFrames (length lengths) few) refl
 
 -- Refusal 34.
 module _ (lengths : List ℕ) (at : Position) where
-  pub outside-frame : at .frame < length lengths → (size : ℕ) → size ≡ frameLength lengths (at .frame) → leb size (at .offset) ≡ outside lengths at
+  pub outside-frame : at .frame < length lengths → (size : ℕ) → size ≡ frameLength lengths (at .frame) →
+      leb size (at .offset) ≡ outside lengths at
   outside-frame l size e =
-      rw (e, le-ltb (length lengths) (at .frame) (omega arith), lt-ltb (at .frame) (length lengths) l, ne-eqb (at .frame) (length lengths) (λ z. omega arith))
+      rw (
+        e,
+        le-ltb (length lengths) (at .frame) (omega arith),
+        lt-ltb (at .frame) (length lengths) l,
+        ne-eqb (at .frame) (length lengths) (λ z. omega arith),
+      )
       (below (frameLength lengths (at .frame)) (at .offset))
     where
       by : (n m : ℕ) (t : Bool) → ltb m n ≡ t → leb n m ≡ (not t || false)
@@ -73,7 +85,11 @@ module _ (lengths : List ℕ) (at : Position) where
   outside-behind h =
       ⊎-elim
       (λ (e : length lengths ≡ at .frame).
-      rw (le-ltb (length lengths) (at .frame) (omega arith), le-ltb (at .frame) (length lengths) h, eq-eqb (at .frame) (length lengths) (sym e)) refl)
+      rw (
+        le-ltb (length lengths) (at .frame) (omega arith),
+        le-ltb (at .frame) (length lengths) h,
+        eq-eqb (at .frame) (length lengths) (sym e),
+      ) refl)
       (λ (l : length lengths < at .frame). rw (lt-ltb (length lengths) (at .frame) l) refl)
       (eq-or-lt-of-le h)
 
@@ -112,11 +128,14 @@ pub record Passed (session flow limit total : ℕ) (lengths : List ℕ) : Type 0
   pub limited : badLimit limit ≡ false
   pub frames-sound : badFrames total lengths ≡ false
 
-early-of : (session flow limit total : ℕ) (lengths : List ℕ) → NoneApplies (earlyRefusals session flow limit total lengths) → Passed session flow limit total lengths
+early-of : (session flow limit total : ℕ) (lengths : List ℕ) → NoneApplies (earlyRefusals session flow limit total lengths) →
+    Passed session flow limit total lengths
 early-of session flow limit total lengths n = record { addressed = n .0; limited = n .1 .0; frames-sound = n .1 .1 .0 }
 
-pub early-passed : (session flow limit total : ℕ) (lengths : List ℕ) → first (earlyRefusals session flow limit total lengths) ≡ 0 → Passed session flow limit total lengths
-early-passed session flow limit total lengths z = early-of session flow limit total lengths (none-applies (earlyRefusals session flow limit total lengths) refl z)
+pub early-passed : (session flow limit total : ℕ) (lengths : List ℕ) → first (earlyRefusals session flow limit total lengths) ≡ 0 →
+    Passed session flow limit total lengths
+early-passed session flow limit total lengths z =
+    early-of session flow limit total lengths (none-applies (earlyRefusals session flow limit total lengths) refl z)
 
 module _ (session flow limit total : ℕ) (lengths : List ℕ) (p : Passed session flow limit total lengths) where
   pub has-session : session ≡ 0 → ⊥

@@ -39,7 +39,10 @@ module _ (a : Asked) where
   sent-refused code e s = refused-by a code s ∙ ap (λ (c : ℕ). sentBy c a) e
 
   pub send-refused : (code : ℕ) → code ≡ first (sendRefusals a) → (code ≡ 0 → ⊥) →
-      _≡_ {A = SendOutcome} (record { answer = record { code = code; length = 0; position = a .position; number = a .number }; output = a .output }) (sent a)
+      _≡_ {A = SendOutcome} (record {
+        answer = record { code = code; length = 0; position = a .position; number = a .number };
+        output = a .output;
+      }) (sent a)
   unfolding refused
   send-refused code e s = sent-refused code e s
 
@@ -75,16 +78,24 @@ module _ (a : Asked) where
           small = omega (arith, small);
         }
 
-    pub packet-small : (count bytes : ℕ) → entryWidth * count + bytes ≤ a .limit - headerLength → shortestPacket + entryWidth * count + bytes ≤ 4100
+    pub packet-small : (count bytes : ℕ) → entryWidth * count + bytes ≤ a .limit - headerLength →
+        shortestPacket + entryWidth * count + bytes ≤ 4100
     packet-small count bytes h = omega (arith, small, enough)
 
     module _ (p : Progress) (between after : List ℕ)
-        (w : Written (cutOf (a .bytes) (a .lengths) (a .limit - headerLength) (a .position)) (a .output) between (a .limit - headerLength) p)
+        (w : Written (cutOf (a .bytes) (a .lengths) (a .limit - headerLength) (a .position)) (a .output) between
+        (a .limit - headerLength) p)
         (h : after ≡ put between 0 (headerOf (a .session) (a .flow) (p .count) (a .number))) where
       -- the code's answer is the definition's
       pub send-done : _≡_ {A = SendOutcome}
           (record {
-            answer = record { code = 0; length = shortestPacket + entryWidth * p .count + p .bytes; position = p .position; number = next (a .number) };
+            answer =
+                record {
+                  code = 0;
+                  length = shortestPacket + entryWidth * p .count + p .bytes;
+                  position = p .position;
+                  number = next (a .number);
+                };
             output = after;
           })
           (sent a)

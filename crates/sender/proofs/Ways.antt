@@ -1,12 +1,11 @@
 -- A packet that goes over UDP is the packet that would have gone over IP (`Transports` of crate `packet`). So a sender that keeps the rules
 -- over IP keeps them over UDP too, and over both in any mixture.
 use Prim.Native.Nat.{ℕ, zero, suc, _<_}
-use mathlib.Core.Path.{_≡_, refl, sym, ap, _∙_}
+use mathlib.Core.Path.{_≡_, refl, ap, _∙_}
 use mathlib.Core.Bool.{Bool, true, false, cond}
 use mathlib.Core.List.{List, [], _∷_, _++_, map}
 use lib.ListN.{length}
 use Rattle.octets.specs.Each.{Each}
-use Rattle.flow.specs.Numbers.{numberAt}
 use Rattle.packet.specs.Header.{Packet, ip, inUdp, sub, sSet, flowId, number}
 use Rattle.packet.specs.Segments.{Segment, entryWidth, segments}
 use Rattle.packet.specs.Check.{kindPsp, check}

@@ -49,7 +49,8 @@ abbrev pub positionAfter : Position → ℕ → Bool → Position
 positionAfter at n ends = cond ends (nextFrame at) (fartherOn at n)
 
 abbrev pub entryFor : List ℕ → Progress → List ℕ
-entryFor lengths p = two (entryNumber (eqb (p .position .offset) 0) (eqb (sizeFor lengths p) (leftOf lengths (p .position))) (sizeFor lengths p))
+entryFor lengths p =
+    two (entryNumber (eqb (p .position .offset) 0) (eqb (sizeFor lengths p) (leftOf lengths (p .position))) (sizeFor lengths p))
 
 abbrev pub withEntry : List ℕ → List ℕ → Progress → List ℕ
 withEntry output lengths p = put output (entriesAt + entryWidth * p .count) (entryFor lengths p)

@@ -44,15 +44,18 @@ unfolding opened broken any least
 opened-so = (refl, refl, refl, refl)
 
 -- where a session stands, and what it is
-there : (find one 7 ≡ 0) × (find six 12 ≡ 5) × (find six 13 ≡ 6) × (find empty 0 ≡ 6) × (rowAt one 0 ≡ row-of 7 1) × (rowAt six 1 ≡ row-of 8 2)
+there : (find one 7 ≡ 0) × (find six 12 ≡ 5) × (find six 13 ≡ 6) × (find empty 0 ≡ 6) × (rowAt one 0 ≡ row-of 7 1)
+    × (rowAt six 1 ≡ row-of 8 2)
     × (rowAt one 1 ≡ closedRow)
 unfolding opened broken any least
 there = (refl, refl, refl, refl, refl, refl, refl)
 
--- opening: ID 0, also in a full table; an open ID, also in a full table and as another kind; a seventh session; a refused open changes nothing
+-- opening: ID 0, also in a full table; an open ID, also in a full table and as another kind; a seventh session; a refused open changes
+-- nothing
 opens-answered : ((openedAs empty 7 kind.Psp) .code ≡ 0) × ((openedAs empty 0 kind.Psp) .code ≡ 21) × ((openedAs six 0 kind.Psp) .code ≡ 21)
     × ((openedAs one 7 kind.Dmpt) .code ≡ 22) × ((openedAs six 7 kind.Psp) .code ≡ 22) × ((openedAs six 13 kind.Psp) .code ≡ 23)
-    × ((openedAs six 13 kind.Psp) .table ≡ six) × ((openedAs one 7 kind.Dmpt) .table ≡ one) × ((openedAs empty 4294967295 kind.Dmpt) .code ≡ 0)
+    × ((openedAs six 13 kind.Psp) .table ≡ six) × ((openedAs one 7 kind.Dmpt) .table ≡ one)
+    × ((openedAs empty 4294967295 kind.Dmpt) .code ≡ 0)
 unfolding opened broken any least
 opens-answered = (refl, refl, refl, refl, refl, refl, refl, refl, refl)
 
@@ -66,18 +69,22 @@ again = (refl, refl)
 closes-answered : ((closed (withFlow one 0 3 (flow-of 1 5 2048)) 7) .dropped ≡ 2048)
     × ((closed (withFlow (withFlow one 0 3 (flow-of 1 5 2048)) 0 1 (flow-of 1 5 10)) 7) .dropped ≡ 2058)
     × ((closed (withFlow one 0 3 (flow-of 1 5 2048)) 7) .code ≡ 0) × ((closed (withFlow one 0 3 (flow-of 1 5 2048)) 7) .table ≡ empty)
-    × ((closed one 7) .table ≡ empty) × ((closed one 7) .dropped ≡ 0) × ((closed one 8) .code ≡ 25) × ((closed one 0) .code ≡ 25) × ((closed empty 0) .code ≡ 25)
+    × ((closed one 7) .table ≡ empty) × ((closed one 7) .dropped ≡ 0) × ((closed one 8) .code ≡ 25) × ((closed one 0) .code ≡ 25)
+    × ((closed empty 0) .code ≡ 25)
     × ((closed (withFlow one 0 3 (flow-of 1 5 10)) 8) .dropped ≡ 0)
 unfolding opened closed broken any least sumTo
 closes-answered = (refl, refl, refl, refl, refl, refl, refl, refl, refl, refl)
 
 -- 13 comes first, and from a row that has nothing to do with the call: row 5 is closed and not all zero
-elsewhere : ((openedAs (withFlow one 5 3 (flow-of 1 0 0)) 9 kind.Psp) .code ≡ 13) × ((openedAs (withFlow one 5 3 (flow-of 1 0 0)) 0 kind.Psp) .code ≡ 13)
-    × ((closed (withFlow one 5 3 (flow-of 1 0 0)) 7) .code ≡ 13) × ((closed (withFlow one 5 3 (flow-of 1 0 0)) 7) .table ≡ withFlow one 5 3 (flow-of 1 0 0))
+elsewhere : ((openedAs (withFlow one 5 3 (flow-of 1 0 0)) 9 kind.Psp) .code ≡ 13)
+    × ((openedAs (withFlow one 5 3 (flow-of 1 0 0)) 0 kind.Psp) .code ≡ 13)
+    × ((closed (withFlow one 5 3 (flow-of 1 0 0)) 7) .code ≡ 13)
+    × ((closed (withFlow one 5 3 (flow-of 1 0 0)) 7) .table ≡ withFlow one 5 3 (flow-of 1 0 0))
 unfolding opened closed broken any least sumTo
 elsewhere = (refl, refl, refl, refl)
 
--- An open row with ID 0; an open ID in two rows, neighbours or not, of two kinds; a closed row with an ID, and with each number of a flow not 0
+-- An open row with ID 0; an open ID in two rows, neighbours or not, of two kinds; a closed row with an ID, and with each number of a flow
+-- not 0
 rows-broken : (broken (withRow six 0 (row-of 0 1)) ≡ true) × (broken (withRow six 3 (row-of 0 2)) ≡ true)
     × (broken (withRow six 5 (row-of 7 1)) ≡ true) × (broken (withRow six 2 (row-of 8 1)) ≡ true)
     × (broken (withRow empty 5 (row-of 7 0)) ≡ true) × (broken (withFlow empty 5 3 (flow-of 1 0 0)) ≡ true)
@@ -85,7 +92,8 @@ rows-broken : (broken (withRow six 0 (row-of 0 1)) ≡ true) × (broken (withRow
 unfolding opened broken any least
 rows-broken = (refl, refl, refl, refl, refl, refl, refl, refl)
 
--- 2,049 bytes held; a fresh flow with a number expected, or with bytes held; D-MPT with a byte held, in flow 0 and in flow 2, and with flow 1 or 3 heard
+-- 2,049 bytes held; a fresh flow with a number expected, or with bytes held; D-MPT with a byte held, in flow 0 and in flow 2, and with flow
+-- 1 or 3 heard
 flows-broken : (broken (withFlow six 0 2 (flow-of 1 0 2049)) ≡ true) × (broken (withFlow six 0 2 (flow-of 0 1 0)) ≡ true)
     × (broken (withFlow six 0 2 (flow-of 0 0 1)) ≡ true) × (broken (withFlow six 1 0 (flow-of 1 0 1)) ≡ true)
     × (broken (withFlow six 1 2 (flow-of 1 0 1)) ≡ true) × (broken (withFlow six 1 1 (flow-of 1 0 0)) ≡ true)
@@ -93,7 +101,8 @@ flows-broken : (broken (withFlow six 0 2 (flow-of 1 0 2049)) ≡ true) × (broke
 unfolding opened broken any least
 flows-broken = (refl, refl, refl, refl, refl, refl, refl)
 
--- just not broken: 2,048 bytes held in the last flow of the last row, a D-MPT session that has heard a number, the empty table, the full one
+-- just not broken: 2,048 bytes held in the last flow of the last row, a D-MPT session that has heard a number, the empty table, the full
+-- one
 not-broken : (broken (withFlow six 5 3 (flow-of 1 65535 2048)) ≡ false) × (broken (withFlow six 1 0 (flow-of 1 9 0)) ≡ false)
     × (broken empty ≡ false) × (broken six ≡ false) × (broken one ≡ false)
 unfolding opened broken any least
@@ -133,7 +142,8 @@ asked-by-number = (refl, refl, refl, refl, refl, refl)
 -- every flow of the closed row is counted, and of no other row: session 9 stands in row 2, session 7 in row 0
 abbrev holding : Table
 holding =
-    withFlow (withFlow (withFlow (withFlow (withFlow six 2 0 (flow-of 1 5 1)) 2 1 (flow-of 1 5 10)) 2 2 (flow-of 1 5 100)) 2 3 (flow-of 1 5 1000))
+    withFlow (withFlow (withFlow (withFlow (withFlow six 2 0 (flow-of 1 5 1)) 2 1 (flow-of 1 5 10)) 2 2 (flow-of 1 5 100)) 2 3
+    (flow-of 1 5 1000))
     0 0 (flow-of 1 5 2000)
 
 all-flows : ((closed holding 9) .dropped ≡ 1111) × ((closed holding 7) .dropped ≡ 2000) × ((closed holding 10) .dropped ≡ 0)
@@ -141,7 +151,8 @@ unfolding closed broken any least sumTo
 all-flows = (refl, refl, refl)
 
 -- 13 before 22 and before 25
-first-13 : ((openedAs (withFlow one 5 3 (flow-of 1 0 0)) 7 kind.Psp) .code ≡ 13) × ((closed (withFlow one 5 3 (flow-of 1 0 0)) 9) .code ≡ 13)
+first-13 : ((openedAs (withFlow one 5 3 (flow-of 1 0 0)) 7 kind.Psp) .code ≡ 13)
+    × ((closed (withFlow one 5 3 (flow-of 1 0 0)) 9) .code ≡ 13)
     × ((closed (withFlow one 5 3 (flow-of 1 0 0)) 0) .code ≡ 13)
 unfolding opened closed broken any least sumTo
 first-13 = (refl, refl, refl)

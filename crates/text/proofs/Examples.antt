@@ -20,7 +20,8 @@ pub three-digits : (decimal 100 ≡ ascii "100") × (decimal 127 ≡ ascii "127"
 unfolding decimal digits
 three-digits = (refl, refl, refl)
 
-pub more-digits : (decimal 1000 ≡ ascii "1000") × (decimal 6144 ≡ ascii "6144") × (decimal 32767 ≡ ascii "32767") × (decimal 65536 ≡ ascii "65536")
+pub more-digits : (decimal 1000 ≡ ascii "1000") × (decimal 6144 ≡ ascii "6144") × (decimal 32767 ≡ ascii "32767")
+    × (decimal 65536 ≡ ascii "65536")
 unfolding decimal digits
 more-digits = (refl, refl, refl, refl)
 
@@ -30,7 +31,14 @@ digit-more n front more e = decimal-more n more ∙ ap (λ (l : List ℕ). l ++ 
 
 pub greatest : decimal 4294967295 ≡ ascii "4294967295"
 greatest =
-    digit-more 4294967295 _ (omega arith) (digit-more 429496729 _ (omega arith) (digit-more 42949672 _ (omega arith) (digit-more 4294967 _ (omega arith) (digit-more 429496 _ (omega arith) (digit-more 42949 _ (omega arith) (digit-more 4294 _ (omega arith) (digit-more 429 _ (omega arith) (digit-more 42 _ (omega arith) (decimal-one 4 (omega arith))))))))))
+    digit-more 4294967295 _ (omega arith)
+    (digit-more 429496729 _ (omega arith)
+    (digit-more 42949672 _ (omega arith)
+    (digit-more 4294967 _ (omega arith)
+    (digit-more 429496 _ (omega arith)
+    (digit-more 42949 _ (omega arith)
+    (digit-more 4294 _ (omega arith)
+    (digit-more 429 _ (omega arith) (digit-more 42 _ (omega arith) (decimal-one 4 (omega arith))))))))))
 
 -- two digits to a byte, the high one first, in lower case
 pub hex-bytes : hex (0x00 ∷ 0x0A ∷ 0x1F ∷ 0x9B ∷ 0xA0 ∷ 0xC3 ∷ 0xFF ∷ []) ≡ ascii "000a1f9ba0c3ff"

@@ -12,7 +12,6 @@ use borrow.Author.Tests.{leb-true, ltb-true, lt-ltb, le-ltb}
 use Rattle.octets.specs.Bytes.{byteAt}
 use Rattle.octets.specs.Stretch.{rest}
 use Rattle.octets.proofs.Stretches.{length-rest, rest-byte, rest-past}
-use Rattle.tool.specs.declared.number.Given.{Given}
 use Rattle.tool.specs.Number.{digitOf, areDigits, valueFrom, valueOf, none, saidBy, isHexadecimal, said}
 
 -- a byte between two bounds

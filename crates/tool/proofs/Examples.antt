@@ -2,7 +2,6 @@
 use Prim.Native.Nat.{ℕ}
 use mathlib.Core.Path.{_≡_, refl}
 use mathlib.Core.Bool.{true}
-use mathlib.Core.List.{List}
 use Rattle.octets.specs.Stretch.{rest}
 use Rattle.text.specs.Text.{ascii, column, decimal, digits}
 use Rattle.tool.specs.declared.number.Given.{Given}

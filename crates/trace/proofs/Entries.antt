@@ -22,9 +22,11 @@ module _ {file : List ℕ} {w : Walk} {s : Stepped} {holding output lengths : Li
   unfolding framesText
   frames-are = ap (λ (l : List (List ℕ)). joined (map frameLine l)) (frames-found stepped)
 
-  pub entry-traced : {t₀ t₁ t₂ t₃ : List ℕ} {behind-line behind-frames next : ℕ} → Wrote t₀ t₁ 0 behind-line (line (w .index) (s .kind) (numbersOf (s .answer))) →
+  pub entry-traced : {t₀ t₁ t₂ t₃ : List ℕ} {behind-line behind-frames next : ℕ} →
+      Wrote t₀ t₁ 0 behind-line (line (w .index) (s .kind) (numbersOf (s .answer))) →
       Wrote t₁ t₂ behind-line behind-frames (joined (map frameLine (framesFound (s .answer .frames) lengths output))) →
-      Wrote t₂ t₃ behind-frames next (rowsText (record { table = s .walk .table; holding = holding })) → Wrote t₀ t₃ 0 next (tracedAt file (w .index))
+      Wrote t₂ t₃ behind-frames next (rowsText (record { table = s .walk .table; holding = holding })) →
+      Wrote t₀ t₃ 0 next (tracedAt file (w .index))
   unfolding tracedAt
   entry-traced a b c =
       let its-line = line-is file (w .index) (s .kind) (s .answer) (stepped .its-kind) (stepped .its-counts) a in

@@ -188,7 +188,18 @@ module _ {a b : List ℕ} {at behind-held r k : ℕ} {f : Flow} (n : Numbered a 
       end-room =
           let one : behind-space ≡ behind-held + 1 = s .gap .next-place in
           let shown = wrote-length (h .bytes .0) in
-          omega (arith, one, h .bytes .1, n .numbers .1, wrote-length (n .numbers .0), wrote-length (s .gap), shown, s .same, n .few, n .long)
+          omega (
+            arith,
+            one,
+            h .bytes .1,
+            n .numbers .1,
+            wrote-length (n .numbers .0),
+            wrote-length (s .gap),
+            shown,
+            s .same,
+            n .few,
+            n .long,
+          )
 
       -- the whole line
       line-written : {e : List ℕ} {next : ℕ} → Wrote d e behind-bytes next newline →

@@ -14,7 +14,8 @@ use Rattle.ts.specs.Packet.{mpegLength, headLength, syncByte, flagged, p
 low-bits : (high low : ℕ) → low < 256 → (high * 256 + low) % pids ≡ high % 32 * 256 + low
 low-bits high low h = omega arith
 
-pub pid-read : (packets : List ℕ) (at : ℕ) → byteAt packets (at + 1 + 1) < 256 → be16At packets (at + 1) % pids ≡ pid (part packets at mpegLength)
+pub pid-read : (packets : List ℕ) (at : ℕ) → byteAt packets (at + 1 + 1) < 256 →
+    be16At packets (at + 1) % pids ≡ pid (part packets at mpegLength)
 pid-read packets at h =
     let further : at + 2 ≡ at + 1 + 1 = omega arith in
     let high : byteAt (part packets at mpegLength) 1 ≡ byteAt packets (at + 1) = byte-part packets at mpegLength 1 (omega arith) in

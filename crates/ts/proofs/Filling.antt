@@ -33,10 +33,12 @@ fill-turn {packets} {from} {to} {i} f h k e =
     record {
       begins = omega (arith, f .begins);
       within = omega arith;
-      so-far = f .so-far ∙ fill-first packets i to h k ∙ ap (λ (t : Bool). t && allFill (part packets (i + 1) (to - (i + 1)))) (eq-eqb _ _ e);
+      so-far =
+          f .so-far ∙ fill-first packets i to h k ∙ ap (λ (t : Bool). t && allFill (part packets (i + 1) (to - (i + 1)))) (eq-eqb _ _ e);
     }
 
-pub fill-not : {packets : List ℕ} {from to i : ℕ} → Filled packets from to i → i < to → to ≤ length packets → (byteAt packets i ≡ fillByte → ⊥) →
+pub fill-not : {packets : List ℕ} {from to i : ℕ} → Filled packets from to i → i < to → to ≤ length packets →
+    (byteAt packets i ≡ fillByte → ⊥) →
     false ≡ allFill (part packets from (to - from))
 fill-not {packets} {from} {to} {i} f h k e =
     sym (f .so-far ∙ fill-first packets i to h k ∙ ap (λ (t : Bool). t && allFill (part packets (i + 1) (to - (i + 1)))) (ne-eqb _ _ e))
@@ -75,7 +77,8 @@ same-fill (x ∷ l) (suc n) h = ap (λ (t : Bool). eqb x fillByte && t) (same-fi
 
 pub null-is : (packets : List ℕ) (at : ℕ) (filled : Bool) → at + mpegLength ≤ length packets →
     filled ≡ allFill (part packets (at + 4) (at + mpegLength - (at + 4))) →
-    (eqb (byteAt packets at) syncByte && eqb (byteAt packets (at + 1)) 0x1F && eqb (byteAt packets (at + 2)) 0xFF && eqb (byteAt packets (at + 3)) 0x10
+    (eqb (byteAt packets at) syncByte && eqb (byteAt packets (at + 1)) 0x1F && eqb (byteAt packets (at + 2)) 0xFF
+    && eqb (byteAt packets (at + 3)) 0x10
     && filled)
     ≡ same (part packets at mpegLength) nullPacket
 unfolding same nullPacket

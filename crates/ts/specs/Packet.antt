@@ -7,8 +7,8 @@
 --   |     0x47      |E|S|P|           PID           | c | a | count |   then the payload, of 184 bytes
 --   +-+-+-+-+-+-+-+-+-+-+-+-+-+-+-+-+-+-+-+-+-+-+-+-+-+-+-+-+-+-+-+-+
 --
--- Each byte is drawn from its top bit on. S, the payload-start flag, says that something starts in the payload. E (an error on the way) and P
--- (priority) are written as 0. c is 00, not scrambled, and a is 01, payload and nothing else, so that 0x10 stands beside the count, which
+-- Each byte is drawn from its top bit on. S, the payload-start flag, says that something starts in the payload. E (an error on the way) and
+-- P (priority) are written as 0. c is 00, not scrambled, and a is 01, payload and nothing else, so that 0x10 stands beside the count, which
 -- goes round from 0 to 15.
 use Prim.Native.Nat.{ℕ, _+_, _-_, _*_, _/_, _%_}
 use mathlib.Core.Bool.{Bool, true, false, cond, _&&_}

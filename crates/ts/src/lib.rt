@@ -1,5 +1,5 @@
-// The MPEG transport packet (ISO/IEC 13818-1, section 2.4.3.2): for each field of its header what is read and what is written, and the null packet. What travels
-// in a packet is nothing to this crate. Where a function asks for something, only proved code calls it.
+// The MPEG transport packet (ISO/IEC 13818-1, section 2.4.3.2): for each field of its header what is read and what is written, and the null
+// packet. What travels in a packet is nothing to this crate. Where a function asks for something, only proved code calls it.
 ghost use mathlib.Core.Path.{_≡_};
 ghost use Prim.Native.Nat.{_+_, _-_, _<_, _≤_};
 ghost use lib.ListN.{length};

@@ -12,7 +12,8 @@ file-length-requires : tie.Need-file-length-requires
 file-length-requires c κs = search needs
 
 returns : tie.Need-returns
-returns c = ap (λ (n : ℕ). leb (c .before .before .args .writer .entries) mostEntries && leb n longestFile) (c .before .file-length .ensures)
+returns c =
+    ap (λ (n : ℕ). leb (c .before .before .args .writer .entries) mostEntries && leb n longestFile) (c .before .file-length .ensures)
 
 pub is-within-spec : {M : Type 1} → statement M
 is-within-spec = tie.close (tie.spec file-length-requires returns)

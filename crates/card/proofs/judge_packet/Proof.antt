@@ -13,7 +13,8 @@ judge-requires : tie.Need-judge-requires
 judge-requires c κs = search needs
 
 returns : tie.Need-returns
-returns c = simp (← c .before .before .before .s-set .ensures, c .before .before .if1 .taken, c .judge .ensures, c .before .number-in .ensures)
+returns c =
+    simp (← c .before .before .before .s-set .ensures, c .before .before .if1 .taken, c .judge .ensures, c .before .number-in .ensures)
 
 returns-2 : tie.Need-returns-2
 returns-2 c = simp (← c .before .s-set .ensures, c .if1 .left)

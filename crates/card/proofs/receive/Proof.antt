@@ -1,5 +1,5 @@
--- `card::receive` is right since the order of refusals is that of `seek` and behind it that of the session's row; and a row that is put back
--- as it was leaves the table as it was.
+-- `card::receive` is right since the order of refusals is that of `seek` and behind it that of the session's row; and a row that is put
+-- back as it was leaves the table as it was.
 use Rattle.packet.specs.Header.{Packet, packetBy}
 use Rattle.join.specs.Slices.{asSlices, Slices}
 use Rattle.card.proofs.Receiving.{permits, ready, receive-is}

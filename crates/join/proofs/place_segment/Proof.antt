@@ -50,7 +50,8 @@ returns c =
     let w = c .before .before .before in
     let b = w .before in
     let a = start b .args in
-    segment-lost (a .most) (a .place) (a .tally) (lent b) (a .sub .now) (a .from) (a .entry) _ _ (b .before .before .length-of .ensures .0) (b .before .ends .ensures) _ (lent b) (inside b)
+    segment-lost (a .most) (a .place) (a .tally) (lent b) (a .sub .now) (a .from) (a .entry) _ _ (b .before .before .length-of .ensures .0)
+    (b .before .ends .ensures) _ (lent b) (inside b)
     _ _ (b .begins .ensures) (w .give-way .ensures) (c .before .if1 .taken) (start b .pre .1 .1) refl refl refl refl
 
 settle-requires : tie.Need-settle-requires
@@ -58,8 +59,14 @@ settle-requires c κs =
     let w = c .before .before .before .before .before in
     let b = w .before in
     let s = start b in
-    let n = b .before .before .length-of .ensures .0 in
-    (s .pre .0, (s .pre .1 .0, omega (arith, s .pre .1 .1, n), rw n (way-fits (b .begins .result) _ (s .args .tally) (w .give-way .result) (w .give-way .ensures) (s .pre .1 .2))))
+    let n = b .before .before .length-of .ensures .0 in (
+      s .pre .0,
+      (
+        s .pre .1 .0,
+        omega (arith, s .pre .1 .1, n),
+        rw n (way-fits (b .begins .result) _ (s .args .tally) (w .give-way .result) (w .give-way .ensures) (s .pre .1 .2)),
+      ),
+    )
 
 same-length : tie.Need-same-length
 same-length c = search needs
@@ -77,7 +84,8 @@ returns-2 c =
     let w = else .before .before in
     let b = w .before in
     let a = start b .args in
-    segment-settles (a .most) (a .place) (a .tally) (lent b) (a .sub .now) (a .from) (a .entry) _ _ (b .before .before .length-of .ensures .0) (b .before .ends .ensures) _ _ (inside b)
+    segment-settles (a .most) (a .place) (a .tally) (lent b) (a .sub .now) (a .from) (a .entry) _ _
+    (b .before .before .length-of .ensures .0) (b .before .ends .ensures) _ _ (inside b)
     _ _ (b .begins .ensures) (w .give-way .ensures) (else .if1 .left) (room b) (places b) (call .settle .ensures)
 
 pub place-segment-spec : {M : Type 1} → statement M

@@ -131,7 +131,8 @@ returns-3 c =
     let n = joined-length s in
     rw (settled-open (a .most) (a .ends) (joined s) (omega arith) (t .if2 .left))
     (placed-keeping (a .place) (a .tally) (lent s) (joined s) _ _
-    (c .before .before .copy3 .ensures ∙ put-behind (a .holding .now) (a .place) (a .tally .held) (part (a .sub .now) (a .from) (a .count)) (omega arith))
+    (c .before .before .copy3 .ensures
+    ∙ put-behind (a .holding .now) (a .place) (a .tally .held) (part (a .sub .now) (a .from) (a .count)) (omega arith))
     refl refl (omega arith) refl refl refl)
 
 pub settle-spec : {M : Type 1} → statement M

@@ -13,7 +13,8 @@ use Rattle.packet.proofs.Passing.{segments-passed, entries-inside, table-small}
 use Rattle.join.specs.declared.Tally.{Tally}
 use Rattle.join.specs.Slices.{asSlices, Slices}
 use Rattle.join.specs.Inside.{Fits, Within}
-use Rattle.join.proofs.Walking.{Task, Ready, Walking, walk-begin, walk-lengths, walk-roomy, walk-body, walk-fits, walk-turn, walk-frames, walk-place, walk-run, run-room, walk-within, walk-end}
+use Rattle.join.proofs.Walking.{Task, Ready, Walking, walk-begin, walk-lengths, walk-roomy, walk-body, walk-fits, walk-turn}
+use Rattle.join.proofs.Walking.{walk-frames, walk-place, walk-run, run-room, walk-within, walk-end}
 use borrow.Author.Needs.{needs}
 use Rattle.join.proofs.walk.Statement.{statement}
 use Rattle.join.proofs.walk.Tie as tie

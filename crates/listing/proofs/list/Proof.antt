@@ -24,7 +24,8 @@ same-length c = search needs
 returns : tie.Need-returns
 returns c =
     let r = refused c in
-    wrote-as (listing-refused (start r .args .file .now) _ (r .before .check .ensures) (r .if1 .taken)) (c .before .before .write-refused .ensures)
+    wrote-as (listing-refused (start r .args .file .now) _ (r .before .check .ensures) (r .if1 .taken))
+    (c .before .before .write-refused .ensures)
 
 holding-room-requires : tie.Need-holding-room-requires
 holding-room-requires c κs = search needs

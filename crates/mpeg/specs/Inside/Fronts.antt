@@ -1,6 +1,6 @@
 -- Inside: what functions promise each other on the way to a result. Nobody has to believe this file: the result is said without it.
--- Here: the front of a frame with more bytes behind it, a header, and the frames that a packet has from a frame's start on, in the numbers that the
--- reader keeps (specs/Inside/Standing.antt).
+-- Here: the front of a frame with more bytes behind it, a header, and the frames that a packet has from a frame's start on, in the numbers
+-- that the reader keeps (specs/Inside/Standing.antt).
 use Prim.Native.Nat.{ℕ, _+_, _-_, _≤_}
 use mathlib.Core.Path.{_≡_}
 use mathlib.Core.Bool.{Bool, true, cond, _&&_}

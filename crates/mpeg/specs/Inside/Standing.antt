@@ -1,6 +1,6 @@
 -- Inside: what functions promise each other on the way to a result. Nobody has to believe this file: the result is said without it.
--- Here: what the reader keeps of a `Reading`: of a begun frame its size and the two bytes in which it says its length, and of the frames found their
--- number and their bytes.
+-- Here: what the reader keeps of a `Reading`: of a begun frame its size and the two bytes in which it says its length, and of the frames
+-- found their number and their bytes.
 use Prim.Native.Nat.{ℕ, _+_, _≤_}
 use mathlib.Core.Path.{_≡_}
 use mathlib.Core.Bool.{true}

@@ -1,6 +1,6 @@
 -- Inside: what functions promise each other on the way to a result. Nobody has to believe this file: the result is said without it.
--- Here: what the reader goes by where it writes. The frames that have come, whole or not, are one stream of bytes, to which each packet adds a stretch of
--- its own; and frames that lie back to back say their lengths one after the other.
+-- Here: what the reader goes by where it writes. The frames that have come, whole or not, are one stream of bytes, to which each packet
+-- adds a stretch of its own; and frames that lie back to back say their lengths one after the other.
 use Prim.Native.Nat.{ℕ, zero, suc, _+_, _-_, _/_, _<_, _≤_}
 use mathlib.Core.Path.{_≡_}
 use mathlib.Core.Bool.{true, cond}

@@ -22,7 +22,8 @@ notAll passed end lengths bytes = ltb passed (length lengths) || not (eqb end (l
 abbrev pub behindPointer : List ℕ → List ℕ
 behindPointer waiting = filledTo pointedLength (part waiting 0 pointedLength)
 
--- What a packet with frames is written from: bytes wait, those that end the frame that has begun are among them, and there is room for a packet.
+-- What a packet with frames is written from: bytes wait, those that end the frame that has begun are among them, and there is room for a
+-- packet.
 pub record Waiting (bytes : List ℕ) (place left : ℕ) (output : List ℕ) : Type 0 where
   pub something : place < length bytes
   pub all-there : left ≤ length bytes - place

@@ -50,7 +50,12 @@ loop-again c =
     let in-target : a .at + i < length target = omega arith in (
       omega arith,
       simp length-set (l .loop .inv .1),
-      rw (l .loop .inv .2, ← getD-drop (a .from) source i 0, paste-suc target (a .at) (drop (a .from) source) i 0 in-target in-source, ← add-one i) refl,
+      rw (
+        l .loop .inv .2,
+        ← getD-drop (a .from) source i 0,
+        paste-suc target (a .at) (drop (a .from) source) i 0 in-target in-source,
+        ← add-one i,
+      ) refl,
     )
 
 same-length : tie.Need-same-length Inv-loop μ-loop
@@ -62,7 +67,8 @@ returns c =
     let l = c .before in
     let a = l .before .args in
     let done : l .loop .i ≡ a .count = omega arith in
-    let size : length (part (a .source .now) (a .from) (a .count)) ≡ a .count = length-part (a .source .now) (a .from) (a .count) (omega arith) in
+    let size : length (part (a .source .now) (a .from) (a .count)) ≡ a .count =
+    length-part (a .source .now) (a .from) (a .count) (omega arith) in
     rw size (l .loop .inv .2 ∙ ap (λ (k : ℕ). paste (a .target .now) (a .at) (drop (a .from) (a .source .now)) k) done)
 
 pub copy-bytes-spec : {M : Type 1} → statement M

@@ -71,7 +71,8 @@ returns-4 c =
     let cut = c .before .before in
     let p = cut .before in
     let refused = c .refuse2 .ensures ∙ ap (λ (l : List ℕ). first (dmptRefusals l)) (cut .sub-of .ensures) in
-    check-dmpt (start p .args .kind) (packetOf p) (p .before .before .if1 .left) _ (p .before .refuse-before-session .ensures) (p .if2 .left)
+    check-dmpt (start p .args .kind) (packetOf p) (p .before .before .if1 .left) _ (p .before .refuse-before-session .ensures)
+    (p .if2 .left)
     (c .before .if3 .left) _ refused
 
 pub check-spec : {M : Type 1} → statement M

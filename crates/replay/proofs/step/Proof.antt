@@ -32,7 +32,8 @@ run-entry-requires c κs =
     let body = c .before .before .before in
     let kind = kinded body in
     let given = start kind .pre in
-    takes-length (given .0) (given .1) (kind .kind-at .result) (body .body-at .result .now) (kind .kind-at .ensures) (body .body-at .ensures .its-bytes)
+    takes-length (given .0) (given .1) (kind .kind-at .result) (body .body-at .result .now) (kind .kind-at .ensures)
+    (body .body-at .ensures .its-bytes)
 
 add-t20 : tie.Need-add-t20
 add-t20 c =
@@ -65,7 +66,8 @@ returns c =
     let body = bodied (ran c) in
     let kind = kinded body in
     let given = start kind .pre in
-    steps (given .0) (given .1) (kind .kind-at .result) (body .body-at .result .now) (kind .kind-at .ensures) (body .body-at .ensures .its-bytes)
+    steps (given .0) (given .1) (kind .kind-at .result) (body .body-at .result .now) (kind .kind-at .ensures)
+    (body .body-at .ensures .its-bytes)
     (run .result) _ _ _ (run .ensures) (run .kept .1 .0) (run .kept .1 .1 .0) (run .kept .1 .1 .1 .0)
 
 pub step-spec : {M : Type 1} → statement M

@@ -14,7 +14,8 @@ add-result c = search needs
 
 returns : tie.Need-returns
 unfolding frameStart
-returns c = let a = c .before .before .before .before .args in ap (λ (n : ℕ). n + a .position .offset) (c .before .before .survey .ensures .0)
+returns c =
+    let a = c .before .before .before .before .args in ap (λ (n : ℕ). n + a .position .offset) (c .before .before .survey .ensures .0)
 
 pub index-of-spec : {M : Type 1} → statement M
 index-of-spec = tie.close (tie.spec survey-requires add-result returns)

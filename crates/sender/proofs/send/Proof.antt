@@ -1,4 +1,5 @@
--- `sender::send` is right since it refuses as the order says, and else its header and its segments are put one behind the other (`send-done`).
+-- `sender::send` is right since it refuses as the order says, and else its header and its segments are put one behind the other
+-- (`send-done`).
 use mathlib.Core.Path.{_≡_, sym, _∙_}
 use native.Mathlib.Omega.{arith}
 use lib.ListN.{length}
@@ -46,7 +47,8 @@ refuse-requires c κs = search needs
 
 returns : tie.Need-returns
 returns c =
-    permits (send-refused (asked (c .before .before .before .before .before)) (c .before .refuse .result) (c .before .refuse .ensures) (c .if1 .taken))
+    permits (send-refused (asked (c .before .before .before .before .before)) (c .before .refuse .result) (c .before .refuse .ensures)
+    (c .if1 .taken))
 
 sub-room : tie.Need-sub-room
 sub-room c = omega (arith, room-there (asked (start c)) (passed c))

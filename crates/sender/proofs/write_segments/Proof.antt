@@ -7,7 +7,8 @@ use lib.ListN.{length}
 use Rattle.sender.specs.Send.{mostSegments}
 use Rattle.sender.specs.Inside.{Ready}
 use Rattle.sender.proofs.Positions.{framed, inside, offset-small}
-use Rattle.sender.proofs.Writing.{Writing, writing-begin, output-long, writing-placeable, writing-less, writing-turn, bodies-from, bodies-to, writing-end}
+use Rattle.sender.proofs.Writing.{Writing, writing-begin, output-long, writing-placeable, writing-less, writing-turn, bodies-from}
+use Rattle.sender.proofs.Writing.{bodies-to, writing-end}
 use borrow.Author.Needs.{needs}
 use Rattle.sender.proofs.write_segments.Statement.{statement}
 use Rattle.sender.proofs.write_segments.Tie as tie

@@ -1,4 +1,5 @@
--- `text::write_decimal` is right since behind the place stand the digits that are done (`Spelling`), and the last one left is the first digit.
+-- `text::write_decimal` is right since behind the place stand the digits that are done (`Spelling`), and the last one left is the first
+-- digit.
 use native.Mathlib.Omega.{arith}
 use lib.ListN.{length-set}
 use mathlib.Core.Path.{_∙_}
@@ -21,7 +22,8 @@ add-next c = search needs
 
 loop-holds : tie.Need-loop-holds Inv-loop μ-loop
 loop-holds c =
-    spelling-begin _ _ _ _ (c .digit-count .ensures .0) (omega (arith, c .before .before .pre, c .digit-count .ensures .0, c .digit-count .ensures .1))
+    spelling-begin _ _ _ _ (c .digit-count .ensures .0)
+    (omega (arith, c .before .before .pre, c .digit-count .ensures .0, c .digit-count .ensures .1))
 
 sub-place : tie.Need-sub-place Inv-loop μ-loop
 sub-place c = omega (arith, place-behind (c .before .loop .inv))
@@ -31,29 +33,44 @@ digit-byte-requires c κs = search needs
 
 slice-write-text : tie.Need-slice-write-text Inv-loop μ-loop
 slice-write-text c =
-    omega (arith, place-behind (c .before .before .loop .inv), place-inside (c .before .before .loop .inv), spelling-long (c .before .before .loop .inv))
+    omega (
+      arith,
+      place-behind (c .before .before .loop .inv),
+      place-inside (c .before .before .loop .inv),
+      spelling-long (c .before .before .loop .inv),
+    )
 
 loop-less : tie.Need-loop-less Inv-loop μ-loop
 loop-less c = search needs
 
 loop-again : tie.Need-loop-again Inv-loop μ-loop
 loop-again c =
-    spelling-turn (c .before .before .loop .inv) _ (c .before .loop-test .taken) (c .digit-byte .ensures) _ (omega (arith, place-behind (c .before .before .loop .inv)))
+    spelling-turn (c .before .before .loop .inv) _ (c .before .loop-test .taken) (c .digit-byte .ensures) _
+    (omega (arith, place-behind (c .before .before .loop .inv)))
 
 digit-byte-requires-2 : tie.Need-digit-byte-requires-2 Inv-loop μ-loop
 digit-byte-requires-2 c κs = search needs
 
 slice-write-text-2 : tie.Need-slice-write-text-2 Inv-loop μ-loop
 slice-write-text-2 c =
-    omega (arith, place-behind (c .before .before .loop .inv), place-inside (c .before .before .loop .inv), spelling-long (c .before .before .loop .inv))
+    omega (
+      arith,
+      place-behind (c .before .before .loop .inv),
+      place-inside (c .before .before .loop .inv),
+      spelling-long (c .before .before .loop .inv),
+    )
 
 same-length : tie.Need-same-length Inv-loop μ-loop
 same-length c =
-    length-set (c .before .before .loop .text) (c .before .before .before .before .before .args .at) (c .digit-byte2 .result) ∙ spelling-long (c .before .before .loop .inv)
+    length-set (c .before .before .loop .text) (c .before .before .before .before .before .args .at) (c .digit-byte2 .result)
+    ∙ spelling-long (c .before .before .loop .inv)
 
 returns : tie.Need-returns Inv-loop μ-loop
-returns c =
-    (spelling-end (c .before .before .loop .inv) _ (c .before .loop-test .left) (c .digit-byte2 .ensures) _ (c .before .before .before .digit-count .ensures .0), omega (arith, c .before .before .before .digit-count .ensures .1))
+returns c = (
+  spelling-end (c .before .before .loop .inv) _ (c .before .loop-test .left) (c .digit-byte2 .ensures) _
+      (c .before .before .before .digit-count .ensures .0),
+  omega (arith, c .before .before .before .digit-count .ensures .1),
+)
 
 pub write-decimal-spec : {M : Type 1} → statement M
 write-decimal-spec =

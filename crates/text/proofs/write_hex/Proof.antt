@@ -23,26 +23,52 @@ shared-slice-read-byte : tie.Need-shared-slice-read-byte Inv-loop μ-loop
 shared-slice-read-byte c = search needs
 
 hex-digit-requires : tie.Need-hex-digit-requires Inv-loop μ-loop
-hex-digit-requires c κs = omega (arith, c .shared-slice-known2 .given (c .before .before .before .before .before .args .from + c .before .before .loop .i))
+hex-digit-requires c κs =
+    omega (arith, c .shared-slice-known2 .given (c .before .before .before .before .before .args .from + c .before .before .loop .i))
 
 slice-write-text : tie.Need-slice-write-text Inv-loop μ-loop
 slice-write-text c =
-    omega (arith, both-inside (c .before .before .before .loop .inv) (c .before .before .loop-test .taken) (c .before .before .before .before .before .before .pre .0) (c .before .before .before .before .before .before .pre .1))
+    omega (
+      arith,
+      both-inside (c .before .before .before .loop .inv) (c .before .before .loop-test .taken)
+          (c .before .before .before .before .before .before .pre .0) (c .before .before .before .before .before .before .pre .1),
+    )
 
 hex-digit-requires-2 : tie.Need-hex-digit-requires-2 Inv-loop μ-loop
 hex-digit-requires-2 c κs = search needs
 
 add-text : tie.Need-add-text Inv-loop μ-loop
 add-text c =
-    omega (arith, both-inside (c .before .before .before .before .loop .inv) (c .before .before .before .loop-test .taken) (c .before .before .before .before .before .before .before .pre .0) (c .before .before .before .before .before .before .before .pre .1), wrote-length (c .before .before .before .before .loop .inv .wrote), c .before .before .before .before .before .before .slice-known .given 0)
+    omega (
+      arith,
+      both-inside (c .before .before .before .before .loop .inv) (c .before .before .before .loop-test .taken)
+          (c .before .before .before .before .before .before .before .pre .0)
+          (c .before .before .before .before .before .before .before .pre .1),
+      wrote-length (c .before .before .before .before .loop .inv .wrote),
+      c .before .before .before .before .before .before .slice-known .given 0,
+    )
 
 slice-write-text-2 : tie.Need-slice-write-text-2 Inv-loop μ-loop
 slice-write-text-2 c =
-    omega (arith, both-inside (c .before .before .before .before .loop .inv) (c .before .before .before .loop-test .taken) (c .before .before .before .before .before .before .before .pre .0) (c .before .before .before .before .before .before .before .pre .1), length-set (c .before .before .before .before .loop .text) (c .before .before .before .before .loop .next) (c .before .hex-digit .result))
+    omega (
+      arith,
+      both-inside (c .before .before .before .before .loop .inv) (c .before .before .before .loop-test .taken)
+          (c .before .before .before .before .before .before .before .pre .0)
+          (c .before .before .before .before .before .before .before .pre .1),
+      length-set (c .before .before .before .before .loop .text) (c .before .before .before .before .loop .next)
+          (c .before .hex-digit .result),
+    )
 
 add-next : tie.Need-add-next Inv-loop μ-loop
 add-next c =
-    omega (arith, both-inside (c .before .before .before .before .loop .inv) (c .before .before .before .loop-test .taken) (c .before .before .before .before .before .before .before .pre .0) (c .before .before .before .before .before .before .before .pre .1), wrote-length (c .before .before .before .before .loop .inv .wrote), c .before .before .before .before .before .before .slice-known .given 0)
+    omega (
+      arith,
+      both-inside (c .before .before .before .before .loop .inv) (c .before .before .before .loop-test .taken)
+          (c .before .before .before .before .before .before .before .pre .0)
+          (c .before .before .before .before .before .before .before .pre .1),
+      wrote-length (c .before .before .before .before .loop .inv .wrote),
+      c .before .before .before .before .before .before .slice-known .given 0,
+    )
 
 add-i : tie.Need-add-i Inv-loop μ-loop
 add-i c = search needs
@@ -52,7 +78,9 @@ loop-less c = search needs
 
 loop-again : tie.Need-loop-again Inv-loop μ-loop
 loop-again c =
-    hexing-turn (c .before .before .before .before .loop .inv) (c .before .before .before .loop-test .taken) (c .before .before .before .before .before .before .before .pre .0) (c .before .before .before .before .before .before .before .pre .1) _ _ (c .before .hex-digit .ensures) (c .hex-digit2 .ensures)
+    hexing-turn (c .before .before .before .before .loop .inv) (c .before .before .before .loop-test .taken)
+    (c .before .before .before .before .before .before .before .pre .0)
+    (c .before .before .before .before .before .before .before .pre .1) _ _ (c .before .hex-digit .ensures) (c .hex-digit2 .ensures)
 
 same-length : tie.Need-same-length Inv-loop μ-loop
 same-length c = wrote-length (c .before .loop .inv .wrote)

@@ -15,7 +15,8 @@ same-length c = search needs
 
 returns : tie.Need-returns
 returns c =
-    wrote-copy _ _ (c .before .before .before .before .before .before .args .words .now) _ (c .before .before .before .before .before .before .pre) (c .before .before .copy .ensures)
+    wrote-copy _ _ (c .before .before .before .before .before .before .args .words .now) _
+    (c .before .before .before .before .before .before .pre) (c .before .before .copy .ensures)
 
 pub write-words-spec : {M : Type 1} → statement M
 write-words-spec = tie.close (tie.spec copy-requires add-result same-length returns)

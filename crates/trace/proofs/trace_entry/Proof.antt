@@ -1,4 +1,5 @@
--- `trace::trace_entry` is right since its line is that of the entry, and the frames and the rows that it shows are those of the run behind it (`Entries`).
+-- `trace::trace_entry` is right since its line is that of the entry, and the frames and the rows that it shows are those of the run behind
+-- it (`Entries`).
 use native.Mathlib.Omega.{arith}
 use Rattle.replay.proofs.Walking.{index-few}
 use Rattle.replay.proofs.Standing.{table-whole, frames-findable}
@@ -58,7 +59,14 @@ write-rows-requires c κs =
       table-whole stands,
       (
         omega (arith, stands .sized .holding-size),
-        omega (arith, room, line .write-line .ensures .1, line .write-line .kept .0, frames .write-frames .ensures .1, frames .write-frames .kept .0),
+        omega (
+          arith,
+          room,
+          line .write-line .ensures .1,
+          line .write-line .kept .0,
+          frames .write-frames .ensures .1,
+          frames .write-frames .kept .0,
+        ),
       ),
     )
 

@@ -36,7 +36,8 @@ same-length c = search needs
 returns : tie.Need-returns
 returns c =
     let s = c .before .before in
-    header-stored (s .args .packet .now) (s .args .starts) (s .args .pid) (s .args .count) (c .with-flag .result) (s .pre .0) (c .with-flag .ensures)
+    header-stored (s .args .packet .now) (s .args .starts) (s .args .pid) (s .args .count) (c .with-flag .result) (s .pre .0)
+    (c .with-flag .ensures)
 
 pub write-header-spec : {M : Type 1} → statement M
 write-header-spec =

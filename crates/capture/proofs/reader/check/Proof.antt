@@ -46,7 +46,8 @@ returns-5 : tie.Need-returns-5
 returns-5 c =
     let s = c .before in
     let n = counted s in
-    entry-wrong _ (headed n .before .if1 .left) (headed n .if2 .left) _ (n .entry-count .ensures) (few s .if3 .left) (s .before .if4 .left) _
+    entry-wrong _ (headed n .before .if1 .left) (headed n .if2 .left) _ (n .entry-count .ensures) (few s .if3 .left)
+    (s .before .if4 .left) _
     (s .survey .ensures) (c .if5 .taken)
 
 returns-6 : tie.Need-returns-6

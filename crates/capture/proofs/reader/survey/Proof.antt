@@ -42,7 +42,13 @@ length-at-requires c κs = search needs
 
 add-end-2 : tie.Need-add-end-2 Inv-loop μ-loop
 add-end-2 c =
-    omega (arith, c .before .before .before .before .loop .inv .small, c .before .before .before .before .loop .inv .within, c .before .before .before .before .before .before .pre .0 .1, c .length-at .ensures .1)
+    omega (
+      arith,
+      c .before .before .before .before .loop .inv .small,
+      c .before .before .before .before .loop .inv .within,
+      c .before .before .before .before .before .before .pre .0 .1,
+      c .length-at .ensures .1,
+    )
 
 wrong-parts-requires : tie.Need-wrong-parts-requires Inv-loop μ-loop
 wrong-parts-requires c κs = search needs
@@ -55,7 +61,8 @@ loop-less c = search needs
 
 loop-again : tie.Need-loop-again Inv-loop μ-loop
 loop-again c =
-    survey-turn (c .before .before .before .before .before .loop .inv) (c .before .before .before .before .loop-test .taken) (c .before .before .before .kind-at .ensures) refl (c .before .length-at .ensures) (c .wrong-parts .ensures)
+    survey-turn (c .before .before .before .before .before .loop .inv) (c .before .before .before .before .loop-test .taken)
+    (c .before .before .before .kind-at .ensures) refl (c .before .length-at .ensures) (c .wrong-parts .ensures)
 
 returns : tie.Need-returns Inv-loop μ-loop
 returns c = survey-end (c .before .loop .inv) (c .loop-test .left)

@@ -1,12 +1,13 @@
--- `mpeg::reader::frames_from` is right since before each turn what it has counted, with what `found` gives on the rest, is what `found` gives on the whole
--- (`Finding`). A turn goes on by the length that the frame says, which is at least 6.
+-- `mpeg::reader::frames_from` is right since before each turn what it has counted, with what `found` gives on the rest, is what `found`
+-- gives on the whole (`Finding`). A turn goes on by the length that the frame says, which is at least 6.
 use Prim.Native.Nat.{_-_}
 use mathlib.Core.List.{[]}
 use mathlib.Core.Path.{_≡_, ap}
 use native.Mathlib.Omega.{arith}
 use borrow.Author.Tests.{not-true, not-false}
 use Rattle.mpeg.specs.declared.reader.Front.{Front}
-use Rattle.mpeg.proofs.Finding.{Finding, finding-begin, finding-end, finding-filled, finding-spoilt, finding-long, finding-open, finding-turn}
+use Rattle.mpeg.proofs.Finding.{Finding, finding-begin, finding-end, finding-filled, finding-spoilt, finding-long, finding-open}
+use Rattle.mpeg.proofs.Finding.{finding-turn}
 use borrow.Author.Needs.{needs}
 use Rattle.mpeg.proofs.reader.frames_from.Statement.{statement}
 use Rattle.mpeg.proofs.reader.frames_from.Tie as tie
@@ -17,8 +18,8 @@ Inv-loop packets start end standing frames₀ bytes₀ from₀ frames bytes from
 abbrev μ-loop : tie.MeasureT-loop
 μ-loop packets start end standing frames₀ bytes₀ from₀ frames bytes from = end - from
 
--- The places of a turn: its start, where all bytes have been looked at for 0xFF, and where the length has been read that the frame says; and the way back
--- from each.
+-- The places of a turn: its start, where all bytes have been looked at for 0xFF, and where the length has been read that the frame says;
+-- and the way back from each.
 abbrev Turn : Type 0
 Turn = tie.In-loop Inv-loop μ-loop
 
@@ -47,7 +48,8 @@ returns : tie.Need-returns Inv-loop μ-loop
 returns c =
     let f = c .before .before in
     let t = filled f in
-    finding-spoilt (start t .pre) (t .before .loop .inv) (t .loop-test .taken) (c .unsound .ensures) (f .before .if1 .taken) (f .all-fill .result)
+    finding-spoilt (start t .pre) (t .before .loop .inv) (t .loop-test .taken) (c .unsound .ensures) (f .before .if1 .taken)
+    (f .all-fill .result)
     (f .all-fill .ensures) (not-true _ (c .before .if2 .taken))
 
 front-of-none-requires : tie.Need-front-of-none-requires Inv-loop μ-loop

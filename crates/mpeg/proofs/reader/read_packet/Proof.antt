@@ -22,7 +22,8 @@ returns : tie.Need-returns
 returns c =
     let n = c .before .before .before .before in
     λ s may is.
-    null-inside (start n .pre .1 .still-sound) _ (n .is-null .ensures) s is (c .before .before .before .if1 .taken) (λ e. omega (arith, c .before .if2 .taken))
+    null-inside (start n .pre .1 .still-sound) _ (n .is-null .ensures) s is (c .before .before .before .if1 .taken)
+    (λ e. omega (arith, c .before .if2 .taken))
     (c .unsound .ensures)
 
 returns-2 : tie.Need-returns-2
@@ -42,7 +43,8 @@ returns-3 c =
     let h = c .before .before in
     let n = nulled h in
     λ s may is.
-    data-without (start n .pre .1 .still-sound) _ (n .is-null .ensures) s is (h .before .if1 .left) (h .has-header .ensures) (c .before .if3 .taken)
+    data-without (start n .pre .1 .still-sound) _ (n .is-null .ensures) s is (h .before .if1 .left) (h .has-header .ensures)
+    (c .before .if3 .taken)
     (c .without-flag .ensures s may is)
 
 add-has-header : tie.Need-add-has-header
@@ -60,7 +62,8 @@ returns-4 c =
     let n = nulled h in
     λ s may is.
     data-with (start n .pre .1 .still-sound) _ (n .is-null .ensures) s is (h .before .if1 .left) (h .has-header .ensures)
-    (c .before .before .before .if3 .left) (c .before .before .has-header2 .ensures) (c .before .if4 .taken) (c .with-flag .ensures s may is)
+    (c .before .before .before .if3 .left) (c .before .before .has-header2 .ensures) (c .before .if4 .taken)
+    (c .with-flag .ensures s may is)
 
 unsound-requires-2 : tie.Need-unsound-requires-2
 unsound-requires-2 c κs = search needs

@@ -24,7 +24,8 @@ abbrev μ-loop : tie.MeasureT-loop
 is-sound : (c : tie.Then2 Inv-loop μ-loop) → c .before .before .loop .standing .sound ≡ true
 is-sound c = and-left _ _ (c .if2 .taken)
 
-is-more : (c : tie.Then2 Inv-loop μ-loop) → c .before .before .loop .at < length (c .before .before .before .before .before .before .args .packets .now)
+is-more : (c : tie.Then2 Inv-loop μ-loop) →
+    c .before .before .loop .at < length (c .before .before .before .before .before .before .args .packets .now)
 is-more c =
     let sound = c .before .before .loop .standing .sound in
     let at = c .before .before .loop .at in
@@ -41,7 +42,8 @@ at-start-requires : tie.Need-at-start-requires Inv-loop μ-loop
 at-start-requires c κs = search needs
 
 loop-holds : tie.Need-loop-holds Inv-loop μ-loop
-loop-holds c = (c .before .if1 .left, pass-begin (c .before .before .before .args .packets .now) (c .at-start .result) (c .at-start .ensures))
+loop-holds c =
+    (c .before .if1 .left, pass-begin (c .before .before .before .args .packets .now) (c .at-start .result) (c .at-start .ensures))
 
 read-packet-requires : tie.Need-read-packet-requires Inv-loop μ-loop
 read-packet-requires c κs =
@@ -52,7 +54,8 @@ add-at : tie.Need-add-at Inv-loop μ-loop
 add-at c = let i = c .before .before .before .loop .inv in omega (arith, pass-inside (i .1) (i .0) (is-more (c .before)))
 
 loop-less : tie.Need-loop-less Inv-loop μ-loop
-loop-less c = let i = c .before .before .before .loop .inv in omega (arith, pass-inside (i .1) (i .0) (is-more (c .before)), is-more (c .before))
+loop-less c =
+    let i = c .before .before .before .loop .inv in omega (arith, pass-inside (i .1) (i .0) (is-more (c .before)), is-more (c .before))
 
 loop-again : tie.Need-loop-again Inv-loop μ-loop
 loop-again c =

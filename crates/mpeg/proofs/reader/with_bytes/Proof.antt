@@ -1,4 +1,5 @@
--- `mpeg::reader::with_bytes` counts the bytes and reads both bytes of the length field by `byte_of`, so that the field may be split over two packets.
+-- `mpeg::reader::with_bytes` counts the bytes and reads both bytes of the length field by `byte_of`, so that the field may be split over
+-- two packets.
 use mathlib.Core.Path.{refl, ap}
 use Rattle.mpeg.specs.declared.reader.Front.{Front}
 use Rattle.mpeg.proofs.Fronts.{front-with}
@@ -23,7 +24,8 @@ returns c =
     let a = c .before .before .before .before .args in (
       refl,
       λ begun is-front.
-          front-with (a .packets .now) (a .from) (a .n) begun (c .before .before .before .before .pre .0) (ap (λ (f : Front). f .size) is-front)
+          front-with (a .packets .now) (a .from) (a .n) begun (c .before .before .before .before .pre .0)
+          (ap (λ (f : Front). f .size) is-front)
           (c .before .before .byte-of .ensures begun (ap (λ (f : Front). f .size) is-front) (ap (λ (f : Front). f .high) is-front))
           (c .before .byte-of2 .ensures begun (ap (λ (f : Front). f .size) is-front) (ap (λ (f : Front). f .low) is-front)),
     )

@@ -1,5 +1,5 @@
--- `mpeg::reader::with_flag`: each way out is a law of proofs/OnePacket.antt. No more has been found than stood before the frames that start behind the pointer,
--- since the frame that ends there is as long as its bytes.
+-- `mpeg::reader::with_flag`: each way out is a law of proofs/OnePacket.antt. No more has been found than stood before the frames that start
+-- behind the pointer, since the frame that ends there is as long as its bytes.
 use mathlib.Core.Path.{_≡_, ap}
 use native.Mathlib.Omega.{arith}
 use lib.Dec.{ltb}
@@ -12,8 +12,8 @@ use borrow.Author.Needs.{needs}
 use Rattle.mpeg.proofs.reader.with_flag.Statement.{statement}
 use Rattle.mpeg.proofs.reader.with_flag.Tie as tie
 
--- The places: where the pointer has been read, where the next count is known, where all bytes have been looked at for 0xFF, and where the length has been read
--- that the frame says; and the way back from each.
+-- The places: where the pointer has been read, where the next count is known, where all bytes have been looked at for 0xFF, and where the
+-- length has been read that the frame says; and the way back from each.
 abbrev Pointed : Type 0
 Pointed = tie.After-wide-u8
 
@@ -76,7 +76,8 @@ returns-2 c =
     let p = pointed n in
     let a = start p .args in
     λ s may is.
-    flag-none-spoilt (a .packets .now) (a .at) (start p .pre .0) (p .wide-u8 .ensures .0) (n .before .if1 .left) s is (n .next-count .ensures)
+    flag-none-spoilt (a .packets .now) (a .at) (start p .pre .0) (p .wide-u8 .ensures .0) (n .before .if1 .left) s is
+    (n .next-count .ensures)
     (f .before .if2 .taken) (f .all-fill .ensures) (c .before .if3 .taken) (c .unsound2 .ensures)
 
 frames-from-requires : tie.Need-frames-from-requires
@@ -89,7 +90,8 @@ returns-3 c =
     let p = pointed n in
     let a = start p .args in
     λ s may is.
-    flag-none-found (a .packets .now) (a .at) (start p .pre .0) (p .wide-u8 .ensures .0) (n .before .if1 .left) s is (n .next-count .ensures)
+    flag-none-found (a .packets .now) (a .at) (start p .pre .0) (p .wide-u8 .ensures .0) (n .before .if1 .left) s is
+    (n .next-count .ensures)
     (f .before .if2 .taken) (f .all-fill .ensures) (c .before .if3 .left) (c .frames-from .ensures)
 
 with-bytes-requires : tie.Need-with-bytes-requires
@@ -108,8 +110,10 @@ returns-4 c =
     let p = pointed n in
     let a = start p .args in
     λ s may is.
-    flag-some-spoilt (a .packets .now) (a .at) (start p .pre .0) (p .wide-u8 .ensures .0) (n .before .if1 .left) s is (n .next-count .ensures) may
-    (r .before .before .if2 .left) (r .before .with-bytes .ensures .1 (s .begun) (ap (λ (st : Standing). st .begun) is)) (r .said-length .ensures)
+    flag-some-spoilt (a .packets .now) (a .at) (start p .pre .0) (p .wide-u8 .ensures .0) (n .before .if1 .left) s is
+    (n .next-count .ensures) may
+    (r .before .before .if2 .left) (r .before .with-bytes .ensures .1 (s .begun) (ap (λ (st : Standing). st .begun) is))
+    (r .said-length .ensures)
     (c .before .if4 .taken) (c .unsound3 .ensures)
 
 front-of-none-requires : tie.Need-front-of-none-requires
@@ -152,8 +156,10 @@ returns-5 c =
     let p = pointed n in
     let a = start p .args in
     λ s may is.
-    flag-some-found (a .packets .now) (a .at) (start p .pre .0) (p .wide-u8 .ensures .0) (n .before .if1 .left) s is (n .next-count .ensures) may
-    (r .before .before .if2 .left) (r .before .with-bytes .ensures .1 (s .begun) (ap (λ (st : Standing). st .begun) is)) (r .said-length .ensures)
+    flag-some-found (a .packets .now) (a .at) (start p .pre .0) (p .wide-u8 .ensures .0) (n .before .if1 .left) s is
+    (n .next-count .ensures) may
+    (r .before .before .if2 .left) (r .before .with-bytes .ensures .1 (s .begun) (ap (λ (st : Standing). st .begun) is))
+    (r .said-length .ensures)
     (c .before .before .before .before .if4 .left) (c .frames-from2 .ensures)
 
 pub with-flag-spec : {M : Type 1} → statement M

@@ -1,4 +1,5 @@
--- `reader::write_bytes` is right since the packet's bytes are a stretch of the slice of all packets (`copied`), or none of them is asked for (`not-copied`).
+-- `reader::write_bytes` is right since the packet's bytes are a stretch of the slice of all packets (`copied`), or none of them is asked
+-- for (`not-copied`).
 use Prim.Native.Nat.{min}
 use mathlib.Core.Path.{_≡_}
 use mathlib.Core.Logic.{⊎-elim}
@@ -42,7 +43,8 @@ returns c =
     let j = c .before .before .before .before .before .before .before in
     let s = j .before .before .before in
     let from = c .before .before .before .before .before .bytes-at in
-    copied (s .args .packets .now) (s .args .at) (s .pre) (j .if1 .end) (ends j) (from .result) (from .ensures) _ (c .before .before .copy .ensures)
+    copied (s .args .packets .now) (s .args .at) (s .pre) (j .if1 .end) (ends j) (from .result) (from .ensures) _
+    (c .before .before .copy .ensures)
 
 returns-2 : tie.Need-returns-2
 returns-2 c =

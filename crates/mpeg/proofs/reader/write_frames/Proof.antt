@@ -1,15 +1,18 @@
--- `reader::write_frames` is right since after each packet the first bytes of the stream so far stand in the output, as many as are asked for (`Pouring`).
+-- `reader::write_frames` is right since after each packet the first bytes of the stream so far stand in the output, as many as are asked
+-- for (`Pouring`).
 use Prim.Native.Nat.{_-_}
 use native.Mathlib.Omega.{arith}
 use lib.ListN.{length}
 use Rattle.mpeg.specs.Inside.Stream.{Surveyed}
-use Rattle.mpeg.proofs.Passes.{Pouring, pour-begin, pour-inside, pour-within, behind-small, pour-writable, pour-turn, pour-long, pour-end}
+use Rattle.mpeg.proofs.Passes.{Pouring, pour-begin, pour-inside, pour-within, behind-small, pour-writable, pour-turn, pour-long}
+use Rattle.mpeg.proofs.Passes.{pour-end}
 use borrow.Author.Needs.{needs}
 use Rattle.mpeg.proofs.reader.write_frames.Statement.{statement}
 use Rattle.mpeg.proofs.reader.write_frames.Tie as tie
 
 abbrev Inv-loop : tie.InvT-loop
-Inv-loop packets output₀ total standing₀ at₀ output standing at = Surveyed packets output₀ total × Pouring packets output₀ total standing at output
+Inv-loop packets output₀ total standing₀ at₀ output standing at =
+    Surveyed packets output₀ total × Pouring packets output₀ total standing at output
 
 abbrev μ-loop : tie.MeasureT-loop
 μ-loop packets output₀ total standing₀ at₀ output standing at = length packets - at

@@ -1,4 +1,5 @@
--- `reader::write_lengths` is right since after k turns the lengths of k frames are written, and `from` is where the next frame starts (`Telling`).
+-- `reader::write_lengths` is right since after k turns the lengths of k frames are written, and `from` is where the next frame starts
+-- (`Telling`).
 use Prim.Native.Nat.{ℕ, _+_, _-_}
 use mathlib.Core.Path.{_≡_, ap}
 use native.Mathlib.Omega.{arith}

@@ -17,7 +17,8 @@ add-read-u16 : tie.Need-add-read-u16
 add-read-u16 c = search needs
 
 read-u16-requires : tie.Need-read-u16-requires
-read-u16-requires c κs = let s = c .before .before in let a = s .args in field-there (a .frames .now) (a .start) (a .size) (s .pre .0) (c .if1 .left)
+read-u16-requires c κs =
+    let s = c .before .before in let a = s .args in field-there (a .frames .now) (a .start) (a .size) (s .pre .0) (c .if1 .left)
 
 wide-u16-requires : tie.Need-wide-u16-requires
 wide-u16-requires c κs = search needs

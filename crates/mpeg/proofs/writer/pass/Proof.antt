@@ -1,4 +1,5 @@
--- `mpeg::writer::pass` is right since after k turns k frames are sound, and it knows where the last of them ends that starts before the place (`Surveying`).
+-- `mpeg::writer::pass` is right since after k turns k frames are sound, and it knows where the last of them ends that starts before the
+-- place (`Surveying`).
 use Prim.Native.Nat.{_+_, _-_, _≤_}
 use mathlib.Core.Path.{sym, _∙_}
 use mathlib.Core.Bool.{true≢false}
@@ -87,8 +88,10 @@ loop-again c =
     let s = turn .before .loop .inv in
     let sound = sym (c .before .if1 .left) ∙ c .before .before .bad-frame .ensures in
     ⊎-elim
-    (λ w. survey-begun s (size .wide-u16 .result) (turn .loop-test .taken) (size .wide-u16 .ensures .0) sound (c .if2 .begun) (omega arith) (omega arith))
-    (λ w. survey-kept s (size .wide-u16 .result) (turn .loop-test .taken) (size .wide-u16 .ensures .0) sound (c .if2 .begun) (omega arith) (omega arith))
+    (λ w. survey-begun s (size .wide-u16 .result) (turn .loop-test .taken) (size .wide-u16 .ensures .0) sound (c .if2 .begun) (omega arith)
+    (omega arith))
+    (λ w. survey-kept s (size .wide-u16 .result) (turn .loop-test .taken) (size .wide-u16 .ensures .0) sound (c .if2 .begun) (omega arith)
+    (omega arith))
     (c .if2 .came)
 
 returns-2 : tie.Need-returns-2 Inv-loop μ-loop

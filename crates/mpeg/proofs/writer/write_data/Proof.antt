@@ -1,5 +1,5 @@
--- `mpeg::writer::write_data` is right since the parts of the packet are put one behind the other, without a pointer (`unpointed-written`) or with one
--- (`pointed-written`).
+-- `mpeg::writer::write_data` is right since the parts of the packet are put one behind the other, without a pointer (`unpointed-written`)
+-- or with one (`pointed-written`).
 use Prim.Native.Nat.{_<_}
 use mathlib.Core.Path.{_∙_}
 use native.Mathlib.Omega.{arith}
@@ -10,7 +10,8 @@ use borrow.Author.Needs.{needs}
 use Rattle.mpeg.proofs.writer.write_data.Statement.{statement}
 use Rattle.mpeg.proofs.writer.write_data.Tie as tie
 
--- The places: behind the header without the flag, where a pointer is written, and behind the header with the flag; and the way back from each.
+-- The places: behind the header without the flag, where a pointer is written, and behind the header with the flag; and the way back from
+-- each.
 abbrev headed : tie.After-write-header → tie.Start
 headed h = h .before .before .before .before .before
 
@@ -59,7 +60,9 @@ write-pointed-requires c κs =
     (omega (arith, s .pre .something), simp length-set (omega (arith, long, s .pre .room)))
 
 same-length-2 : tie.Need-same-length-2
-same-length-2 c = simp length-set at (c .before .before .write-pointed .kept .0) ∙ c .before .before .before .before .before .before .write-header2 .kept .0
+same-length-2 c =
+    simp length-set at (c .before .before .write-pointed .kept .0)
+    ∙ c .before .before .before .before .before .before .write-header2 .kept .0
 
 returns-2 : tie.Need-returns-2
 returns-2 c =
@@ -68,7 +71,8 @@ returns-2 c =
     let s = begin e in
     let a = s .args in
     let behind = c .before .before .write-pointed in (
-      pointed-carries (a .output .now) (a .frames .now) (a .place) (a .left) (a .count) (s .pre) (near e) (behind .result) (behind .ensures .0),
+      pointed-carries (a .output .now) (a .frames .now) (a .place) (a .left) (a .count) (s .pre) (near e) (behind .result)
+          (behind .ensures .0),
       pointed-written (a .output .now) (a .frames .now) (a .place) (a .left) (a .count) (s .pre) (near e) _ _
           (h .write-header2 .ensures) (behind .ensures .1),
     )

@@ -1,4 +1,5 @@
--- `mpeg::writer::write_pointed` is right since the bytes that wait fill the packet (`full-written`), or 0xFF follows them (`filled-written`).
+-- `mpeg::writer::write_pointed` is right since the bytes that wait fill the packet (`full-written`), or 0xFF follows them
+-- (`filled-written`).
 use native.Mathlib.Omega.{arith}
 use Rattle.mpeg.proofs.Packets.{full-written, filled-written}
 use borrow.Author.Needs.{needs}

@@ -30,7 +30,13 @@ add-result-2 : tie.Need-add-result-2
 add-result-2 c =
     let s = c .before .before .before in
     let count = c .before .segment-count in
-    omega (arith, table-small (s .args .width) (count .result) (s .pre .0 .1) (count .ensures .1), c .total-length .ensures .1, s .pre .0 .2, count .ensures .0)
+    omega (
+      arith,
+      table-small (s .args .width) (count .result) (s .pre .0 .1) (count .ensures .1),
+      c .total-length .ensures .1,
+      s .pre .0 .2,
+      count .ensures .0,
+    )
 
 returns : tie.Need-returns
 unfolding bodyAt

@@ -47,7 +47,8 @@ returns-3 c =
     let t = c .before .before in
     let s = some t in
     let a = start s .args in
-    segments-misfit (a .width) (a .sub .now) _ (s .before .segment-count .ensures .0) (s .if1 .left) _ (t .survey .ensures .0) (c .if3 .taken)
+    segments-misfit (a .width) (a .sub .now) _ (s .before .segment-count .ensures .0) (s .if1 .left) _ (t .survey .ensures .0)
+    (c .if3 .taken)
 
 returns-4 : tie.Need-returns-4
 returns-4 c =

@@ -95,7 +95,8 @@ cast-t18 c = search needs
 returns-2 : tie.Need-returns-2 Inv-loop μ-loop
 returns-2 c =
     let e = c .before .before in
-    let all = survey-turn (e .before .before .loop .inv .1) (omega (arith, e .if1 .left)) (start e .pre .2) (c .before .entry3 .ensures) refl
+    let all =
+    survey-turn (e .before .before .loop .inv .1) (omega (arith, e .if1 .left)) (start e .pre .2) (c .before .entry3 .ensures) refl
     (c .bad-entry2 .ensures) in
     let t = survey-end all (omega (arith, e .before .loop-test .left)) in
     (t .summed .sum, (t .faults, t .summed .small))

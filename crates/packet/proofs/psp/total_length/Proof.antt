@@ -33,7 +33,8 @@ loop-less c = search needs
 
 loop-again : tie.Need-loop-again Inv-loop μ-loop
 loop-again c =
-    sum-turn (c .before .before .before .loop .inv) (c .before .before .loop-test .taken) (c .before .entry .ensures) (c .length-of .ensures .0)
+    sum-turn (c .before .before .before .loop .inv) (c .before .before .loop-test .taken) (c .before .entry .ensures)
+    (c .length-of .ensures .0)
 
 returns : tie.Need-returns Inv-loop μ-loop
 returns c =

@@ -22,7 +22,8 @@ mul-wide-u16 : tie.Need-mul-wide-u16 Inv-loop μ-loop
 mul-wide-u16 c = search needs
 
 shared-slice-read-wide-u16 : tie.Need-shared-slice-read-wide-u16 Inv-loop μ-loop
-shared-slice-read-wide-u16 c = omega (arith, c .before .loop-test .taken, c .before .before .before .before .before .before .before .pre .lengths-there)
+shared-slice-read-wide-u16 c =
+    omega (arith, c .before .loop-test .taken, c .before .before .before .before .before .before .before .pre .lengths-there)
 
 wide-u16-requires : tie.Need-wide-u16-requires Inv-loop μ-loop
 wide-u16-requires c κs = search needs
@@ -44,15 +45,26 @@ slice-write-sizes c =
     let tested = c .before .before in
     let turn = tested .before in
     let start = turn .before .before .before .before .before in
-    omega (arith, tested .loop-test .taken, start .pre .sizes-fit, sizes-same (turn .loop .inv) (start .pre .lengths-there) (start .pre .sizes-fit))
+    omega (
+      arith,
+      tested .loop-test .taken,
+      start .pre .sizes-fit,
+      sizes-same (turn .loop .inv) (start .pre .lengths-there) (start .pre .sizes-fit),
+    )
 
 add-sum : tie.Need-add-sum Inv-loop μ-loop
 add-sum c =
     let tested = c .before .before in
     let turn = tested .before in
     let start = turn .before .before .before .before .before in
-    omega
-    (arith, turn .loop .inv .sum-is, c .wide-u16 .ensures .0, sum-within (byteAt (start .args .lengths .now)) (turn .loop .i) (start .args .more) (tested .loop-test .taken), start .pre .bytes-there, start .good .0 .0)
+    omega (
+      arith,
+      turn .loop .inv .sum-is,
+      c .wide-u16 .ensures .0,
+      sum-within (byteAt (start .args .lengths .now)) (turn .loop .i) (start .args .more) (tested .loop-test .taken),
+      start .pre .bytes-there,
+      start .good .0 .0,
+    )
 
 add-i : tie.Need-add-i Inv-loop μ-loop
 add-i c = search needs
@@ -65,7 +77,8 @@ loop-again c =
     let tested = c .before .before in
     let turn = tested .before in
     let start = turn .before .before .before .before .before in
-    append-turn (turn .loop .inv) (start .pre .lengths-there) (start .pre .sizes-fit) (tested .loop-test .taken) (c .wide-u16 .result) (c .wide-u16 .ensures .0)
+    append-turn (turn .loop .inv) (start .pre .lengths-there) (start .pre .sizes-fit) (tested .loop-test .taken) (c .wide-u16 .result)
+    (c .wide-u16 .ensures .0)
     refl
 
 copy-requires : tie.Need-copy-requires Inv-loop μ-loop

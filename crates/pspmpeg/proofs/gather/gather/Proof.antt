@@ -12,7 +12,8 @@ Inv-loop file session holding₀ output₀ lengths₀ bytes₀ sizes₀ count st
     Gathering session file bytes₀ sizes₀ stage holding output lengths bytes sizes
 
 abbrev μ-loop : tie.MeasureT-loop
-μ-loop file session holding₀ output₀ lengths₀ bytes₀ sizes₀ count stage₀ holding output lengths bytes sizes stage = count - stage .walk .index
+μ-loop file session holding₀ output₀ lengths₀ bytes₀ sizes₀ count stage₀ holding output lengths bytes sizes stage =
+    count - stage .walk .index
 
 -- from the number of entries back to the start, and from a turn to both
 abbrev start : tie.After-entry-count Inv-loop μ-loop → tie.Start Inv-loop μ-loop
@@ -85,7 +86,8 @@ returns : tie.Need-returns Inv-loop μ-loop
 returns c =
     let t = last c in
     let e =
-    gather-end (t .loop .inv) (lent t .pre .1 .0) (lent t .pre .1 .1) (omega (arith, c .before .if1 .left, counted t .entry-count .ensures)) in
+    gather-end (t .loop .inv) (lent t .pre .1 .0) (lent t .pre .1 .1)
+    (omega (arith, c .before .if1 .left, counted t .entry-count .ensures)) in
     (e .0, (e .1, e .2))
 
 pub gather-spec : {M : Type 1} → statement M

@@ -1,5 +1,5 @@
--- `pspmpeg::gather::gather_entry` is right since what it takes the entry for is what the definition takes it for, and the entry's frames lie in the
--- slices that the step leaves.
+-- `pspmpeg::gather::gather_entry` is right since what it takes the entry for is what the definition takes it for, and the entry's frames
+-- lie in the slices that the step leaves.
 use mathlib.Core.Path.{_≡_}
 use mathlib.Core.Bool.{cond}
 use mathlib.Core.List.{[]}
@@ -22,7 +22,8 @@ start c = c .before .before .before .before .before .before .before .before .bef
 abbrev lent : tie.After-is-for → tie.Start
 lent asked = start (asked .before .before .before)
 
--- from where the entry has been run back to where its session was asked for; to there from the way out, and from the frames that are appended
+-- from where the entry has been run back to where its session was asked for; to there from the way out, and from the frames that are
+-- appended
 abbrev asked : tie.After-step → tie.After-is-for
 asked ran = ran .before .before .before .before
 

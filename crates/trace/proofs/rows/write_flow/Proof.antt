@@ -54,7 +54,8 @@ numbered n =
       few = start n .pre .0 .2;
       long = start n .pre .1 .1;
       numbers =
-          numbers-written (a .r) (a .k) (a .flow) (word (row f) .write-words .ensures) (row f .write-decimal .ensures) (f .write-column .ensures)
+          numbers-written (a .r) (a .k) (a .flow) (word (row f) .write-words .ensures) (row f .write-decimal .ensures)
+          (f .write-column .ensures)
           (expected n .write-column2 .ensures) (n .write-column3 .ensures);
     }
 
@@ -65,7 +66,8 @@ after-space : (z : tie.After-wide-u16) → let s = spaced (placed z) in let n = 
 after-space z = record { gap = spaced (placed z) .write-byte .ensures; same = z .wide-u16 .ensures .0 }
 
 after-bytes : (h : tie.After-write-held) → let z = h .before in let s = spaced (placed z) in let a = start (numbersOf s) .args in
-    Shown (s .write-byte .last .0) (h .write-held .last .0) (a .holding .now) (s .write-byte .result) (h .write-held .result) (z .wide-u16 .result)
+    Shown (s .write-byte .last .0) (h .write-held .last .0) (a .holding .now) (s .write-byte .result) (h .write-held .result)
+    (z .wide-u16 .result)
     (placed z .place-of .result) (a .r) (a .k)
 after-bytes h = record { there = placed (h .before) .place-of .ensures; bytes = h .write-held .ensures }
 
@@ -131,7 +133,8 @@ write-byte-requires-2 c κs =
 
 -- the whole line
 line : (c : tie.After-slice-known9) → let n = numbersOf (spaced (placed (shown c .before))) in let a = start n .args in
-    Wrote (a .text .now) (c .before .before .write-byte2 .last .0) (a .at) (c .before .before .write-byte2 .result) (flowText (a .holding .now) (a .r) (a .k) (a .flow))
+    Wrote (a .text .now) (c .before .before .write-byte2 .last .0) (a .at) (c .before .before .write-byte2 .result)
+    (flowText (a .holding .now) (a .r) (a .k) (a .flow))
     × (c .before .before .write-byte2 .result ≤ a .at + flowRoom)
 line c =
     let h = shown c in

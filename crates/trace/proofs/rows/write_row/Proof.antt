@@ -70,7 +70,8 @@ loop-less c = search needs
 loop-again : tie.Need-loop-again Inv-loop μ-loop
 loop-again c =
     let wrote = c .before .before .write-flow .ensures in
-    pieces-turn (c .before .before .before .before .before .before .loop .inv) (c .before .before .before .before .before .loop-test .taken) (wrote .0) (wrote .1)
+    pieces-turn (c .before .before .before .before .before .before .loop .inv) (c .before .before .before .before .before .loop-test .taken)
+    (wrote .0) (wrote .1)
 
 same-length : tie.Need-same-length Inv-loop μ-loop
 same-length c = wrote-length (wrote-then (lined (c .before) .write-row-line .ensures .0) (c .before .loop .inv .wrote))

@@ -28,8 +28,10 @@ element-copy-out-write-row c = search needs
 write-row-requires : tie.Need-write-row-requires Inv-loop μ-loop
 write-row-requires c κs =
     let p = c .before .before .before .before .before .before .pre in
-    let more = c .before .before .loop-test .taken in
-    ((more, held-few (c .before .before .before .before .before .before .args .t3) (p .0) (c .before .before .before .loop .r) more), (p .1 .0, pieces-room (c .before .before .before .loop .inv) more (omega (arith, p .1 .1))))
+    let more = c .before .before .loop-test .taken in (
+      (more, held-few (c .before .before .before .before .before .before .args .t3) (p .0) (c .before .before .before .loop .r) more),
+      (p .1 .0, pieces-room (c .before .before .before .loop .inv) more (omega (arith, p .1 .1))),
+    )
 
 add-r : tie.Need-add-r Inv-loop μ-loop
 add-r c = search needs
@@ -39,14 +41,16 @@ loop-less c = search needs
 
 loop-again : tie.Need-loop-again Inv-loop μ-loop
 loop-again c =
-    pieces-turn (c .before .before .before .before .before .before .loop .inv) (c .before .before .before .before .before .loop-test .taken) (c .before .before .write-row .ensures .0) (c .before .before .write-row .ensures .1)
+    pieces-turn (c .before .before .before .before .before .before .loop .inv) (c .before .before .before .before .before .loop-test .taken)
+    (c .before .before .write-row .ensures .0) (c .before .before .write-row .ensures .1)
 
 same-length : tie.Need-same-length Inv-loop μ-loop
 same-length c = wrote-length (c .before .loop .inv .wrote)
 
 returns : tie.Need-returns Inv-loop μ-loop
 returns c =
-    rows-written (c .before .before .before .before .args .holding .now) (c .before .before .before .before .args .t3) (pieces-end (c .before .loop .inv) (c .loop-test .left))
+    rows-written (c .before .before .before .before .args .holding .now) (c .before .before .before .before .args .t3)
+    (pieces-end (c .before .loop .inv) (c .loop-test .left))
 
 pub write-rows-spec : {M : Type 1} → statement M
 write-rows-spec =
