@@ -7,14 +7,16 @@ use mathlib.Core.List.{List, [], _∷_, _++_, map, append-nil, append-assoc}
 use native.Mathlib.Omega.{arith}
 use native.Mathlib.Nat.{not-suc-le-zero}
 use lib.Dec.{eqb, ltb}
-use lib.ListN.{length, take, replicate, length-append, length-take, length-replicate}
+use lib.ListN.{length, take, replicate, length-append, length-replicate}
 use borrow.Author.Tests.{eqb-true, eqb-false, eq-eqb, ne-eqb, le-leb, ltb-true, ltb-false}
 use Rattle.refusal.specs.Refusal.{first}
 use Rattle.refusal.proofs.Laws.{and-left, and-right}
 use Rattle.octets.specs.Bytes.{two, four}
 use Rattle.octets.specs.Stretch.{part, put, joined}
-use Rattle.octets.proofs.Stretches.{length-put, part-put, part-all, map-one-more, joined-one-more}
+use Rattle.octets.proofs.Stretches.{part-short, sliced-front, length-put, part-put, part-all, map-one-more}
+use Rattle.octets.proofs.Stretches.{joined-cons, joined-one-more, length-joined-none, length-joined}
 use Rattle.packet.specs.Header.{idLength}
+use Rattle.sender.specs.declared.Position.{Position}
 use Rattle.sender.specs.declared.Sent.{Sent}
 use Rattle.sender.specs.Send.{greatestLimit, sendRefusals, SendOutcome, sent, PermitsSend}
 use Rattle.sender.specs.Series.{Job, Turn, askedFor, packetLeft, seriesPackets}
@@ -30,11 +32,47 @@ use Rattle.pspsend.specs.declared.series.Series.{Series}
 use Rattle.pspsend.specs.Capture.{opening, dataOf, turnFor, atFirst, sentFrom, packetsFor, entriesFor, captureRefusals, firstAnswer, makeRefusal}
 use Rattle.pspsend.specs.Inside.{packetRoom, mostBytes, Unhurried, goesOn, stops, codeThen, seriesAfter, contentsThen, bodiesThen, SentAll}
 
--- One call. `s` is what send answered and `after` what it left in a scratch slice that was long enough.
-module _ (job : Job) (limit : ℕ) (series : Series) (scratch : List ℕ) (room : packetRoom ≤ length scratch) (s : Sent) (after : List ℕ)
-    (p : PermitsSend (askedFor job (series .number) (series .position) (record { limit = limit; output = scratch })) (record { answer = s; output = after })) where
+-- One call: what it is given, with a scratch slice that is long enough; and what it answers and leaves there.
+pub record Once : Type 0 where
+  pub job : Job
+  pub limit : ℕ
+  pub series : Series
+  pub scratch : List ℕ
+  pub scratch-long : packetRoom ≤ length scratch
+  pub answer : Sent
+  pub after : List ℕ
+  pub permitted : PermitsSend (askedFor job (series .number) (series .position) (record { limit = limit; output = scratch }))
+      (record { answer = answer; output = after })
+
+-- a series that may go on
+abbrev stands : Position → ℕ → Writer → Series
+stands position number writer = record { code = 0; position = position; number = number; writer = writer }
+
+module _ (once : Once) where
+  abbrev job : Job
+  job = once .job
+
+  abbrev limit : ℕ
+  limit = once .limit
+
+  abbrev series : Series
+  series = once .series
+
+  abbrev scratch : List ℕ
+  scratch = once .scratch
+
+  abbrev s : Sent
+  s = once .answer
+
+  abbrev after : List ℕ
+  after = once .after
+
+  abbrev p : PermitsSend (askedFor job (series .number) (series .position) (record { limit = limit; output = scratch }))
+      (record { answer = s; output = after })
+  p = once .permitted
+
   scratch-long : limit ≤ greatestLimit → limit + idLength ≤ length scratch
-  scratch-long h = omega arith
+  scratch-long h = omega (arith, once .scratch-long)
 
   abbrev zeros : List ℕ
   zeros = replicate (limit + idLength) 0
@@ -53,7 +91,9 @@ module _ (job : Job) (limit : ℕ) (series : Series) (scratch : List ℕ) (room 
     stopped = ne-eqb (codeThen job limit series) 0 (λ z. refused (code-then ∙ z))
 
     pub step-stops : record { code = s .code; position = series .position; number = series .number; writer = series .writer } ≡ seriesAfter job limit series
-    step-stops = rw (stopped, code-then) refl
+    step-stops =
+        ap (λ (n : ℕ). stops n series) code-then
+        ∙ sym (ap (λ (t : Bool). cond t (goesOn job limit series) (stops (codeThen job limit series) series)) stopped)
 
     pub contents-stay : (contents : List ℕ) → contents ≡ contentsThen job limit contents series
     contents-stay contents = rw stopped refl
@@ -69,7 +109,9 @@ module _ (job : Job) (limit : ℕ) (series : Series) (scratch : List ℕ) (room 
     went-on = eq-eqb (codeThen job limit series) 0 (sym code-then ∙ accepted)
 
     length-fits : s .length ≤ limit + 4
-    length-fits = rw (p .its-length) (sent-length (askedFor job (series .number) (series .position) (record { limit = limit; output = scratch })) passed)
+    length-fits =
+        omega
+        (arith, p .its-length, sent-length (askedFor job (series .number) (series .position) (record { limit = limit; output = scratch })) passed)
 
     limit-fits : limit ≤ 4096
     limit-fits = small (askedFor job (series .number) (series .position) (record { limit = limit; output = scratch })) passed
@@ -82,14 +124,13 @@ module _ (job : Job) (limit : ℕ) (series : Series) (scratch : List ℕ) (room 
         record {
           few-entries = omega (arith, u .few-entries);
           few-bytes = omega (arith, u .few-bytes, u .few-entries);
-          body-short = omega (arith, packet-short, length-take (s .length) after);
+          body-short = omega (arith, packet-short, ap length (sliced-front after (s .length)), part-short after 0 (s .length));
         }
 
     -- the front of the scratch slice is the packet
     pub packet-is : take (s .length) after ≡ packetLeft (sentFrom job limit (series .number) (series .position))
-    unfolding part
     packet-is =
-        ap (λ (n : ℕ). take n after) (p .its-length) ∙ ap (take (a .answer .length)) (p .its-output)
+        sliced-front after (s .length) ∙ ap (part after 0) (p .its-length) ∙ ap (λ (l : List ℕ). part l 0 (a .answer .length)) (p .its-output)
         ∙ alike-packet job (series .number) (series .position) limit scratch zeros scratch-long turn-long passed
 
     answer-is : (a .answer .position ≡ (sentFrom job limit (series .number) (series .position)) .answer .position)
@@ -104,7 +145,12 @@ module _ (job : Job) (limit : ℕ) (series : Series) (scratch : List ℕ) (room 
 
       pub step-on : (w : Writer) → w ≡ added (series .writer) packet →
           record { code = 0; position = s .position; number = s .number; writer = w } ≡ seriesAfter job limit series
-      step-on w e = rw (went-on, e, packet-same, p .its-position, p .its-number, answer-is .0, answer-is .1) refl
+      step-on w e =
+          let o = sentFrom job limit (series .number) (series .position) in
+          ap (λ (x : Position). stands x (s .number) w) (p .its-position ∙ answer-is .0)
+          ∙ ap (λ (x : ℕ). stands (o .answer .position) x w) (p .its-number ∙ answer-is .1)
+          ∙ ap (stands (o .answer .position) (o .answer .number)) (e ∙ ap (added (series .writer)) packet-same)
+          ∙ sym (ap (λ (t : Bool). cond t (goesOn job limit series) (stops (codeThen job limit series) series)) went-on)
 
       pub contents-on : (contents contents′ : List ℕ) → contents′ ≡ contentsAfter contents (series .writer) (dataOf packet) → contents′ ≡ contentsThen job limit contents series
       contents-on contents contents′ e = rw went-on (e ∙ ap (λ (x : List ℕ). contentsAfter contents (series .writer) (dataOf x)) packet-same)
@@ -145,13 +191,13 @@ module _ (job : Job) (limit number : ℕ) (contents₁ bodies₁ : List ℕ) whe
     pub few-bytes : s .writer .bytes ≤ packetRoom * s .writer .entries
 
   pub going-begin : Going contents₁ bodies₁ (record { code = 0; position = atFirst; number = number; writer = opened }) (length (job .bytes) + 1)
-  unfolding packetsFor joined
+  unfolding packetsFor
   going-begin =
       record {
         gone = [];
         to-come = refl;
         entries-counted = refl;
-        bytes-counted = refl;
+        bytes-counted = omega (arith, length-joined-none);
         held = λ _ c₀ b₀ r h. h;
         still-first = λ _ _. (refl, refl);
         first-refused = λ _ z. absurd (z refl);
@@ -300,9 +346,9 @@ module _ (job : Job) (limit number : ℕ) (contents₁ bodies₁ : List ℕ) whe
 
 -- The capture that is made.
 bodies-joined : (l : List (List ℕ)) → joined (map bodyOf (map dataOf l)) ≡ joined l
-unfolding joined
 bodies-joined [] = refl
-bodies-joined (x ∷ l) = ap (λ (r : List ℕ). x ++ r) (bodies-joined l)
+bodies-joined (x ∷ l) =
+    joined-cons x (map bodyOf (map dataOf l)) ∙ ap (λ (r : List ℕ). x ++ r) (bodies-joined l) ∙ sym (joined-cons x l)
 
 module _ (job : Job) (limit number : ℕ) (contents₁ bodies₁ contents bodies : List ℕ) (s : Series) (all : SentAll job limit number contents₁ bodies₁ contents bodies s) where
   length-map : (l : List (List ℕ)) → length (map dataOf l) ≡ length l
@@ -311,13 +357,13 @@ module _ (job : Job) (limit number : ℕ) (contents₁ bodies₁ contents bodies
 
   -- the counts are those of the file
   file-counted : (fileLength (s .writer) ≡ length (fileOf (entriesFor job limit number))) × (s .writer .entries ≡ length (entriesFor job limit number))
-  unfolding entriesFor joined
+  unfolding entriesFor
   file-counted =
       let ps = packetsFor job limit number in
       let f = file-length (entriesFor job limit number) in
       let n = length-map ps in
       let b = ap length (bodies-joined ps) in
-      let whole = length-append (four (job .session)) (joined (map bodyOf (map dataOf ps))) in
+      let whole = length-joined (four (job .session)) (map bodyOf (map dataOf ps)) in
       (omega (arith, all .entries-counted, all .bytes-counted), omega (arith, all .entries-counted))
 
   refusals-are : first (writeRefusals (s .writer)) ≡ first (captureRefusals (entriesFor job limit number))

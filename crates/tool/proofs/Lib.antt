@@ -1,3 +1,4 @@
 pub mod Digits
+pub mod Laws
 pub mod Line
 pub mod Examples

@@ -1,4 +1,5 @@
 -- `pspsend::main` is safe since it turns away a session ID of more than four bytes and a number of more than two.
+use Prim.Native.Nat.{ℕ, _≤_}
 use native.Mathlib.Omega.{arith}
 use lib.Dec.{ltb}
 use borrow.Author.Tests.{ltb-false}
@@ -34,17 +35,26 @@ usage-requires-2 c κs = search needs
 returns-2 : tie.Need-returns-2
 returns-2 c = search needs
 
+-- the numbers asked for, seen from behind the second test, and what that leaves of them
+abbrev session : tie.Else2 → ℕ
+session t = t .before .before .before .before .before .before .before .before .before .before .before .before .argument .result .value
+
+abbrev number : tie.Else2 → ℕ
+number t = t .before .before .before .before .before .before .before .before .before .before .argument3 .result .value
+
+in-range : (t : tie.Else2) → (session t ≤ 4294967295) × (number t ≤ 65535)
+in-range t =
+    let long = ltb 4294967295 (session t) in
+    let great = ltb 65535 (number t) in (
+      ltb-false 4294967295 (session t) (or-false-left long great (t .if2 .left)),
+      ltb-false 65535 (number t) (or-false-right long great (t .if2 .left)),
+    )
+
 cast-run : tie.Need-cast-run
-cast-run c =
-    let session = c .before .before .before .before .before .before .before .before .before .before .before .before .before .argument .result .value in
-    let number = c .before .before .before .before .before .before .before .before .before .before .before .argument3 .result .value in
-    omega (arith, ltb-false 4294967295 session (or-false-left (ltb 4294967295 session) (ltb 65535 number) (c .before .if2 .left)))
+cast-run c = omega (arith, in-range (c .before) .0)
 
 cast-run-2 : tie.Need-cast-run-2
-cast-run-2 c =
-    let session = c .before .before .before .before .before .before .before .before .before .before .before .before .before .before .argument .result .value in
-    let number = c .before .before .before .before .before .before .before .before .before .before .before .before .argument3 .result .value in
-    omega (arith, ltb-false 65535 number (or-false-right (ltb 4294967295 session) (ltb 65535 number) (c .before .before .if2 .left)))
+cast-run-2 c = omega (arith, in-range (c .before .before) .1)
 
 run-requires : tie.Need-run-requires
 run-requires c κs = search needs

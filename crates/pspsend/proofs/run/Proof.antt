@@ -1,6 +1,8 @@
 -- `pspsend::run` is safe since the frames lie in the room for them.
+use mathlib.Core.Path.{ap, _∙_}
 use native.Mathlib.Omega.{arith}
-use Rattle.octets.proofs.Stretches.{length-sliced}
+use lib.ListN.{length}
+use Rattle.octets.proofs.Stretches.{length-sliced, sliced-front, length-part-min}
 use borrow.Author.Needs.{needs}
 use Rattle.pspsend.proofs.run.Statement.{statement}
 use Rattle.pspsend.proofs.run.Tie as tie
@@ -52,8 +54,8 @@ send-requires c κs =
     let taken = c .before .before .before .before in
     let with-bytes = taken .before .before .before .before .before in
     let u = taken .take-frames in
-    let front = slice-aggregate-send (c .before .before) in
-    omega (arith, front, u .ensures .short, u .kept .1 .0, with-bytes .file-room2 .ensures)
+    let front = ap length (sliced-front (u .last .1 .0) (u .result .bytes)) ∙ length-part-min (u .last .1 .0) (u .result .bytes) in
+    omega (arith, front, u .kept .1 .0, with-bytes .file-room2 .ensures)
 
 returns : tie.Need-returns
 returns c = search needs

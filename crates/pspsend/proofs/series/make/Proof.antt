@@ -15,6 +15,23 @@ job s = record { session = s .args .session; flow = s .args .flow; bytes = s .ar
 abbrev entries : Writer → ℕ
 entries w = w .entries
 
+-- the places: the start, the opening entry added, all sent; and that seen from the test whether anything was
+abbrev Sent : Type 0
+Sent = tie.After-send-all
+
+abbrev opened : Sent → tie.After-add-open
+opened r = r .before .before .before .before .before .before .before
+
+abbrev start : Sent → tie.Start
+start r = opened r .before .before .before .before .before .before .before
+
+abbrev sent : tie.Else1 → Sent
+sent t = t .before .before .before .before .before .before .before .before
+
+-- something was sent
+some-sent : (t : tie.Else1) → sent t .send-all .result .writer .entries ≡ 1 → ⊥
+some-sent t e = t .if1 .left (e ∙ sym (ap entries (opened (sent t) .add-open .ensures .0)))
+
 add-open-requires : tie.Need-add-open-requires
 add-open-requires c κs = search needs
 
@@ -29,12 +46,17 @@ same-length-2 c = search needs
 
 returns : tie.Need-returns
 returns c =
-    let s = c .before .before .before .before .before .before .before .before .before .before .before .before .before .before .before .before .before .before .before .before .before .before in
-    let a = s .args in
-    let r = c .before .before .before .before .before .before .before .before .send-all in
-    let o = c .before .before .before .before .before .before .before .before .before .before .before .before .before .before .before .add-open in
-    let none = c .if1 .taken ∙ ap entries (o .ensures .0) in
-    (record { its-code = make-none (job s) (a .limit) (a .number) _ _ _ _ (r .result) (r .ensures) none; its-file = λ z. absurd (make-none-refused (job s) (a .limit) (a .number) _ _ _ _ (r .result) (r .ensures) none z) }, (omega arith, omega arith))
+    let r = c .before .before .before .before .before .before .before .before in
+    let all = r .send-all in
+    let a = start r .args in
+    let none = c .if1 .taken ∙ ap entries (opened r .add-open .ensures .0) in
+    let refused = make-none-refused (job (start r)) (a .limit) (a .number) _ _ _ _ (all .result) (all .ensures) none in (
+      record {
+        its-code = make-none (job (start r)) (a .limit) (a .number) _ _ _ _ (all .result) (all .ensures) none;
+        its-file = λ z. absurd (refused z);
+      },
+      (omega arith, omega arith),
+    )
 
 refuse-requires : tie.Need-refuse-requires
 refuse-requires c κs = search needs
@@ -47,22 +69,31 @@ same-length-4 c = search needs
 
 returns-2 : tie.Need-returns-2
 returns-2 c =
-    let s = c .before .before .before .before .before .before .before .before .before .before .before .before .before .before .before .before .before .before .before .before .before .before .before .before in
-    let a = s .args in
-    let r = c .before .before .before .before .before .before .before .before .before .before .send-all in
-    let o = c .before .before .before .before .before .before .before .before .before .before .before .before .before .before .before .before .before .add-open in
-    let some : r .result .writer .entries ≡ 1 → ⊥ = λ e. c .before .before .if1 .left (e ∙ sym (ap entries (o .ensures .0))) in
-    (record { its-code = make-judged (job s) (a .limit) (a .number) _ _ _ _ (r .result) (r .ensures) some (c .before .refuse .result) (c .before .refuse .ensures); its-file = λ z. absurd (c .if2 .taken z) }, (omega arith, omega arith))
+    let judged = c .before in
+    let test = judged .before in
+    let r = sent test in
+    let all = r .send-all in
+    let a = start r .args in (
+      record {
+        its-code =
+            make-judged (job (start r)) (a .limit) (a .number) _ _ _ _ (all .result) (all .ensures) (some-sent test) (judged .refuse .result)
+            (judged .refuse .ensures);
+        its-file = λ z. absurd (c .if2 .taken z);
+      },
+      (omega arith, omega arith),
+    )
 
 finish-requires : tie.Need-finish-requires
 finish-requires c κs =
-    let s = c .before .before .before .before .before .before .before .before .before .before .before .before .before .before .before .before .before .before .before .before .before .before .before .before .before in
+    let judged = c .before .before in
+    let test = judged .before in
+    let r = sent test in
+    let all = r .send-all in
+    let s = start r in
     let a = s .args in
-    let r = c .before .before .before .before .before .before .before .before .before .before .before .send-all in
-    let o = c .before .before .before .before .before .before .before .before .before .before .before .before .before .before .before .before .before .before .add-open in
-    let some : r .result .writer .entries ≡ 1 → ⊥ = λ e. c .before .before .before .if1 .left (e ∙ sym (ap entries (o .ensures .0))) in
-    let short = make-short (job s) (a .limit) (a .number) _ _ _ _ (r .result) (r .ensures) some (sym (c .before .before .refuse .ensures) ∙ c .before .if2 .left) in
-    (omega (arith, r .kept .0, o .kept .0, s .pre .0 .contents-long), omega (arith, short .0))
+    let z = sym (judged .refuse .ensures) ∙ c .before .if2 .left in
+    let short = make-short (job s) (a .limit) (a .number) _ _ _ _ (all .result) (all .ensures) (some-sent test) z in
+    (omega (arith, all .kept .0, opened r .add-open .kept .0, s .pre .0 .contents-long), omega (arith, short .0))
 
 mul-front : tie.Need-mul-front
 mul-front c = search needs
@@ -78,16 +109,22 @@ same-length-6 c = search needs
 
 returns-3 : tie.Need-returns-3
 returns-3 c =
-    let s = c .before .before .before .before .before .before .before .before .before .before .before .before .before .before .before .before .before .before .before .before .before .before .before .before .before .before .before .before .before in
+    let finished = c .before .before .before in
+    let passed = finished .before .before in
+    let judged = passed .before in
+    let test = judged .before in
+    let r = sent test in
+    let all = r .send-all in
+    let s = start r in
     let a = s .args in
-    let r = c .before .before .before .before .before .before .before .before .before .before .before .before .before .before .before .send-all in
-    let o = c .before .before .before .before .before .before .before .before .before .before .before .before .before .before .before .before .before .before .before .before .before .before .add-open in
-    let some : r .result .writer .entries ≡ 1 → ⊥ = λ e. c .before .before .before .before .before .before .before .if1 .left (e ∙ sym (ap entries (o .ensures .0))) in
-    let z = sym (c .before .before .before .before .before .before .refuse .ensures) ∙ c .before .before .before .before .before .if2 .left in
-    let short = make-short (job s) (a .limit) (a .number) _ _ _ _ (r .result) (r .ensures) some z in (
+    let some = some-sent test in
+    let z = sym (judged .refuse .ensures) ∙ passed .if2 .left in
+    let short = make-short (job s) (a .limit) (a .number) _ _ _ _ (all .result) (all .ensures) some z in (
       record {
-        its-code = make-judged (job s) (a .limit) (a .number) _ _ _ _ (r .result) (r .ensures) some 0 (sym z);
-        its-file = λ _. make-file (job s) (a .limit) (a .number) _ _ _ _ (r .result) (r .ensures) some z (a .contents .now) (a .bodies .now) (s .pre .0) (o .ensures .1) _ (c .before .before .before .finish .ensures);
+        its-code = make-judged (job s) (a .limit) (a .number) _ _ _ _ (all .result) (all .ensures) some 0 (sym z);
+        its-file =
+            λ _. make-file (job s) (a .limit) (a .number) _ _ _ _ (all .result) (all .ensures) some z (a .contents .now) (a .bodies .now) (s .pre .0)
+            (opened r .add-open .ensures .1) _ (finished .finish .ensures);
       },
       (omega (arith, short .0), short .1),
     )
