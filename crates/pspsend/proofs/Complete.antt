@@ -1,5 +1,5 @@
--- A capture that is not refused carries every frame, whole and in order, and its packets keep the rules that demand 3 supposes of any sender. It
--- passes the check of capture files, and its entries are read from it as they were meant.
+-- A capture that is not refused carries every frame, whole and in order, and its packets keep the rules that demand 3 supposes of any
+-- sender. It passes the check of capture files, and its entries are read from it as they were meant.
 use Prim.Native.Nat.{ℕ, zero, suc, _+_, _<_}
 use mathlib.Core.Path.{_≡_, refl, sym, ap, _∙_}
 use mathlib.Core.Bool.{Bool, true, false, cond}
@@ -36,7 +36,9 @@ module _ (job : Job) (limit number : ℕ) (made : makeRefusal job limit number �
   unfolding makeRefusal
   first-passed = by (eqb (firstAnswer job limit number) 0) refl made
     where
-      by : (t : Bool) → eqb (firstAnswer job limit number) 0 ≡ t → cond t (first (captureRefusals (entriesFor job limit number))) (firstAnswer job limit number) ≡ 0 → firstAnswer job limit number ≡ 0
+      by : (t : Bool) → eqb (firstAnswer job limit number) 0 ≡ t →
+          cond t (first (captureRefusals (entriesFor job limit number))) (firstAnswer job limit number) ≡ 0 →
+          firstAnswer job limit number ≡ 0
       by true e z = eqb-true (firstAnswer job limit number) 0 e
       by false e z = z
 
@@ -58,13 +60,16 @@ module _ (job : Job) (limit number : ℕ) (made : makeRefusal job limit number �
   made-whole four-bytes two-bytes =
       let p = sending.job (askedFor job number atFirst (turnFor limit)) passed in
       let sound : Sound job = record { addressed = p .addressed; four-bytes = four-bytes; frames-sound = p .frames-sound } in
-      sends-all job sound (replicate (length (job .bytes) + 1) (turnFor limit)) number two-bytes (each-same Usable (turnFor limit) (length (job .bytes) + 1) usable)
+      sends-all job sound (replicate (length (job .bytes) + 1) (turnFor limit)) number two-bytes
+      (each-same Usable (turnFor limit) (length (job .bytes) + 1) usable)
       (omega (arith, length-replicate {A = Turn} (length (job .bytes) + 1) (turnFor limit)))
 
   -- The capture passes the check of capture files, and its entries are read from it as they were meant.
   in-limits : first (captureRefusals (entriesFor job limit number)) ≡ 0
   unfolding makeRefusal
-  in-limits = sym (ap (λ (t : Bool). cond t (first (captureRefusals (entriesFor job limit number))) (firstAnswer job limit number)) (eq-eqb (firstAnswer job limit number) 0 first-passed)) ∙ made
+  in-limits =
+      sym (ap (λ (t : Bool). cond t (first (captureRefusals (entriesFor job limit number))) (firstAnswer job limit number))
+      (eq-eqb (firstAnswer job limit number) 0 first-passed)) ∙ made
 
   writable : Writable (entriesFor job limit number)
   unfolding entriesFor
@@ -76,5 +81,6 @@ module _ (job : Job) (limit number : ℕ) (made : makeRefusal job limit number �
         right = (record { its-kind = refl; its-length = refl }, packets-right (packetsFor job limit number));
       }
 
-  pub made-reads : (fileRefusal (fileOf (entriesFor job limit number)) ≡ 0) × (entries (fileOf (entriesFor job limit number)) ≡ entriesFor job limit number)
+  pub made-reads : (fileRefusal (fileOf (entriesFor job limit number)) ≡ 0)
+      × (entries (fileOf (entriesFor job limit number)) ≡ entriesFor job limit number)
   made-reads = (written-sound (entriesFor job limit number) writable, written-reads (entriesFor job limit number) writable)

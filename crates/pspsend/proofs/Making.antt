@@ -29,8 +29,10 @@ use Rattle.capture.specs.File.{longestFile, mostEntries, openPsp, headLength, e
 use Rattle.capture.specs.Write.{added, fileLength, within, writeRefusals, Roomy, Countable, contentsAfter, bodiesAfter, Holds}
 use Rattle.capture.proofs.Writing.{within-facts, not-refused, holds-none, holds-more, file-there, file-length}
 use Rattle.pspsend.specs.declared.series.Series.{Series}
-use Rattle.pspsend.specs.Capture.{opening, dataOf, turnFor, atFirst, sentFrom, packetsFor, entriesFor, captureRefusals, firstAnswer, makeRefusal}
-use Rattle.pspsend.specs.Inside.{packetRoom, mostBytes, Unhurried, goesOn, stops, codeThen, seriesAfter, contentsThen, bodiesThen, SentAll}
+use Rattle.pspsend.specs.Capture.{opening, dataOf, turnFor, atFirst, sentFrom, packetsFor, entriesFor, captureRefusals, firstAnswer}
+use Rattle.pspsend.specs.Capture.{makeRefusal}
+use Rattle.pspsend.specs.Inside.{packetRoom, mostBytes, Unhurried, goesOn, stops, codeThen, seriesAfter, contentsThen, bodiesThen}
+use Rattle.pspsend.specs.Inside.{SentAll}
 
 -- One call: what it is given, with a scratch slice that is long enough; and what it answers and leaves there.
 pub record Once : Type 0 where
@@ -90,7 +92,8 @@ module _ (once : Once) where
     stopped : eqb (codeThen job limit series) 0 ≡ false
     stopped = ne-eqb (codeThen job limit series) 0 (λ z. refused (code-then ∙ z))
 
-    pub step-stops : record { code = s .code; position = series .position; number = series .number; writer = series .writer } ≡ seriesAfter job limit series
+    pub step-stops : record { code = s .code; position = series .position; number = series .number; writer = series .writer }
+        ≡ seriesAfter job limit series
     step-stops =
         ap (λ (n : ℕ). stops n series) code-then
         ∙ sym (ap (λ (t : Bool). cond t (goesOn job limit series) (stops (codeThen job limit series) series)) stopped)
@@ -103,15 +106,21 @@ module _ (once : Once) where
 
   module _ (accepted : s .code ≡ 0) where
     passed : first (sendRefusals (askedFor job (series .number) (series .position) (record { limit = limit; output = scratch }))) ≡ 0
-    passed = sym (code-is (askedFor job (series .number) (series .position) (record { limit = limit; output = scratch }))) ∙ sym (p .its-code) ∙ accepted
+    passed =
+        sym (code-is (askedFor job (series .number) (series .position) (record { limit = limit; output = scratch })))
+        ∙ sym (p .its-code) ∙ accepted
 
     went-on : eqb (codeThen job limit series) 0 ≡ true
     went-on = eq-eqb (codeThen job limit series) 0 (sym code-then ∙ accepted)
 
     length-fits : s .length ≤ limit + 4
     length-fits =
-        omega
-        (arith, p .its-length, sent-length (askedFor job (series .number) (series .position) (record { limit = limit; output = scratch })) passed)
+        omega (
+          arith,
+          p .its-length,
+          sent-length
+              (askedFor job (series .number) (series .position) (record { limit = limit; output = scratch })) passed,
+        )
 
     limit-fits : limit ≤ 4096
     limit-fits = small (askedFor job (series .number) (series .position) (record { limit = limit; output = scratch })) passed
@@ -130,7 +139,8 @@ module _ (once : Once) where
     -- the front of the scratch slice is the packet
     pub packet-is : take (s .length) after ≡ packetLeft (sentFrom job limit (series .number) (series .position))
     packet-is =
-        sliced-front after (s .length) ∙ ap (part after 0) (p .its-length) ∙ ap (λ (l : List ℕ). part l 0 (a .answer .length)) (p .its-output)
+        sliced-front after (s .length) ∙ ap (part after 0) (p .its-length)
+        ∙ ap (λ (l : List ℕ). part l 0 (a .answer .length)) (p .its-output)
         ∙ alike-packet job (series .number) (series .position) limit scratch zeros scratch-long turn-long passed
 
     answer-is : (a .answer .position ≡ (sentFrom job limit (series .number) (series .position)) .answer .position)
@@ -152,10 +162,13 @@ module _ (once : Once) where
           ∙ ap (stands (o .answer .position) (o .answer .number)) (e ∙ ap (added (series .writer)) packet-same)
           ∙ sym (ap (λ (t : Bool). cond t (goesOn job limit series) (stops (codeThen job limit series) series)) went-on)
 
-      pub contents-on : (contents contents′ : List ℕ) → contents′ ≡ contentsAfter contents (series .writer) (dataOf packet) → contents′ ≡ contentsThen job limit contents series
-      contents-on contents contents′ e = rw went-on (e ∙ ap (λ (x : List ℕ). contentsAfter contents (series .writer) (dataOf x)) packet-same)
+      pub contents-on : (contents contents′ : List ℕ) → contents′ ≡ contentsAfter contents (series .writer) (dataOf packet) →
+          contents′ ≡ contentsThen job limit contents series
+      contents-on contents contents′ e =
+          rw went-on (e ∙ ap (λ (x : List ℕ). contentsAfter contents (series .writer) (dataOf x)) packet-same)
 
-      pub bodies-on : (bodies bodies′ : List ℕ) → bodies′ ≡ bodiesAfter bodies (series .writer) (dataOf packet) → bodies′ ≡ bodiesThen job limit bodies series
+      pub bodies-on : (bodies bodies′ : List ℕ) → bodies′ ≡ bodiesAfter bodies (series .writer) (dataOf packet) →
+          bodies′ ≡ bodiesThen job limit bodies series
       bodies-on bodies bodies′ e = rw went-on (e ∙ ap (λ (x : List ℕ). bodiesAfter bodies (series .writer) (dataOf x)) packet-same)
 
 positive : (n : ℕ) → (n ≡ 0 → ⊥) → 1 ≤ n
@@ -178,10 +191,12 @@ module _ (job : Job) (limit number : ℕ) (contents₁ bodies₁ : List ℕ) whe
 
   pub record Going (contents bodies : List ℕ) (s : Series) (turns : ℕ) : Type 0 where
     pub gone : List (List ℕ)
-    pub to-come : packetsFor job limit number ≡ gone ++ cond (eqb (s .code) 0) (seriesPackets job (s .number) (s .position) (replicate turns turn)) []
+    pub to-come : packetsFor job limit number
+        ≡ gone ++ cond (eqb (s .code) 0) (seriesPackets job (s .number) (s .position) (replicate turns turn)) []
     pub entries-counted : s .writer .entries ≡ 1 + length gone
     pub bytes-counted : s .writer .bytes ≡ idLength + length (joined gone)
-    pub held : within (s .writer) ≡ true → (contents₀ bodies₀ : List ℕ) → Roomy contents₀ bodies₀ → Holds (opening (job .session) ∷ []) contents₀ bodies₀ contents₁ bodies₁ opened →
+    pub held : within (s .writer) ≡ true → (contents₀ bodies₀ : List ℕ) → Roomy contents₀ bodies₀ →
+        Holds (opening (job .session) ∷ []) contents₀ bodies₀ contents₁ bodies₁ opened →
         Holds (opening (job .session) ∷ map dataOf gone) contents₀ bodies₀ contents bodies (s .writer)
     pub still-first : length gone ≡ 0 → s .code ≡ 0 → (s .number ≡ number) × (s .position ≡ atFirst)
     pub first-refused : length gone ≡ 0 → (s .code ≡ 0 → ⊥) → s .code ≡ firstAnswer job limit number
@@ -190,7 +205,8 @@ module _ (job : Job) (limit number : ℕ) (contents₁ bodies₁ : List ℕ) whe
     pub turns-few : length gone + turns ≤ length (job .bytes) + 1
     pub few-bytes : s .writer .bytes ≤ packetRoom * s .writer .entries
 
-  pub going-begin : Going contents₁ bodies₁ (record { code = 0; position = atFirst; number = number; writer = opened }) (length (job .bytes) + 1)
+  pub going-begin : Going contents₁ bodies₁ (record { code = 0; position = atFirst; number = number; writer = opened })
+      (length (job .bytes) + 1)
   unfolding packetsFor
   going-begin =
       record {
@@ -220,7 +236,8 @@ module _ (job : Job) (limit number : ℕ) (contents₁ bodies₁ : List ℕ) whe
     next-packets : (t : Bool) → eqb (o .answer .code) 0 ≡ t → packetsFor job limit number ≡ g .gone ++ cond t (packet ∷ behind) []
     unfolding seriesPackets
     next-packets t e =
-        g .to-come ∙ ap (λ (b : Bool). g .gone ++ cond b (seriesPackets job (s .number) (s .position) (replicate (suc k) turn)) []) (eq-eqb (s .code) 0 on)
+        g .to-come ∙ ap (λ (b : Bool). g .gone ++ cond b (seriesPackets job (s .number) (s .position) (replicate (suc k) turn)) [])
+        (eq-eqb (s .code) 0 on)
         ∙ ap (λ (b : Bool). g .gone ++ cond b (packet ∷ behind) []) e
 
     first-is : length (g .gone) ≡ 0 → o .answer .code ≡ firstAnswer job limit number
@@ -241,7 +258,8 @@ module _ (job : Job) (limit number : ℕ) (contents₁ bodies₁ : List ℕ) whe
           let is = ap length (sent-packet (askedFor job (s .number) (s .position) turn) z) in
           omega (arith, fits, few, is)
 
-      going-on : Going (contentsAfter contents (s .writer) (dataOf packet)) (bodiesAfter bodies (s .writer) (dataOf packet)) (goesOn job limit s) k
+      going-on : Going (contentsAfter contents (s .writer) (dataOf packet)) (bodiesAfter bodies (s .writer) (dataOf packet))
+          (goesOn job limit s) k
       going-on =
           let n = length-append (g .gone) (packet ∷ []) in
           let j = ap length (joined-one-more (g .gone) packet) ∙ length-append (joined (g .gone)) packet in
@@ -263,19 +281,25 @@ module _ (job : Job) (limit number : ℕ) (contents₁ bodies₁ : List ℕ) whe
           passes true q = sym (first-is (eqb-true (length (g .gone)) 0 q)) ∙ zero-code
           passes false q = g .first-passed (positive (length (g .gone)) (eqb-false (length (g .gone)) 0 q))
 
-          held-more : within (added (s .writer) packet) ≡ true → (c₀ b₀ : List ℕ) → Roomy c₀ b₀ → Holds (opening (job .session) ∷ []) c₀ b₀ contents₁ bodies₁ opened →
-              Holds (opening (job .session) ∷ map dataOf (g .gone ++ (packet ∷ []))) c₀ b₀ (contentsAfter contents (s .writer) (dataOf packet)) (bodiesAfter bodies (s .writer) (dataOf packet)) (added (s .writer) packet)
+          held-more : within (added (s .writer) packet) ≡ true → (c₀ b₀ : List ℕ) → Roomy c₀ b₀ →
+              Holds (opening (job .session) ∷ []) c₀ b₀ contents₁ bodies₁ opened →
+              Holds (opening (job .session) ∷ map dataOf (g .gone ++ (packet ∷ []))) c₀ b₀
+              (contentsAfter contents (s .writer) (dataOf packet)) (bodiesAfter bodies (s .writer) (dataOf packet))
+              (added (s .writer) packet)
           held-more w c₀ b₀ roomy h =
               let f = within-facts (added (s .writer) packet) w in
               rw (map-one-more dataOf (g .gone) packet, w)
-              (holds-more (g .held (within-before (s .writer) packet w) c₀ b₀ roomy h) (omega (arith, f .0, roomy .contents-long)) (omega (arith, f .1, roomy .bodies-long)) (dataOf packet) _ _ refl refl)
+              (holds-more (g .held (within-before (s .writer) packet w) c₀ b₀ roomy h) (omega (arith, f .0, roomy .contents-long))
+              (omega (arith, f .1, roomy .bodies-long)) (dataOf packet) _ _ refl refl)
 
     -- none
     going-stopped : eqb (o .answer .code) 0 ≡ false → Going contents bodies (stops (o .answer .code) s) k
     going-stopped e =
         record {
           gone = g .gone;
-          to-come = next-packets false e ∙ ap (λ (b : Bool). g .gone ++ cond b (seriesPackets job (s .number) (s .position) (replicate k turn)) []) (sym e);
+          to-come =
+              next-packets false e ∙ ap
+              (λ (b : Bool). g .gone ++ cond b (seriesPackets job (s .number) (s .position) (replicate k turn)) []) (sym e);
           entries-counted = g .entries-counted;
           bytes-counted = g .bytes-counted;
           held = g .held;
@@ -288,16 +312,20 @@ module _ (job : Job) (limit number : ℕ) (contents₁ bodies₁ : List ℕ) whe
         }
 
     going-by : (t : Bool) → eqb (o .answer .code) 0 ≡ t →
-        Going (cond t (contentsAfter contents (s .writer) (dataOf packet)) contents) (cond t (bodiesAfter bodies (s .writer) (dataOf packet)) bodies) (cond t (goesOn job limit s) (stops (o .answer .code) s)) k
+        Going (cond t (contentsAfter contents (s .writer) (dataOf packet)) contents)
+        (cond t (bodiesAfter bodies (s .writer) (dataOf packet)) bodies) (cond t (goesOn job limit s) (stops (o .answer .code) s)) k
     going-by true e = going-on e
     going-by false e = going-stopped e
 
-    pub going-turn : (q : Series) (contents′ bodies′ : List ℕ) → q ≡ seriesAfter job limit s → contents′ ≡ contentsThen job limit contents s → bodies′ ≡ bodiesThen job limit bodies s →
+    pub going-turn : (q : Series) (contents′ bodies′ : List ℕ) → q ≡ seriesAfter job limit s →
+        contents′ ≡ contentsThen job limit contents s → bodies′ ≡ bodiesThen job limit bodies s →
         Going contents′ bodies′ q k
     going-turn q contents′ bodies′ a b c = rw (a, b, c) (going-by (eqb (o .answer .code) 0) refl)
 
-  pub going-next : {contents bodies : List ℕ} {s : Series} {turns : ℕ} → Going contents bodies s turns → (eqb (s .code) 0 && ltb 0 turns) ≡ true →
-      (q : Series) (contents′ bodies′ : List ℕ) → q ≡ seriesAfter job limit s → contents′ ≡ contentsThen job limit contents s → bodies′ ≡ bodiesThen job limit bodies s →
+  pub going-next : {contents bodies : List ℕ} {s : Series} {turns : ℕ} → Going contents bodies s turns →
+      (eqb (s .code) 0 && ltb 0 turns) ≡ true →
+      (q : Series) (contents′ bodies′ : List ℕ) → q ≡ seriesAfter job limit s → contents′ ≡ contentsThen job limit contents s →
+      bodies′ ≡ bodiesThen job limit bodies s →
       Going contents′ bodies′ q (turns - 1)
   going-next {contents} {bodies} {s} {turns} g goes q contents′ bodies′ a b c =
       let on = eqb-true (s .code) 0 (and-left (eqb (s .code) 0) (ltb 0 turns) goes) in
@@ -319,7 +347,8 @@ module _ (job : Job) (limit number : ℕ) (contents₁ bodies₁ : List ℕ) whe
           none-left : (n : ℕ) → n ≡ 0 → seriesPackets job (s .number) (s .position) (replicate n turn) ≡ []
           none-left n z = rw z refl
 
-          by : (t : Bool) → eqb (s .code) 0 ≡ t → g .gone ++ cond t (seriesPackets job (s .number) (s .position) (replicate turns turn)) [] ≡ g .gone ++ []
+          by : (t : Bool) → eqb (s .code) 0 ≡ t →
+              g .gone ++ cond t (seriesPackets job (s .number) (s .position) (replicate turns turn)) [] ≡ g .gone ++ []
           by true e =
               let no-turn : ltb 0 turns ≡ false = sym (ap (λ (b : Bool). b && ltb 0 turns) e) ∙ ends in
               ap (λ (l : List (List ℕ)). g .gone ++ l) (none-left turns (omega (arith, ltb-false 0 turns no-turn)))
@@ -339,7 +368,8 @@ module _ (job : Job) (limit number : ℕ) (contents₁ bodies₁ : List ℕ) whe
             entries-counted = rw all-gone (g .entries-counted);
             bytes-counted = rw all-gone (g .bytes-counted);
             held = rw all-gone (g .held);
-            none-sent = λ none. let z = not-zero (ap length (sym all-gone) ∙ none) in (g .first-refused (ap length (sym all-gone) ∙ none) z, z);
+            none-sent =
+                λ none. let z = not-zero (ap length (sym all-gone) ∙ none) in (g .first-refused (ap length (sym all-gone) ∙ none) z, z);
             some-sent = λ some. g .first-passed (rw all-gone at some);
             unhurried = unhurried few;
           }
@@ -350,13 +380,15 @@ bodies-joined [] = refl
 bodies-joined (x ∷ l) =
     joined-cons x (map bodyOf (map dataOf l)) ∙ ap (λ (r : List ℕ). x ++ r) (bodies-joined l) ∙ sym (joined-cons x l)
 
-module _ (job : Job) (limit number : ℕ) (contents₁ bodies₁ contents bodies : List ℕ) (s : Series) (all : SentAll job limit number contents₁ bodies₁ contents bodies s) where
+module _ (job : Job) (limit number : ℕ) (contents₁ bodies₁ contents bodies : List ℕ) (s : Series)
+    (all : SentAll job limit number contents₁ bodies₁ contents bodies s) where
   length-map : (l : List (List ℕ)) → length (map dataOf l) ≡ length l
   length-map [] = refl
   length-map (x ∷ l) = ap suc (length-map l)
 
   -- the counts are those of the file
-  file-counted : (fileLength (s .writer) ≡ length (fileOf (entriesFor job limit number))) × (s .writer .entries ≡ length (entriesFor job limit number))
+  file-counted : (fileLength (s .writer) ≡ length (fileOf (entriesFor job limit number)))
+      × (s .writer .entries ≡ length (entriesFor job limit number))
   unfolding entriesFor
   file-counted =
       let ps = packetsFor job limit number in
@@ -374,7 +406,8 @@ module _ (job : Job) (limit number : ℕ) (contents₁ bodies₁ contents bodies
   unfolding makeRefusal
   make-none e =
       let n = all .none-sent (omega (arith, all .entries-counted)) in
-      n .0 ∙ sym (ap (λ (t : Bool). cond t (first (captureRefusals (entriesFor job limit number))) (firstAnswer job limit number)) (ne-eqb (firstAnswer job limit number) 0 (λ z. n .1 (n .0 ∙ z))))
+      n .0 ∙ sym (ap (λ (t : Bool). cond t (first (captureRefusals (entriesFor job limit number))) (firstAnswer job limit number))
+      (ne-eqb (firstAnswer job limit number) 0 (λ z. n .1 (n .0 ∙ z))))
 
   pub make-none-refused : s .writer .entries ≡ 1 → s .code ≡ 0 → ⊥
   make-none-refused e = all .none-sent (omega (arith, all .entries-counted)) .1
@@ -384,7 +417,8 @@ module _ (job : Job) (limit number : ℕ) (contents₁ bodies₁ contents bodies
     unfolding makeRefusal
     by-capture =
         let z = all .some-sent (positive-packets (length (packetsFor job limit number)) (all .entries-counted) some) in
-        ap (λ (t : Bool). cond t (first (captureRefusals (entriesFor job limit number))) (firstAnswer job limit number)) (eq-eqb (firstAnswer job limit number) 0 z)
+        ap (λ (t : Bool). cond t (first (captureRefusals (entriesFor job limit number))) (firstAnswer job limit number))
+        (eq-eqb (firstAnswer job limit number) 0 z)
       where
         positive-packets : (n : ℕ) → s .writer .entries ≡ 1 + n → (s .writer .entries ≡ 1 → ⊥) → 1 ≤ n
         positive-packets n e h = omega arith
@@ -393,14 +427,17 @@ module _ (job : Job) (limit number : ℕ) (contents₁ bodies₁ contents bodies
     make-judged code e = e ∙ refusals-are ∙ sym by-capture
 
     -- the file
-    pub make-file : first (writeRefusals (s .writer)) ≡ 0 → (contents₀ bodies₀ : List ℕ) → Roomy contents₀ bodies₀ → Holds (opening (job .session) ∷ []) contents₀ bodies₀ contents₁ bodies₁ opened →
+    pub make-file : first (writeRefusals (s .writer)) ≡ 0 → (contents₀ bodies₀ : List ℕ) → Roomy contents₀ bodies₀ →
+        Holds (opening (job .session) ∷ []) contents₀ bodies₀ contents₁ bodies₁ opened →
         (contents′ : List ℕ) → contents′ ≡ put contents 0 (two (s .writer .entries)) →
-        part contents′ 0 (headLength + entryLength * s .writer .entries) ++ part bodies 0 (s .writer .bytes) ≡ fileOf (entriesFor job limit number)
+        part contents′ 0 (headLength + entryLength * s .writer .entries) ++ part bodies 0 (s .writer .bytes)
+        ≡ fileOf (entriesFor job limit number)
     unfolding entriesFor
     make-file z contents₀ bodies₀ roomy h contents′ e =
         let w = not-refused (s .writer) z in
         let f = within-facts (s .writer) w in
-        file-there (all .held w contents₀ bodies₀ roomy h) (omega (arith, f .0, roomy .contents-long)) (omega (arith, f .1, roomy .bodies-long)) contents′ e
+        file-there (all .held w contents₀ bodies₀ roomy h) (omega (arith, f .0, roomy .contents-long))
+        (omega (arith, f .1, roomy .bodies-long)) contents′ e
 
     pub make-short : first (writeRefusals (s .writer)) ≡ 0 → (s .writer .entries ≤ mostEntries) × (s .writer .bytes ≤ longestFile)
     make-short z = let f = within-facts (s .writer) (not-refused (s .writer) z) in (f .0, omega (arith, f .1))
@@ -424,7 +461,8 @@ module _ (session : ℕ) (contents bodies : List ℕ) (roomy : Roomy contents bo
     open-counted = counted ∙ rw (begun, its-id) refl
 
     pub open-holds : (contents′ bodies′ : List ℕ) → contents′ ≡ contentsAfter contents w (record { kind = openPsp; body = id }) →
-        bodies′ ≡ bodiesAfter bodies w (record { kind = openPsp; body = id }) → Holds (opening session ∷ []) contents bodies contents′ bodies′ opened
+        bodies′ ≡ bodiesAfter bodies w (record { kind = openPsp; body = id }) →
+        Holds (opening session ∷ []) contents bodies contents′ bodies′ opened
     open-holds contents′ bodies′ c b =
         holds-more (holds-none contents bodies) (omega (arith, roomy .contents-long)) (omega arith) (opening session) contents′ bodies′
         (rw (begun, its-id) at c) (rw (begun, its-id) at b)

@@ -1,6 +1,6 @@
--- The capture that pspsend makes: an entry that opens the session as PSP, then a data entry for each packet of a series of sends that starts at
--- the first byte of the first frame. It is refused where the first send is, by that number, and where the file would be longer or have
--- more entries than a capture may (document 01, "Capture file and listing"), by 41 or 43.
+-- The capture that pspsend makes: an entry that opens the session as PSP, then a data entry for each packet of a series of sends that
+-- starts at the first byte of the first frame. It is refused where the first send is, by that number, and where the file would be longer or
+-- have more entries than a capture may (document 01, "Capture file and listing"), by 41 or 43.
 use Prim.Native.Nat.{ℕ, _+_}
 use mathlib.Core.Path.{_≡_}
 use mathlib.Core.Bool.{cond}
@@ -50,7 +50,8 @@ abbrev pub firstAnswer : Job → ℕ → ℕ → ℕ
 firstAnswer job limit number = (sentFrom job limit number atFirst) .answer .code
 
 unfoldable pub makeRefusal : Job → ℕ → ℕ → ℕ
-makeRefusal job limit number = cond (eqb (firstAnswer job limit number) 0) (first (captureRefusals (entriesFor job limit number))) (firstAnswer job limit number)
+makeRefusal job limit number =
+    cond (eqb (firstAnswer job limit number) 0) (first (captureRefusals (entriesFor job limit number))) (firstAnswer job limit number)
 
 -- what making it answers and leaves: the file is the front of the contents and then the front of the bodies
 pub record Makes (job : Job) (limit number : ℕ) (contents bodies : List ℕ) (r : Made) : Type 0 where

@@ -42,17 +42,20 @@ seriesAfter job limit s = cond (eqb (codeThen job limit s) 0) (goesOn job limit 
 
 abbrev pub contentsThen : Job → ℕ → List ℕ → Series → List ℕ
 contentsThen job limit contents s =
-    cond (eqb (codeThen job limit s) 0) (contentsAfter contents (s .writer) (dataOf (packetLeft (sentFrom job limit (s .number) (s .position))))) contents
+    cond (eqb (codeThen job limit s) 0)
+    (contentsAfter contents (s .writer) (dataOf (packetLeft (sentFrom job limit (s .number) (s .position))))) contents
 
 abbrev pub bodiesThen : Job → ℕ → List ℕ → Series → List ℕ
 bodiesThen job limit bodies s =
-    cond (eqb (codeThen job limit s) 0) (bodiesAfter bodies (s .writer) (dataOf (packetLeft (sentFrom job limit (s .number) (s .position))))) bodies
+    cond (eqb (codeThen job limit s) 0)
+    (bodiesAfter bodies (s .writer) (dataOf (packetLeft (sentFrom job limit (s .number) (s .position))))) bodies
 
 -- All of them. The slices had the opening entry in them, and hold the others behind it where the file is within its limits.
 pub record SentAll (job : Job) (limit number : ℕ) (contents bodies contents′ bodies′ : List ℕ) (s : Series) : Type 0 where
   pub entries-counted : s .writer .entries ≡ 1 + length (packetsFor job limit number)
   pub bytes-counted : s .writer .bytes ≡ idLength + length (joined (packetsFor job limit number))
-  pub held : within (s .writer) ≡ true → (contents₀ bodies₀ : List ℕ) → Roomy contents₀ bodies₀ → Holds (opening (job .session) ∷ []) contents₀ bodies₀ contents bodies (record { entries = 1; bytes = idLength }) →
+  pub held : within (s .writer) ≡ true → (contents₀ bodies₀ : List ℕ) → Roomy contents₀ bodies₀ →
+      Holds (opening (job .session) ∷ []) contents₀ bodies₀ contents bodies (record { entries = 1; bytes = idLength }) →
       Holds (opening (job .session) ∷ map dataOf (packetsFor job limit number)) contents₀ bodies₀ contents′ bodies′ (s .writer)
   pub none-sent : length (packetsFor job limit number) ≡ 0 → (s .code ≡ firstAnswer job limit number) × (s .code ≡ 0 → ⊥)
   pub some-sent : 1 ≤ length (packetsFor job limit number) → firstAnswer job limit number ≡ 0

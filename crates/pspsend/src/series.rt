@@ -61,10 +61,13 @@ fn send_once(
     series: Series,
 ) -> Series
     requires { ⌜ Roomy (now contents) (now bodies) × (packetRoom ≤ length (now scratch)) × Unhurried series ⌝ }
-    ensures { λ r. ⌜ r ≡ seriesAfter (record { session = session; flow = flow; bytes = now (bytes .entry); lengths = now (lengths .entry) }) limit series ⌝ }
-    ensures { λ _. ⌜ now (contents .exit) ≡ contentsThen (record { session = session; flow = flow; bytes = now (bytes .entry); lengths = now (lengths .entry) })
+    ensures { λ r. ⌜ r ≡ seriesAfter (record { session = session; flow = flow; bytes = now (bytes .entry); lengths = now (lengths .entry) })
+        limit series ⌝ }
+    ensures { λ _. ⌜ now (contents .exit)
+        ≡ contentsThen (record { session = session; flow = flow; bytes = now (bytes .entry); lengths = now (lengths .entry) })
         limit (now (contents .entry)) series ⌝ }
-    ensures { λ _. ⌜ now (bodies .exit) ≡ bodiesThen (record { session = session; flow = flow; bytes = now (bytes .entry); lengths = now (lengths .entry) })
+    ensures { λ _. ⌜ now (bodies .exit)
+        ≡ bodiesThen (record { session = session; flow = flow; bytes = now (bytes .entry); lengths = now (lengths .entry) })
         limit (now (bodies .entry)) series ⌝ }
 {
     let position = series.position;
@@ -113,8 +116,10 @@ fn send_all(
     lengths: &[u16],
     writer: Writer,
 ) -> Series
-    requires { ⌜ Roomy (now contents) (now bodies) × (length (now bytes) ≤ mostBytes) × (writer ≡ record { entries = 1; bytes = idLength }) ⌝ }
-    ensures { λ r. ⌜ SentAll (record { session = session; flow = flow; bytes = now (bytes .entry); lengths = now (lengths .entry) }) limit number
+    requires { ⌜ Roomy (now contents) (now bodies) × (length (now bytes) ≤ mostBytes)
+        × (writer ≡ record { entries = 1; bytes = idLength }) ⌝ }
+    ensures { λ r. ⌜ SentAll (record { session = session; flow = flow; bytes = now (bytes .entry); lengths = now (lengths .entry) })
+        limit number
         (now (contents .entry)) (now (bodies .entry)) (now (contents .exit)) (now (bodies .exit)) r ⌝ }
 {
     let mut packet = [0u8; PACKET_ROOM];
@@ -158,7 +163,8 @@ pub fn make(
     bodies: &mut [u8],
 ) -> Made
     requires { ⌜ Roomy (now contents) (now bodies) × (length (now bytes) ≤ mostBytes) ⌝ }
-    ensures { λ r. ⌜ Makes (record { session = session; flow = flow; bytes = now (bytes .entry); lengths = now (lengths .entry) }) limit number
+    ensures { λ r. ⌜ Makes (record { session = session; flow = flow; bytes = now (bytes .entry); lengths = now (lengths .entry) })
+        limit number
         (now (contents .exit)) (now (bodies .exit)) r ⌝ }
     ensures { λ r. ⌜ (r .contents ≤ headLength + entryLength * mostEntries) × (r .bodies ≤ longestFile) ⌝ }
 {

@@ -22,12 +22,14 @@ digit-value d h =
     rw (low, high) (omega arith)
 
 -- one digit more behind others
-value-more : (base value : ℕ) (l : List ℕ) (byte : ℕ) → valueFrom base value (l ++ (byte ∷ [])) ≡ base * valueFrom base value l + digitOf byte
+value-more : (base value : ℕ) (l : List ℕ) (byte : ℕ) →
+    valueFrom base value (l ++ (byte ∷ [])) ≡ base * valueFrom base value l + digitOf byte
 unfolding valueFrom
 value-more base value [] byte = refl
 value-more base value (x ∷ l) byte = value-more base (base * value + digitOf x) l byte
 
-digits-more : (base : ℕ) (l : List ℕ) (byte : ℕ) → areDigits base l ≡ true → ltb (digitOf byte) base ≡ true → areDigits base (l ++ (byte ∷ [])) ≡ true
+digits-more : (base : ℕ) (l : List ℕ) (byte : ℕ) → areDigits base l ≡ true → ltb (digitOf byte) base ≡ true →
+    areDigits base (l ++ (byte ∷ [])) ≡ true
 unfolding areDigits
 digits-more base [] byte all one = rw one refl
 digits-more base (x ∷ l) byte all one =

@@ -1,4 +1,5 @@
--- `pspsend::series::make` is right since what the series wrote is the file of its entries (`make-file`), and what refuses it refuses that file.
+-- `pspsend::series::make` is right since what the series wrote is the file of its entries (`make-file`), and what refuses it refuses that
+-- file.
 use Prim.Native.Nat.{ℕ}
 use mathlib.Core.Path.{_≡_, sym, ap, _∙_}
 use native.Mathlib.Omega.{arith}
@@ -76,7 +77,8 @@ returns-2 c =
     let a = start r .args in (
       record {
         its-code =
-            make-judged (job (start r)) (a .limit) (a .number) _ _ _ _ (all .result) (all .ensures) (some-sent test) (judged .refuse .result)
+            make-judged (job (start r)) (a .limit) (a .number) _ _ _ _ (all .result) (all .ensures) (some-sent test)
+            (judged .refuse .result)
             (judged .refuse .ensures);
         its-file = λ z. absurd (c .if2 .taken z);
       },
@@ -123,7 +125,8 @@ returns-3 c =
       record {
         its-code = make-judged (job s) (a .limit) (a .number) _ _ _ _ (all .result) (all .ensures) some 0 (sym z);
         its-file =
-            λ _. make-file (job s) (a .limit) (a .number) _ _ _ _ (all .result) (all .ensures) some z (a .contents .now) (a .bodies .now) (s .pre .0)
+            λ _. make-file (job s) (a .limit) (a .number) _ _ _ _ (all .result) (all .ensures) some z (a .contents .now)
+            (a .bodies .now) (s .pre .0)
             (opened r .add-open .ensures .1) _ (finished .finish .ensures);
       },
       (omega (arith, short .0), short .1),

@@ -18,7 +18,8 @@ use Rattle.pspsend.proofs.series.send_all.Tie as tie
 abbrev Inv-loop : tie.InvT-loop
 Inv-loop contents₀ bodies₀ session flow number limit bytes lengths scratch₀ series₀ turns₀ contents bodies scratch series turns =
     (packetRoom ≤ length scratch) × (length contents ≡ length contents₀) × (length bodies ≡ length bodies₀)
-    × Going (record { session = session; flow = flow; bytes = bytes; lengths = lengths }) limit number contents₀ bodies₀ contents bodies series turns
+    × Going (record { session = session; flow = flow; bytes = bytes; lengths = lengths }) limit number contents₀ bodies₀ contents bodies
+    series turns
 
 abbrev μ-loop : tie.MeasureT-loop
 μ-loop contents₀ bodies₀ session flow number limit bytes lengths scratch₀ series₀ turns₀ contents bodies scratch series turns = turns

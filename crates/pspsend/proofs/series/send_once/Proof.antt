@@ -1,8 +1,10 @@
--- `pspsend::series::send_once` is right since a send answers the same whatever stands in its output, and leaves its packet at the front of it.
+-- `pspsend::series::send_once` is right since a send answers the same whatever stands in its output, and leaves its packet at the front of
+-- it.
 use mathlib.Core.Path.{refl}
 use native.Mathlib.Omega.{arith}
 use Rattle.octets.proofs.Stretches.{length-sliced}
-use Rattle.pspsend.proofs.Making.{Once, step-stops, contents-stay, bodies-stay, packet-short, step-countable, step-on, contents-on, bodies-on}
+use Rattle.pspsend.proofs.Making.{Once, step-stops, contents-stay, bodies-stay, packet-short, step-countable, step-on, contents-on}
+use Rattle.pspsend.proofs.Making.{bodies-on}
 use borrow.Author.Needs.{needs}
 use Rattle.pspsend.proofs.series.send_once.Statement.{statement}
 use Rattle.pspsend.proofs.series.send_once.Tie as tie
