@@ -8,7 +8,6 @@ use native.Mathlib.Nat.{not-suc-le-zero}
 use lib.Dec.{eqb, leb, ltb}
 use lib.ListN.{length, length-append}
 use borrow.Author.Tests.{eqb-true, le-leb, lt-ltb, ltb-true, ltb-false}
-use Rattle.octets.specs.Stretch.{rest}
 use Rattle.octets.proofs.Stretches.{rest-none}
 use Rattle.text.specs.Text.{decimal}
 use Rattle.text.proofs.Writing.{decimal-one, decimal-more}
