@@ -29,6 +29,9 @@ start r = opened r .before .before .before .before .before .before .before
 abbrev sent : tie.Else1 → Sent
 sent t = t .before .before .before .before .before .before .before .before
 
+abbrev none-sent : tie.Then1 → Sent
+none-sent t = t .before .before .before .before .before .before .before .before
+
 -- something was sent
 some-sent : (t : tie.Else1) → sent t .send-all .result .writer .entries ≡ 1 → ⊥
 some-sent t e = t .if1 .left (e ∙ sym (ap entries (opened (sent t) .add-open .ensures .0)))
@@ -47,7 +50,7 @@ same-length-2 c = search needs
 
 returns : tie.Need-returns
 returns c =
-    let r = c .before .before .before .before .before .before .before .before in
+    let r = none-sent c in
     let all = r .send-all in
     let a = start r .args in
     let none = c .if1 .taken ∙ ap entries (opened r .add-open .ensures .0) in
