@@ -48,13 +48,17 @@ pub not-chosen : (found : List (List ℕ)) {frames : List (List ℕ)} {wanted : 
     Adds frames bytes sizes bytes sizes g g
 not-chosen found {frames} {wanted} {bytes} {sizes} {g} e n =
     let none : frames ≡ [] = e ∙ ap (λ (t : Bool). cond t found []) n in
-    rw (none, joined-none, lengthsOf-none)
-    (record { bytes-then = sym (put-nil bytes (g .bytes)); sizes-then = sym (put-nil sizes (g .count)); counts-then = same })
+    rw none
+    (record {
+      bytes-then = sym (ap (put bytes (g .bytes)) joined-none ∙ put-nil bytes (g .bytes));
+      sizes-then = sym (ap (put sizes (g .count)) lengthsOf-none ∙ put-nil sizes (g .count));
+      counts-then = same;
+    })
   where
-    same : g ≡ record { count = g .count + 0; bytes = g .bytes + 0 }
+    same : g ≡ record { count = g .count + 0; bytes = g .bytes + length (joined []) }
     same =
         let a : g .count ≡ g .count + 0 = omega arith in
-        let b : g .bytes ≡ g .bytes + 0 = omega arith in
+        let b : g .bytes ≡ g .bytes + length (joined []) = omega (arith, length-joined-none) in
         ap (λ (n : ℕ). record { count = n; bytes = g .bytes }) a ∙ ap (λ (n : ℕ). record { count = g .count + 0; bytes = n }) b
 
 -- .. and its frames lie in the slices that the step leaves
