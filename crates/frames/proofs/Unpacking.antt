@@ -5,25 +5,19 @@ use mathlib.Core.Path.{_≡_, refl, sym, ap, _∙_}
 use mathlib.Core.Bool.{Bool, true, false, cond, _&&_}
 use mathlib.Core.List.{List, [], _∷_, _++_, append-nil, append-assoc}
 use native.Mathlib.Omega.{arith}
-use native.Mathlib.Nat.{add-zero}
 use lib.Dec.{leb, ltb}
 use lib.ListN.{length, set, length-append}
 use borrow.Author.Tests.{leb-true, leb-false, ltb-false, lt-leb, le-leb}
-use Rattle.octets.specs.Bytes.{byteAt, be16At}
+use Rattle.octets.specs.Bytes.{be16At}
 use Rattle.octets.specs.Stretch.{part, rest, put, joined, lengthsOf}
-use Rattle.octets.proofs.Stretches.{length-part, length-rest, byte-rest, part-rest, length-put, put-nil, put-put-front, set-put}
+use Rattle.octets.proofs.Stretches.{length-part, length-rest, part-rest, length-put, put-nil, put-put-front, set-put}
 use Rattle.octets.proofs.Stretches.{rest-none, rest-rest, joined-none, joined-one-more, lengthsOf-none, lengthsOf-cons}
 use Rattle.octets.proofs.Stretches.{lengthsOf-append, length-joined-none, length-lengthsOf}
+use Rattle.octets.proofs.Numbers.{be16-rest}
 use Rattle.frames.specs.Frames.{lengthBytes, standsWhole, frontFrame, behindFront, wholeFrames, leftBehind, PermitsUnpack}
 use Rattle.frames.proofs.Laws.{stands-long}
 
 -- at a place of the file
-be16-rest : (l : List ℕ) (at : ℕ) → be16At (rest l at) 0 ≡ be16At l at
-be16-rest l at =
-    let a : byteAt (rest l at) 0 ≡ byteAt l at = byte-rest l at 0 ∙ ap (byteAt l) (add-zero at) in
-    let b : byteAt (rest l at) (0 + 1) ≡ byteAt l (at + 1) = byte-rest l at 1 in
-    rw (a, b) refl
-
 module _ (file : List ℕ) (at : ℕ) (inside : at ≤ length file) where
   left-is : length (rest file at) ≡ length file - at
   left-is = length-rest file at

@@ -12,7 +12,7 @@ use borrow.Author.Tests.{le-leb, lt-leb, ne-eqb}
 use Rattle.octets.specs.Each.{Each}
 use Rattle.octets.specs.Stretch.{part, rest, joined, lengthsOf}
 use Rattle.octets.proofs.Stretches.{length-part, length-part-min, length-rest, part-and-rest, part-append-within, part-append-past}
-use Rattle.octets.proofs.Stretches.{rest-append, rest-append-behind, joined-none, joined-one, joined-append, length-joined}
+use Rattle.octets.proofs.Stretches.{rest-append, rest-joined-append, joined-none, joined-one, joined-append, length-joined}
 use Rattle.octets.proofs.Stretches.{length-joined-none, lengthsOf-none, lengthsOf-cons}
 use Rattle.ts.specs.Packet.{payloadLength, nextCount, header, fillByte}
 use Rattle.mpeg.specs.Packet.{framesPid, pointedLength, filledTo}
@@ -39,10 +39,6 @@ joined-begun between = joined-none
 joined-begun (within x b y t) = joined-one (x ∷ b ++ y ∷ t)
 
 -- What a call is given: the bytes that wait.
-pub rest-done : (done fs : List (List ℕ)) (k : ℕ) → rest (joined (done ++ fs)) (length (joined done) + k) ≡ rest (joined fs) k
-rest-done done fs k =
-    ap (λ (l : List ℕ). rest l (length (joined done) + k)) (joined-append done fs) ∙ rest-append-behind (joined done) (joined fs) k
-
 rest-begun : {b t : List ℕ} (waiting : List (List ℕ)) → Mid b t → rest (joined (one b t ++ waiting)) (length b) ≡ t ++ joined waiting
 rest-begun {b} {t} waiting m =
     ap (λ (l : List ℕ). rest l (length b))
@@ -178,7 +174,7 @@ module _ {q : Backlog} {done waiting : List (List ℕ)} {b t : List ℕ} (at : A
   at-waiting =
       ap (λ (fs : List (List ℕ)). rest (joined fs) (q .place)) (at .frames-are)
       ∙ ap (rest (joined (done ++ (one b t ++ waiting)))) (at .place-is)
-      ∙ rest-done done (one b t ++ waiting) (length b)
+      ∙ rest-joined-append done (one b t ++ waiting) (length b)
       ∙ rest-begun waiting (at .mid)
 
   pub at-left : leftIn q ≡ length t

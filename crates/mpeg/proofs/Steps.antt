@@ -14,7 +14,7 @@ use Rattle.octets.specs.Stretch.{part, rest, joined, lengthsOf, cutBy}
 use Rattle.octets.specs.Each.{Each}
 use Rattle.octets.proofs.Counts.{or-false-left, or-false-right}
 use Rattle.octets.proofs.Elements.{each-too, length-none}
-use Rattle.octets.proofs.Stretches.{length-part, part-all, part-and-rest, part-append, rest-append}
+use Rattle.octets.proofs.Stretches.{length-part, part-all, part-and-rest, part-append, rest-append, rest-joined-append}
 use Rattle.octets.proofs.Stretches.{joined-none, joined-cons, lengthsOf-none, lengthsOf-cons, cut-none, cut-cons}
 use Rattle.ts.specs.Packet.{mpegLength, nullPacket}
 use Rattle.mpeg.specs.Frame.{good, Good}
@@ -23,7 +23,7 @@ use Rattle.mpeg.specs.HandOut.{source, handedLength, HandsOutPackets}
 use Rattle.mpeg.specs.Read.{Reading, readPacket, readFrom}
 use Rattle.mpeg.specs.Run.{Backlog, packetNext, afterNext, waitingIn, leftIn, askedFor, IsStep, CallsMakeRuns, JudgedByFrames}
 use Rattle.mpeg.specs.Run.{behindSent, SentMayGo, NullsBetween}
-use Rattle.mpeg.proofs.Backlogs.{rest-done, left-done}
+use Rattle.mpeg.proofs.Backlogs.{left-done}
 use Rattle.mpeg.proofs.PacketsRead.{read-null}
 use Rattle.mpeg.proofs.Packets.{from-queue, from-null}
 
@@ -90,7 +90,7 @@ calls-make-runs = is-step
 pub sent-may-go : SentMayGo
 unfolding packetNext afterNext
 sent-may-go sent q =
-    let waiting : waitingIn (behindSent sent q) ≡ waitingIn q = rest-done sent (q .frames) (q .place) in
+    let waiting : waitingIn (behindSent sent q) ≡ waitingIn q = rest-joined-append sent (q .frames) (q .place) in
     let left : leftIn (behindSent sent q) ≡ leftIn q = left-done sent (q .frames) (q .place) in
     let farther : length (joined sent) + q .place + carried (leftIn q) (waitingIn q)
     ≡ length (joined sent) + (q .place + carried (leftIn q) (waitingIn q)) =

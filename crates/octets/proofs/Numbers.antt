@@ -5,12 +5,12 @@ use mathlib.Core.Logic.{⊎-elim}
 use Prim.Native.Nat.{ℕ, suc, _+_, _*_, _/_, _%_, _<_, _≤_}
 use mathlib.Core.List.{List, [], _∷_}
 use native.Mathlib.Omega.{arith}
-use native.Mathlib.Nat.{mul-suc, mul-le-mul-left}
+use native.Mathlib.Nat.{add-zero, mul-suc, mul-le-mul-left}
 use lib.Dec.{eqb}
 use lib.ListN.{length}
 use borrow.Author.Tests.{eq-eqb, ne-eqb, eqb-true, eqb-false}
-use Rattle.octets.specs.Stretch.{part, put}
-use Rattle.octets.proofs.Stretches.{put-put, part-two}
+use Rattle.octets.specs.Stretch.{part, rest, put}
+use Rattle.octets.proofs.Stretches.{put-put, part-two, byte-rest}
 use Rattle.octets.proofs.Counts.{true-or-false}
 use Rattle.octets.specs.Bytes.{byteAt, be16At, be32At, two, four, AllBytes}
 
@@ -19,6 +19,13 @@ two-reads-back n h = omega arith
 
 pub four-reads-back : (n : ℕ) → n < 4294967296 → be32At (four n) 0 ≡ n
 four-reads-back n h = omega arith
+
+-- the first number of the rest is the one that stands there
+pub be16-rest : (l : List ℕ) (at : ℕ) → be16At (rest l at) 0 ≡ be16At l at
+be16-rest l at =
+    let a : byteAt (rest l at) 0 ≡ byteAt l at = byte-rest l at 0 ∙ ap (byteAt l) (add-zero at) in
+    let b : byteAt (rest l at) (0 + 1) ≡ byteAt l (at + 1) = byte-rest l at 1 in
+    rw (a, b) refl
 
 -- the number that two bytes say is written as these two bytes
 pub two-bytes : (a b : ℕ) → a < 256 → b < 256 → two (a * 256 + b) ≡ a ∷ b ∷ []

@@ -322,6 +322,12 @@ pub sliced-put : {e : List ℕ} (d x : List ℕ) (n : ℕ) → e ≡ put d 0 x �
 sliced-put {e} d x n stood long inside =
     sliced-front e n ∙ ap (λ (l : List ℕ). part l 0 n) stood ∙ ap (part (put d 0 x) 0) long ∙ part-put d 0 x (omega (arith, long, inside))
 
+-- what is put over all of a list is the list
+pub put-whole : (d x : List ℕ) → length d ≡ length x → put d 0 x ≡ x
+put-whole d x e =
+    let long = length-put d 0 x (omega arith) in
+    sym (part-all (put d 0 x)) ∙ ap (part (put d 0 x) 0) (long ∙ e) ∙ part-put d 0 x (omega arith)
+
 -- .. where that is a stretch of another list
 pub part-put-part : (d s : List ℕ) (at from n : ℕ) → at + n ≤ length d → from + n ≤ length s →
     part (put d at (part s from n)) at n ≡ part s from n
@@ -447,6 +453,9 @@ joined-append [] b = refl
 joined-append (s ∷ a) b = rw (joined-append a b) (sym (append-assoc s (joined a) (joined b)))
 
 -- one more at the end
+pub rest-joined-append : (a b : List (List ℕ)) (k : ℕ) → rest (joined (a ++ b)) (length (joined a) + k) ≡ rest (joined b) k
+rest-joined-append a b k = ap (λ (l : List ℕ). rest l (length (joined a) + k)) (joined-append a b) ∙ rest-append-behind (joined a) (joined b) k
+
 pub joined-one-more : (a : List (List ℕ)) (s : List ℕ) → joined (a ++ (s ∷ [])) ≡ joined a ++ s
 unfolding joined
 joined-one-more a s = joined-append a (s ∷ []) ∙ ap (λ (l : List ℕ). joined a ++ l) (append-nil s)

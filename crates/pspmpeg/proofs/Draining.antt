@@ -12,7 +12,7 @@ use borrow.Author.Tests.{leb-true, leb-false, le-ltb}
 use Rattle.octets.specs.Stretch.{part, rest, put, joined, lengthsOf}
 use Rattle.octets.specs.Tests.{none}
 use Rattle.octets.proofs.Counts.{true-or-false}
-use Rattle.octets.proofs.Tests.{none-length}
+use Rattle.octets.proofs.Tests.{none-length, none-some}
 use Rattle.octets.proofs.Stretches.{length-part, part-short, part-append, length-rest, rest-append, length-put, part-put, put-nil}
 use Rattle.octets.proofs.Stretches.{put-put-front, joined-none, joined-cons, joined-one-more, length-joined-none, lengthsOf-none}
 use Rattle.octets.proofs.Stretches.{lengthsOf-cons}
@@ -75,11 +75,6 @@ pub carries-some : (r : ℕ) (waiting : List ℕ) → 1 ≤ length waiting →
 unfolding carried
 carries-some r [] some = absurd (not-suc-le-zero some)
 carries-some r (x ∷ waiting) some = carries-by (leb payloadLength r) (length (x ∷ waiting)) some
-
-something : (l : List ℕ) → 1 ≤ length l → none l ≡ false
-unfolding none
-something [] some = absurd (not-suc-le-zero some)
-something (x ∷ l) some = refl
 
 -- The writer's answer depends on the frames, and on the room for a packet, which is there.
 module _ (bytes lengths packet : List ℕ) (long : length packet ≡ mpegLength) (place count : ℕ) where
@@ -187,7 +182,7 @@ module _ {bytes lengths text₀ text : List ℕ} {place count at : ℕ} (d : Dra
         packetsFrom (suc n) bytes lengths place count
         ≡ packetOf count left waiting ∷ packetsFrom n bytes lengths (place + carried left waiting) (countAfter count waiting)
     unfolding packetsFrom
-    from-more n = rw (something waiting some-wait) refl
+    from-more n = rw (none-some waiting some-wait) refl
 
     module _ (packet packet′ text′ : List ℕ) (r : Written) (long : length packet ≡ mpegLength)
         (e : record { answer = r; output = packet′ } ≡ written (asked bytes lengths packet long place count))

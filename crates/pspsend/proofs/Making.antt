@@ -13,7 +13,7 @@ use Rattle.refusal.specs.Refusal.{first}
 use Rattle.refusal.proofs.Laws.{and-left, and-right}
 use Rattle.octets.specs.Bytes.{two, four}
 use Rattle.octets.specs.Stretch.{part, put, joined}
-use Rattle.octets.proofs.Stretches.{part-short, sliced-front, length-put, part-put, part-all, map-one-more}
+use Rattle.octets.proofs.Stretches.{part-short, sliced-front, put-whole, map-one-more}
 use Rattle.octets.proofs.Stretches.{joined-cons, joined-one-more, length-joined-none, length-joined}
 use Rattle.packet.specs.Header.{idLength}
 use Rattle.sender.specs.declared.Position.{Position}
@@ -443,15 +443,10 @@ module _ (job : Job) (limit number : ℕ) (contents₁ bodies₁ contents bodies
     make-short z = let f = within-facts (s .writer) (not-refused (s .writer) z) in (f .0, omega (arith, f .1))
 
 -- The opening entry.
-id-is : (d : List ℕ) (session : ℕ) → length d ≡ 4 → put d 0 (four session) ≡ four session
-id-is d session e =
-    let long = length-put d 0 (four session) (omega arith) in
-    sym (part-all (put d 0 (four session))) ∙ ap (part (put d 0 (four session)) 0) (long ∙ e) ∙ part-put d 0 (four session) (omega arith)
-
 module _ (session : ℕ) (contents bodies : List ℕ) (roomy : Roomy contents bodies) (blank id : List ℕ) (four-long : length blank ≡ 4)
     (written : id ≡ put blank 0 (four session)) (w : Writer) (begun : w ≡ record { entries = 0; bytes = 0 }) where
   its-id : id ≡ four session
-  its-id = written ∙ id-is blank session four-long
+  its-id = written ∙ put-whole blank (four session) four-long
 
   pub open-countable : Countable w id
   open-countable = rw (begun, its-id) (record { few-entries = omega arith; few-bytes = omega arith; body-short = omega arith })
