@@ -10,7 +10,7 @@ use Rattle.text.proofs.Pieces.{Pieces, pieces-begin, pieces-room, pieces-turn, 
 use Rattle.capture.specs.File.{headLength, entryCount, fileRefusal}
 use Rattle.capture.proofs.Checking.{is-sound}
 use Rattle.replay.specs.declared.Walk.{Walk}
-use Rattle.replay.specs.Inside.{Stands}
+use Rattle.replay.specs.Inside.{Stands, GoesOn}
 use Rattle.tool.specs.Refused.{refusedLine}
 use Rattle.listing.specs.Listing.{heading, lineAt, listingBy, listing}
 use Rattle.listing.specs.Inside.{headingRoom, lineRoom, listingRoom}
@@ -40,15 +40,14 @@ module _ {file heading-text : List ℕ} {first : ℕ} {text : List ℕ} {next : 
       pieces-room (l .lines) more (omega (arith, room, short, is-sound file (l .stands .sound) .few))
 
   pub listing-turn : {text′ : List ℕ} {next′ : ℕ} {w′ : Walk} {holding′ output′ lengths′ : List ℕ} → w .index < entryCount headLength file →
-      Wrote text text′ next next′ (lineAt file (w .index)) → next′ ≤ next + lineRoom →
-      Stands file w′ holding′ output′ lengths′ → w′ .index ≡ w .index + 1 →
+      Wrote text text′ next next′ (lineAt file (w .index)) × (next′ ≤ next + lineRoom) → GoesOn file w w′ holding′ output′ lengths′ →
       Listing file heading-text first text′ next′ w′ holding′ output′ lengths′
-  listing-turn {text′} {next′} {w′} more wrote few s further =
+  listing-turn {text′} {next′} {w′} more line on =
       record {
-        stands = s;
+        stands = on .stands;
         lines =
-            subst (Pieces (lineAt file) (entryCount headLength file) lineRoom heading-text first text′ next′) (sym further)
-            (pieces-turn (l .lines) more wrote few);
+            subst (Pieces (lineAt file) (entryCount headLength file) lineRoom heading-text first text′ next′) (sym (on .one-on))
+            (pieces-turn (l .lines) more (line .0) (line .1));
       }
 
   pub listing-end : {before : List ℕ} → Wrote before heading-text 0 first heading → entryCount headLength file ≤ w .index →

@@ -6,7 +6,7 @@ ghost use Prim.Native.Nat.{_+_, _<_, _≤_};
 ghost use lib.ListN.{length};
 ghost use Rattle.text.specs.Text.{Wrote};
 ghost use Rattle.capture.specs.File.{headLength, entryCount};
-ghost use Rattle.replay.specs.Inside.{Stands, Unused};
+ghost use Rattle.replay.specs.Inside.{Stands, GoesOn, Unused};
 ghost use Rattle.listing.specs.Listing.{lineAt, listing};
 ghost use Rattle.listing.specs.Inside.{lineRoom, listingRoom};
 use capture::reader;
@@ -40,8 +40,7 @@ fn list_entry(
     requires { ⌜ at + lineRoom ≤ length (now text) ⌝ }
     ensures { λ r. ⌜ Wrote (now (text .entry)) (now (text .exit)) at (r .next) (lineAt (now (file .entry)) (walk .index))
         × (r .next ≤ at + lineRoom) ⌝ }
-    ensures { λ r. ⌜ Stands (now (file .entry)) (r .walk) (now (holding .exit)) (now (output .exit)) (now (lengths .exit)) ⌝ }
-    ensures { λ r. ⌜ r .walk .index ≡ walk .index + 1 ⌝ }
+    ensures { λ r. ⌜ GoesOn (now (file .entry)) walk (r .walk) (now (holding .exit)) (now (output .exit)) (now (lengths .exit)) ⌝ }
 {
     let index = walk.index;
     let stepped = replay::step(file, walk, holding, output, lengths);

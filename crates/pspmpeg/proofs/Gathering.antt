@@ -19,7 +19,7 @@ use Rattle.capture.proofs.Checking.{is-sound}
 use Rattle.replay.specs.declared.Walk.{Walk}
 use Rattle.replay.specs.declared.Stepped.{Stepped}
 use Rattle.replay.specs.Run.{Running, standing, answerAt}
-use Rattle.replay.specs.Inside.{Stands, Steps, Findable}
+use Rattle.replay.specs.Inside.{Stands, GoesOn, Steps, Findable}
 use Rattle.replay.proofs.Standing.{frames-found, frames-findable}
 use Rattle.pspmpeg.specs.declared.gather.Gathered.{Gathered}
 use Rattle.pspmpeg.specs.declared.gather.Stage.{Stage}
@@ -190,14 +190,14 @@ module _ {session : ℕ} {file bytes₀ sizes₀ : List ℕ} {stage : Stage} {ho
         }
 
     pub gather-turn : {stage′ : Stage} {holding′ output′ lengths′ bytes′ sizes′ : List ℕ} →
-        Stands file (stage′ .walk) holding′ output′ lengths′ →
-        stage′ .walk .index ≡ stage .walk .index + 1 → Adds next bytes sizes bytes′ sizes′ (stage .gathered) (stage′ .gathered) →
+        GoesOn file (stage .walk) (stage′ .walk) holding′ output′ lengths′ →
+        Adds next bytes sizes bytes′ sizes′ (stage .gathered) (stage′ .gathered) →
         Gathering session file bytes₀ sizes₀ stage′ holding′ output′ lengths′ bytes′ sizes′
     unfolding deliveredBefore
-    gather-turn {stage′} {holding′} {output′} {lengths′} {bytes′} {sizes′} s further a =
-        let index : stage′ .walk .index ≡ suc (stage .walk .index) = further ∙ add-one (stage .walk .index) in
+    gather-turn {stage′} {holding′} {output′} {lengths′} {bytes′} {sizes′} on a =
+        let index : stage′ .walk .index ≡ suc (stage .walk .index) = on .one-on ∙ add-one (stage .walk .index) in
         record {
-          stands = s;
+          stands = on .stands;
           so-far =
               subst (λ (n : ℕ). Gathers (deliveredBefore session file n) bytes₀ sizes₀ bytes′ sizes′ (stage′ .gathered)) (sym index)
               (record {

@@ -6,7 +6,7 @@ ghost use lib.ListN.{length};
 ghost use Rattle.table.specs.Broken.{broken};
 ghost use Rattle.card.specs.Receive.{framesFound};
 ghost use Rattle.capture.specs.File.{headLength, entryCount, longestFile};
-ghost use Rattle.replay.specs.Inside.{Stands, Unused};
+ghost use Rattle.replay.specs.Inside.{Stands, GoesOn, Unused};
 ghost use Rattle.pspmpeg.specs.Stream.{isFor, framesAt, delivered};
 ghost use Rattle.pspmpeg.specs.Inside.{mostGathered, Fits, FitsFound, Adds, Gathers};
 use capture::reader;
@@ -99,8 +99,7 @@ fn gather_entry(
     requires { ⌜ Stands (now file) (stage .walk) (now holding) (now output) (now lengths)
         × (stage .walk .index < entryCount headLength (now file)) ⌝ }
     requires { ⌜ Fits (framesAt session (now file) (stage .walk .index)) (now bytes) (now sizes) (stage .gathered) ⌝ }
-    ensures { λ r. ⌜ Stands (now (file .entry)) (r .walk) (now (holding .exit)) (now (output .exit)) (now (lengths .exit)) ⌝ }
-    ensures { λ r. ⌜ r .walk .index ≡ stage .walk .index + 1 ⌝ }
+    ensures { λ r. ⌜ GoesOn (now (file .entry)) (stage .walk) (r .walk) (now (holding .exit)) (now (output .exit)) (now (lengths .exit)) ⌝ }
     ensures { λ r. ⌜ Adds (framesAt session (now (file .entry)) (stage .walk .index))
         (now (bytes .entry)) (now (sizes .entry)) (now (bytes .exit)) (now (sizes .exit)) (stage .gathered) (r .gathered) ⌝ }
 {

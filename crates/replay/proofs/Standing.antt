@@ -96,7 +96,7 @@ table-whole {file} {w} s = ap (λ (r : Running). broken (r .card .table)) (s .it
 -- Behind a step: the card is the one that the run has there, and the entry's frames are those that are found in the slices.
 module _ {file : List ℕ} {w : Walk} {s : Stepped} {holding output lengths : List ℕ} (stepped : Steps file w s holding output lengths) where
   run-is : asRunning (s .walk .table) holding output lengths ≡ standing file (suc (w .index))
-  run-is = stepped .stands .its-run ∙ ap (standing file) (stepped .further ∙ add-one (w .index))
+  run-is = stepped .goes-on .stands .its-run ∙ ap (standing file) (stepped .goes-on .one-on ∙ add-one (w .index))
 
   pub card-behind : record { table = s .walk .table; holding = holding } ≡ standing file (suc (w .index)) .card
   card-behind = ap (λ (r : Running). r .card) run-is
@@ -118,6 +118,6 @@ module _ {file : List ℕ} {w : Walk} {s : Stepped} {holding output lengths : Li
       record {
         few = as-found .0;
         all-short = as-found .1;
-        lengths-long = omega (arith, stepped .stands .sized .lengths-size);
-        output-long = omega (arith, stepped .stands .sized .output-size);
+        lengths-long = omega (arith, stepped .goes-on .stands .sized .lengths-size);
+        output-long = omega (arith, stepped .goes-on .stands .sized .output-size);
       }

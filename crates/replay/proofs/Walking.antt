@@ -53,38 +53,39 @@ module _ {file : List ℕ} {w : Walk} {holding output lengths : List ℕ} (s : S
       run-is : asRunning (r .table) holding′ output′ lengths′ ≡ standing file (w .index + 1)
       unfolding standing
       run-is =
-          let further : asRunning (r .table) holding′ output′ lengths′ ≡ standing file (suc (w .index)) =
+          let one-on : asRunning (r .table) holding′ output′ lengths′ ≡ standing file (suc (w .index)) =
           ran .stands
           ∙ ap (runOne (asRunning (w .table) holding output lengths)) entry-same
           ∙ ap (λ (x : Running). runOne x (nthEntry file (w .index))) (s .its-run) in
-          further ∙ ap (standing file) (sym (add-one (w .index)))
+          one-on ∙ ap (standing file) (sym (add-one (w .index)))
 
       -- one entry further on
+      abbrev further : Walk
+      further = record { index = w .index + 1; start = w .start + length body; table = r .table }
+
+      there : length holding′ ≡ length holding → length output′ ≡ length output → length lengths′ ≡ length lengths →
+          Stands file further holding′ output′ lengths′
+      there same-holding same-output same-lengths =
+          record {
+            sound = s .sound;
+            within = omega (arith, more);
+            its-start = omega (arith, s .its-start, start-next file (w .index), ap length b, body-long stands-at);
+            its-run = run-is;
+            sized =
+                record {
+                  holding-size = same-holding ∙ s .sized .holding-size;
+                  output-size = same-output ∙ s .sized .output-size;
+                  lengths-size = same-lengths ∙ s .sized .lengths-size;
+                };
+          }
+
       pub steps : length holding′ ≡ length holding → length output′ ≡ length output → length lengths′ ≡ length lengths →
-          Steps file w (record {
-            kind = kind;
-            answer = r;
-            walk = record { index = w .index + 1; start = w .start + length body; table = r .table };
-          })
-          holding′ output′ lengths′
+          Steps file w (record { kind = kind; answer = r; walk = further }) holding′ output′ lengths′
       steps same-holding same-output same-lengths =
           record {
             its-kind = k;
             its-counts = counts-are;
-            stands =
-                record {
-                  sound = s .sound;
-                  within = omega (arith, more);
-                  its-start = omega (arith, s .its-start, start-next file (w .index), ap length b, body-long stands-at);
-                  its-run = run-is;
-                  sized =
-                      record {
-                        holding-size = same-holding ∙ s .sized .holding-size;
-                        output-size = same-output ∙ s .sized .output-size;
-                        lengths-size = same-lengths ∙ s .sized .lengths-size;
-                      };
-                };
-            further = refl;
+            goes-on = record { stands = there same-holding same-output same-lengths; one-on = refl };
           }
 
 -- Before the first entry the run stands as it begins, with slices as long as any call needs.

@@ -65,12 +65,16 @@ pub record Unused (file holding output lengths : List ℕ) : Type 0 where
   pub output-zero : output ≡ replicate mostBytes 0
   pub lengths-zero : lengths ≡ replicate mostFrames 0
 
--- A step: the entry's kind and the numbers of its answer, and that the walk stands one entry further on.
+-- one entry further on
+pub record GoesOn (file : List ℕ) (w further : Walk) (holding output lengths : List ℕ) : Type 0 where
+  pub stands : Stands file further holding output lengths
+  pub one-on : further .index ≡ w .index + 1
+
+-- A step: the entry's kind and the numbers of its answer, and that the walk goes on.
 pub record Steps (file : List ℕ) (w : Walk) (s : Stepped) (holding output lengths : List ℕ) : Type 0 where
   pub its-kind : s .kind ≡ kindAt headLength entryLength file (w .index)
   pub its-counts : Counts (s .answer) (answerAt file (w .index))
-  pub stands : Stands file (s .walk) holding output lengths
-  pub further : s .walk .index ≡ w .index + 1
+  pub goes-on : GoesOn file w (s .walk) holding output lengths
 
 -- the frames of a call lie in the slices
 pub record Findable (output lengths : List ℕ) (count : ℕ) : Type 0 where

@@ -8,7 +8,7 @@ ghost use Prim.Native.Nat.{_+_, _<_, _≤_};
 ghost use lib.ListN.{length};
 ghost use Rattle.text.specs.Text.{Wrote};
 ghost use Rattle.capture.specs.File.{headLength, entryCount};
-ghost use Rattle.replay.specs.Inside.{Stands};
+ghost use Rattle.replay.specs.Inside.{Stands, GoesOn};
 ghost use Rattle.trace.specs.Trace.{tracedAt};
 ghost use Rattle.trace.specs.Inside.{entryRoom};
 use listing::line;
@@ -35,8 +35,7 @@ pub fn trace_entry(
     requires { ⌜ Stands (now file) walk (now holding) (now output) (now lengths) × (walk .index < entryCount headLength (now file)) ⌝ }
     requires { ⌜ entryRoom ≤ length (now text) ⌝ }
     ensures { λ r. ⌜ Wrote (now (text .entry)) (now (text .exit)) 0 (r .next) (tracedAt (now (file .entry)) (walk .index)) ⌝ }
-    ensures { λ r. ⌜ Stands (now (file .entry)) (r .walk) (now (holding .exit)) (now (output .exit)) (now (lengths .exit)) ⌝ }
-    ensures { λ r. ⌜ r .walk .index ≡ walk .index + 1 ⌝ }
+    ensures { λ r. ⌜ GoesOn (now (file .entry)) walk (r .walk) (now (holding .exit)) (now (output .exit)) (now (lengths .exit)) ⌝ }
 {
     let index = walk.index;
     let stepped = replay::step(file, walk, holding, output, lengths);

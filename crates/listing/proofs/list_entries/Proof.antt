@@ -75,14 +75,14 @@ list-entry-requires c κs =
 loop-less : tie.Need-loop-less Inv-loop μ-loop
 loop-less c =
     let entry = listed (c .before .before .before .before) in
-    omega (arith, more entry .if1 .taken, entry .list-entry .ensures .1 .1)
+    omega (arith, more entry .if1 .taken, entry .list-entry .ensures .1 .one-on)
 
 loop-again : tie.Need-loop-again Inv-loop μ-loop
 loop-again c =
     let entry = listed (c .before .before .before .before) in
     let asked = more entry in
     let did = entry .list-entry .ensures in
-    listing-turn (turn asked .loop .inv) (not-past asked) (did .0 .0) (did .0 .1) (did .1 .0) (did .1 .1)
+    listing-turn (turn asked .loop .inv) (not-past asked) (did .0) (did .1)
 
 same-length : tie.Need-same-length Inv-loop μ-loop
 same-length c = slices-same (start (counted (headed (last c))) .pre .0) (last c .loop .inv .stands) .0

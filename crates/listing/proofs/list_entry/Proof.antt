@@ -50,7 +50,7 @@ returns c =
             (written .write-line .ensures .0),
         written .write-line .ensures .1,
       ),
-      (did .stands, did .further),
+      did .goes-on,
     )
 
 pub list-entry-spec : {M : Type 1} → statement M

@@ -75,12 +75,12 @@ write-output-requires c κs = search needs
 loop-less : tie.Need-loop-less Inv-loop μ-loop
 loop-less c =
     let entry = traced (c .before .before .before .before) in
-    omega (arith, more entry .if1 .taken, entry .trace-entry .ensures .1 .1)
+    omega (arith, more entry .if1 .taken, entry .trace-entry .ensures .1 .one-on)
 
 loop-again : tie.Need-loop-again Inv-loop μ-loop
 loop-again c =
     let entry = traced (c .before .before .before .before) in
-    (entry .trace-entry .ensures .1 .0, entry .trace-entry .kept .1 .1 .1 .1 .1 .0 ∙ turn (more entry) .loop .inv .1)
+    (entry .trace-entry .ensures .1 .stands, entry .trace-entry .kept .1 .1 .1 .1 .1 .0 ∙ turn (more entry) .loop .inv .1)
 
 same-length : tie.Need-same-length Inv-loop μ-loop
 same-length c = slices-same (start (counted (last c)) .pre .0) (last c .loop .inv .0) .0

@@ -1,7 +1,7 @@
 -- `text::write_hex` is right since after i turns the first i bytes are written (`Hexing`).
-use Prim.Native.Nat.{_+_, _-_}
+use Prim.Native.Nat.{_+_, _-_, _<_}
 use native.Mathlib.Omega.{arith}
-use lib.ListN.{length-set}
+use lib.ListN.{length, length-set}
 use Rattle.text.proofs.Writing.{Hexing, wrote-length, hexing-begin, both-inside, hexing-turn, hexing-end}
 use borrow.Author.Needs.{needs}
 use Rattle.text.proofs.write_hex.Statement.{statement}
@@ -12,6 +12,17 @@ Inv-loop text₀ at bytes from count next₀ i₀ text next i = Hexing text₀ a
 
 abbrev μ-loop : tie.MeasureT-loop
 μ-loop text₀ at bytes from count next₀ i₀ text next i = count - i
+
+-- from the test of a turn back to the start; and that both digits of the turn's byte have room
+abbrev start : tie.In-loop Inv-loop μ-loop → tie.Start Inv-loop μ-loop
+start tested = tested .before .before .before .before
+
+roomy : (tested : tie.In-loop Inv-loop μ-loop) → tested .before .loop .next + 1 < length (tested .before .loop .text)
+roomy tested = both-inside (tested .before .loop .inv) (tested .loop-test .taken) (start tested .pre .0) (start tested .pre .1)
+
+-- .. as a number that does not wrap
+counted : (tested : tie.In-loop Inv-loop μ-loop) → tested .before .loop .next + 2 < 18446744073709551616
+counted tested = omega (arith, roomy tested, wrote-length (tested .before .loop .inv .wrote), tested .before .before .before .slice-known .given 0)
 
 loop-holds : tie.Need-loop-holds Inv-loop μ-loop
 loop-holds c = hexing-begin _ _ _ _ _ (omega (arith, c .before .before .pre .0))
@@ -27,48 +38,21 @@ hex-digit-requires c κs =
     omega (arith, c .shared-slice-known2 .given (c .before .before .before .before .before .args .from + c .before .before .loop .i))
 
 slice-write-text : tie.Need-slice-write-text Inv-loop μ-loop
-slice-write-text c =
-    omega (
-      arith,
-      both-inside (c .before .before .before .loop .inv) (c .before .before .loop-test .taken)
-          (c .before .before .before .before .before .before .pre .0) (c .before .before .before .before .before .before .pre .1),
-    )
+slice-write-text c = omega (arith, roomy (c .before .before))
 
 hex-digit-requires-2 : tie.Need-hex-digit-requires-2 Inv-loop μ-loop
 hex-digit-requires-2 c κs = search needs
 
 add-text : tie.Need-add-text Inv-loop μ-loop
-add-text c =
-    omega (
-      arith,
-      both-inside (c .before .before .before .before .loop .inv) (c .before .before .before .loop-test .taken)
-          (c .before .before .before .before .before .before .before .pre .0)
-          (c .before .before .before .before .before .before .before .pre .1),
-      wrote-length (c .before .before .before .before .loop .inv .wrote),
-      c .before .before .before .before .before .before .slice-known .given 0,
-    )
+add-text c = omega (arith, counted (c .before .before .before))
 
 slice-write-text-2 : tie.Need-slice-write-text-2 Inv-loop μ-loop
 slice-write-text-2 c =
-    omega (
-      arith,
-      both-inside (c .before .before .before .before .loop .inv) (c .before .before .before .loop-test .taken)
-          (c .before .before .before .before .before .before .before .pre .0)
-          (c .before .before .before .before .before .before .before .pre .1),
-      length-set (c .before .before .before .before .loop .text) (c .before .before .before .before .loop .next)
-          (c .before .hex-digit .result),
-    )
+    let tested = c .before .before .before in
+    omega (arith, roomy tested, length-set (tested .before .loop .text) (tested .before .loop .next) (c .before .hex-digit .result))
 
 add-next : tie.Need-add-next Inv-loop μ-loop
-add-next c =
-    omega (
-      arith,
-      both-inside (c .before .before .before .before .loop .inv) (c .before .before .before .loop-test .taken)
-          (c .before .before .before .before .before .before .before .pre .0)
-          (c .before .before .before .before .before .before .before .pre .1),
-      wrote-length (c .before .before .before .before .loop .inv .wrote),
-      c .before .before .before .before .before .before .slice-known .given 0,
-    )
+add-next c = omega (arith, counted (c .before .before .before))
 
 add-i : tie.Need-add-i Inv-loop μ-loop
 add-i c = search needs
@@ -78,9 +62,9 @@ loop-less c = search needs
 
 loop-again : tie.Need-loop-again Inv-loop μ-loop
 loop-again c =
-    hexing-turn (c .before .before .before .before .loop .inv) (c .before .before .before .loop-test .taken)
-    (c .before .before .before .before .before .before .before .pre .0)
-    (c .before .before .before .before .before .before .before .pre .1) _ _ (c .before .hex-digit .ensures) (c .hex-digit2 .ensures)
+    let tested = c .before .before .before in
+    hexing-turn (tested .before .loop .inv) (tested .loop-test .taken) (start tested .pre .0) (start tested .pre .1) _ _
+    (c .before .hex-digit .ensures) (c .hex-digit2 .ensures)
 
 same-length : tie.Need-same-length Inv-loop μ-loop
 same-length c = wrote-length (c .before .loop .inv .wrote)

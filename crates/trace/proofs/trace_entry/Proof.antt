@@ -55,7 +55,7 @@ write-rows-requires c κs =
     let line = lined (frames .before) in
     let step = stepped (answered line) in
     let room = start (lent step) .pre .1 in
-    let stands = step .step .ensures .stands in (
+    let stands = step .step .ensures .goes-on .stands in (
       table-whole stands,
       (
         omega (arith, stands .sized .holding-size),
@@ -89,7 +89,7 @@ returns c =
     let line = lined (frames .before) in
     let did = stepped (answered line) .step .ensures in (
       entry-traced did (line .write-line .ensures .0) (frames .write-frames .ensures .0) (rows .write-rows .ensures .0),
-      (did .stands, did .further),
+      did .goes-on,
     )
 
 pub trace-entry-spec : {M : Type 1} → statement M

@@ -58,14 +58,14 @@ gather-entry-requires c κs =
     ((t .loop .inv .stands, not-past asked), next-fits (t .loop .inv) (lent t .pre .1 .0) (lent t .pre .1 .1) (not-past asked))
 
 loop-less : tie.Need-loop-less Inv-loop μ-loop
-loop-less c = omega (arith, more (gathered c) .if1 .taken, gathered c .gather-entry .ensures .1 .0)
+loop-less c = omega (arith, more (gathered c) .if1 .taken, gathered c .gather-entry .ensures .0 .one-on)
 
 loop-again : tie.Need-loop-again Inv-loop μ-loop
 loop-again c =
     let asked = more (gathered c) in
     let t = turn asked in
     let did = gathered c .gather-entry .ensures in
-    gather-turn (t .loop .inv) (lent t .pre .1 .0) (lent t .pre .1 .1) (not-past asked) (did .0) (did .1 .0) (did .1 .1)
+    gather-turn (t .loop .inv) (lent t .pre .1 .0) (lent t .pre .1 .1) (not-past asked) (did .0) (did .1)
 
 same-length : tie.Need-same-length Inv-loop μ-loop
 same-length c = slices-same (lent (last c) .pre .0) (last c .loop .inv .stands) .0

@@ -71,12 +71,9 @@ returns : tie.Need-returns
 returns c =
     let a = asked (skipped c) in
     let did = skipped c .step .ensures in (
-      did .stands,
-      (
-        did .further,
-        not-chosen (framesOf (answerAt (lent a .args .file .now) (lent a .args .stage .walk .index))) (asked-rightly a)
-            (not-true (a .is-for .result) (c .if1 .taken)),
-      ),
+      did .goes-on,
+      not-chosen (framesOf (answerAt (lent a .args .file .now) (lent a .args .stage .walk .index))) (asked-rightly a)
+          (not-true (a .is-for .result) (c .if1 .taken)),
     )
 
 cast-more : tie.Need-cast-more
@@ -108,10 +105,8 @@ returns-2 c =
     let appended = c .before .before .before .before in
     let chosen-so = wanted appended in
     let a = asked (ran chosen-so) in
-    let did = ran chosen-so .step .ensures in (
-      did .stands,
-      (did .further, adds-found did (asked-rightly a) (not-false (a .is-for .result) (chosen-so .if1 .left)) (appended .append .ensures)),
-    )
+    let did = ran chosen-so .step .ensures in
+    (did .goes-on, adds-found did (asked-rightly a) (not-false (a .is-for .result) (chosen-so .if1 .left)) (appended .append .ensures))
 
 pub gather-entry-spec : {M : Type 1} → statement M
 gather-entry-spec =
