@@ -89,14 +89,17 @@ def wrong_example():
         yield "README.md: the example in C is not host/example.c"
 
 
-INSIDE = "-- Inside: what functions promise each other on the way to a result. Nobody has to believe "
+INSIDE = "-- Inside: what functions promise each other on the way to a result. Nobody has to believe this file: the result is said without it.\n"
 
 
 def wrong_inside():
+    """What a result is said in must not rest on what nobody has to believe: only a file called Inside names one."""
     for path in sorted(glob.glob("crates/*/specs/**/*.antt", recursive=True)):
-        text = open(path, encoding="utf-8").read()
-        if ("/specs/Inside" in path) != text.startswith(INSIDE):
-            yield f"{path}: a file of definitions is called Inside where it begins '{INSIDE}..', and nowhere else"
+        text, inside = open(path, encoding="utf-8").read(), re.search(r"/specs/Inside(?:/|\.antt$)", path) is not None
+        if inside != text.startswith(INSIDE):
+            yield f"{path}: a file of definitions is called Inside where it begins '{INSIDE.strip()}', and nowhere else"
+        if not inside and re.search(r"specs\.Inside\b|(?i:nobody has to believe)", text):
+            yield f"{path}: a definition that is to be believed rests on Inside, or says that it is not to be"
 
 
 documents = ["README.md", *sorted(glob.glob("docs/**/*.md", recursive=True)), "examples/README.md", "second/README.md", "bench/README.md"]

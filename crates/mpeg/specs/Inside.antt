@@ -1,4 +1,5 @@
--- Inside: what functions promise each other on the way to a result. Nobody has to believe these files: the result is said without them.
+-- Inside: what functions promise each other on the way to a result. Nobody has to believe this file: the result is said without it.
+-- Here: of the reader and the writer, four files of which the same is true.
 pub mod Standing
 pub mod Fronts
 pub mod Stream

@@ -454,7 +454,8 @@ joined-append (s ∷ a) b = rw (joined-append a b) (sym (append-assoc s (joined 
 
 -- one more at the end
 pub rest-joined-append : (a b : List (List ℕ)) (k : ℕ) → rest (joined (a ++ b)) (length (joined a) + k) ≡ rest (joined b) k
-rest-joined-append a b k = ap (λ (l : List ℕ). rest l (length (joined a) + k)) (joined-append a b) ∙ rest-append-behind (joined a) (joined b) k
+rest-joined-append a b k =
+    ap (λ (l : List ℕ). rest l (length (joined a) + k)) (joined-append a b) ∙ rest-append-behind (joined a) (joined b) k
 
 pub joined-one-more : (a : List (List ℕ)) (s : List ℕ) → joined (a ++ (s ∷ [])) ≡ joined a ++ s
 unfolding joined

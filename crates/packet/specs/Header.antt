@@ -13,7 +13,7 @@
 --   |V|S| H |X| flow|X|    count    |        sequence number        |   `sub` starts here; then segments, or MPEG packets
 --   +-+-+-+-+-+-+-+-+-+-+-+-+-+-+-+-+-+-+-+-+-+-+-+-+-+-+-+-+-+-+-+-+
 --
--- Each byte is drawn from its top bit on. X and all that is drawn as a dot is read by nobody.
+-- Each byte is drawn from its top bit on. X and all that is drawn as a dot is read by nobody, and in a D-MPT packet the count too.
 use Prim.Native.Nat.{ℕ, _+_, _/_, _%_}
 use mathlib.Core.Bool.{Bool, cond, not, _&&_, _||_}
 use mathlib.Core.List.{List, [], _∷_, _++_}

@@ -67,13 +67,13 @@ module _ (session : ℕ) (t : Table) (kind : ℕ) (body : List ℕ) where
         pub some-session : id ≡ session → session ≡ 0 → ⊥
         some-session i none = early-passed (packetOf entry) (sym its-early ∙ passed) .no-control (is-read ∙ i ∙ none)
 
-        module _ (i : id ≡ session) (at : ℕ) (f : at ≡ find t session) where
-          pub not-open : rows ≤ at → false ≡ isFor session t entry
+        module _ (i : id ≡ session) (r : ℕ) (f : r ≡ find t session) where
+          pub not-open : rows ≤ r → false ≡ isFor session t entry
           not-open h =
               let past : rows ≤ find t session = subst (λ (n : ℕ). rows ≤ n) f h in
               sym (to-session ∙ rw (eq-eqb id session i, le-ltb (find t session) rows past) refl)
 
-          pub by-its-row : at < rows → (terms : Terms) → terms ≡ termsAt t at → (b : Bool) → b ≡ isDmpt (terms .kind) →
+          pub by-its-row : r < rows → (terms : Terms) → terms ≡ termsAt t r → (b : Bool) → b ≡ isDmpt (terms .kind) →
               not b ≡ isFor session t entry
           by-its-row h terms its b d =
               let there : find t session < rows = subst (λ (n : ℕ). n < rows) f h in

@@ -59,24 +59,24 @@ module _ (c : Card) (x : Arrival) where
   abbrev slices : Slices
   slices = lentWith c x
 
-  abbrev row : ℕ
-  row = rowOf (c .table) packet
+  abbrev r : ℕ
+  r = rowOf (c .table) packet
 
   abbrev behind : List ℕ
   behind = sub packet
 
   packet-few : received (c .table) packet slices .answer .code ≡ 0 →
-      length (packetBody (termsAt (c .table) row .kind) behind) ≤ length (packet .bytes)
+      length (packetBody (termsAt (c .table) r .kind) behind) ≤ length (packet .bytes)
   packet-few z =
       let a = call.accepted (c .table) packet slices z in
-      let tells = heard-tells length by-length (termsAt (c .table) row) (flowOf (c .table) row behind)
-      (heldBy (c .table) row behind slices) behind in
+      let tells = heard-tells length by-length (termsAt (c .table) r) (flowOf (c .table) r behind)
+      (heldBy (c .table) r behind slices) behind in
       omega (
         arith,
         tells,
         accepted-bounded (c .table) packet slices a .all,
         held-length (c .table) packet slices a,
-        body-few (termsAt (c .table) row) behind (a .passed),
+        body-few (termsAt (c .table) r) behind (a .passed),
         length-rest (packet .bytes) (lead packet + idLength),
       )
 
@@ -84,10 +84,10 @@ module _ (c : Card) (x : Arrival) where
   unfolding answer
   hands-few zero e =
       let code = received (c .table) packet slices .answer .code in
-      omega (arith, ap length (when-accepted code e (packetBody (termsAt (c .table) row .kind) behind) []), packet-few e)
+      omega (arith, ap length (when-accepted code e (packetBody (termsAt (c .table) r .kind) behind) []), packet-few e)
   hands-few (suc n) e =
       let code = received (c .table) packet slices .answer .code in
-      omega (arith, ap length (when-refused code (λ z. omega arith) (packetBody (termsAt (c .table) row .kind) behind) []))
+      omega (arith, ap length (when-refused code (λ z. omega arith) (packetBody (termsAt (c .table) r .kind) behind) []))
 
 -- .. and so does an entry
 abbrev lent : Running → Entry → Arrival

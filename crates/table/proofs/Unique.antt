@@ -17,8 +17,8 @@ empty-unique a b p q = p ∙ sym q
 pub open-permitted : (t : Table) (q : Request) → PermitsOpen t q (opened t q)
 open-permitted t q = refl
 
-pub open-unique : (t : Table) (r : Request) (a b : Opening) → PermitsOpen t r a → PermitsOpen t r b → a ≡ b
-open-unique t r a b p q = p ∙ sym q
+pub open-unique : (t : Table) (q : Request) (a b : Opening) → PermitsOpen t q a → PermitsOpen t q b → a ≡ b
+open-unique t q a b is-a is-b = is-a ∙ sym is-b
 
 pub open-by-number-permitted : (t : Table) (id number : ℕ) → PermitsOpenByNumber t id number (openedByNumber t id number)
 open-by-number-permitted t id number = refl

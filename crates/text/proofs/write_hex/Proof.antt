@@ -22,7 +22,8 @@ roomy tested = both-inside (tested .before .loop .inv) (tested .loop-test .taken
 
 -- .. as a number that does not wrap
 counted : (tested : tie.In-loop Inv-loop μ-loop) → tested .before .loop .next + 2 < 18446744073709551616
-counted tested = omega (arith, roomy tested, wrote-length (tested .before .loop .inv .wrote), tested .before .before .before .slice-known .given 0)
+counted tested =
+    omega (arith, roomy tested, wrote-length (tested .before .loop .inv .wrote), tested .before .before .before .slice-known .given 0)
 
 loop-holds : tie.Need-loop-holds Inv-loop μ-loop
 loop-holds c = hexing-begin _ _ _ _ _ (omega (arith, c .before .before .pre .0))
