@@ -6,4 +6,5 @@ pub mod Accepted
 pub mod Limits
 pub mod Step
 pub mod Transports
+pub mod Ignored
 pub mod Keeping

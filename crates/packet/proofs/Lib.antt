@@ -4,5 +4,6 @@ pub mod Passing
 pub mod Orders
 pub mod Asked
 pub mod Transports
+pub mod Ignored
 pub mod Unique
 pub mod Examples

@@ -15,6 +15,7 @@ use Rattle.promises.specs.Refusals.{RefusalsChangeNothing}
 use Rattle.promises.specs.Unique.{UniqueOpen, UniqueClose, UniqueReceive, UniqueSend, UniqueCheck, UniqueSegment, UniqueCapture}
 use Rattle.promises.specs.Unique.{UniqueFlow}
 use Rattle.promises.specs.Transports.{SamePacket}
+use Rattle.promises.specs.Ignored.{IgnoredBits}
 use Rattle.promises.specs.RoundTrip.{SenderKeepsRules, SendingsGoOn, KeepsLimit, RoundTrip}
 use Rattle.promises.specs.Modulator.{CoreToModulator, SentMayTravel, UniqueMpeg}
 use Rattle.promises.specs.Captures.{ReadsBack}
@@ -35,6 +36,7 @@ use Rattle.promises.proofs.Limits as limits
 use Rattle.promises.proofs.Refusals as refusals
 use Rattle.promises.proofs.Uniqueness as unique
 use Rattle.promises.proofs.Transports as transports
+use Rattle.promises.proofs.Ignored as ignored
 use Rattle.promises.proofs.RoundTrip as trip
 use Rattle.promises.proofs.Modulator as modulator
 use Rattle.capture.proofs.ReadsBack as capture
@@ -114,9 +116,12 @@ unique-capture = unique.unique-capture
 pub unique-flow : UniqueFlow
 unique-flow = unique.unique-flow
 
--- Over IP and over UDP: specs/Transports.antt.
+-- Over IP and over UDP: specs/Transports.antt. What nobody reads: specs/Ignored.antt.
 pub same-packet : SamePacket
 same-packet = transports.same-packet
+
+pub ignored-bits : IgnoredBits
+ignored-bits = ignored.ignored-bits
 
 -- Our own sender, and there and back: specs/RoundTrip.antt.
 pub sender-keeps-rules : SenderKeepsRules

@@ -10,6 +10,7 @@ pub mod Limits
 pub mod Refusals
 pub mod Unique
 pub mod Transports
+pub mod Ignored
 pub mod RoundTrip
 pub mod Modulator
 pub mod Captures
