@@ -22,7 +22,7 @@ use Rattle.card.specs.Hear.{judgedOf}
 use Rattle.sender.specs.Rules.{segmentsOf, packetAt}
 use Rattle.promises.specs.Arrivals.{WithinBound, Window, inTime}
 use Rattle.promises.proofs.Readings.{framesRead}
-use Rattle.promises.proofs.Alone.{readAlone, framesAlone}
+use Rattle.promises.proofs.Alone.{pspTerms, readAlone, framesAlone}
 use Rattle.promises.proofs.InTime.{in-time-after, in-time-before, in-time-at, in-time-none}
 use Rattle.promises.proofs.FromTheFront.{given, left, behind, behind-nothing}
 use Rattle.promises.proofs.Passed.{Counts}
@@ -125,7 +125,7 @@ module _ (start : ℕ) (packets : List Packet)
       pick on stay false e =
           let l : x < expected = leb-false expected x e in
           let m : max expected (suc x) ≡ expected = omega arith in
-          alone-late framesRead f held (packetAt packets x) (those xs)
+          alone-late framesRead pspTerms f held (packetAt packets x) (those xs)
           (by-place f x (sent .0) ∙ judge-behind f start expected hears waits x l (within .1))
           ∙ stay (rw m at (within .2))
           ∙ sym (same-from (inTime (x ∷ xs)) (inTime xs) expected held (drop expected packets) (λ k i. in-time-after x xs k (omega arith)))

@@ -1,5 +1,5 @@
--- The numbers and gaps that a flow's calls answer in a run are those told along the sender's packets. As with demand 3, what the calls
--- answer is what the flow makes of its packets by itself; and within the bound it judges each packet by its place.
+-- The numbers and gaps that a flow's calls answer in a run are those told along the sender's packets, for PSP and D-MPT alike. As with
+-- demand 3, what the calls answer is what the flow makes of its packets by itself; and within the bound it judges each packet by its place.
 use Prim.Native.Nat.{ℕ, suc, _-_, _≤_, _<_, max}
 use mathlib.Core.Path.{_≡_, refl, ap, _∙_}
 use mathlib.Core.Bool.{Bool, true, false, cond}
@@ -14,6 +14,7 @@ use Rattle.flow.specs.Flow.{fresh, judge, heardMark}
 use Rattle.flow.proofs.Judging.{judge-forward, judge-behind}
 use Rattle.packet.specs.Header.{Packet, sub}
 use Rattle.table.specs.declared.Kind.{Kind}
+use Rattle.table.specs.declared.Terms.{Terms}
 use Rattle.card.specs.Hear.{judgedOf}
 use Rattle.card.specs.History.{Card, Call, answer, after}
 use Rattle.sender.specs.Rules.{packetAt}
@@ -21,12 +22,11 @@ use Rattle.promises.specs.Words.{handsTo}
 use Rattle.promises.specs.Arrivals.{WithinBound, Window}
 use Rattle.promises.specs.Gaps.{Verdict, verdictsOut, verdictsFrom, verdictsOf, GapsAreTold}
 use Rattle.promises.proofs.Readings.{Reading, readOut}
-use Rattle.promises.proofs.Alone.{readAlone}
+use Rattle.promises.proofs.Alone.{termsFor, readAlone}
 use Rattle.promises.proofs.Hearing.{alone-late, alone-heard}
 use Rattle.promises.proofs.Passed.{Counts, judged-by-place}
 use Rattle.promises.proofs.Arrivals.{next-place}
-use Rattle.promises.specs.Demand.{kindOn}
-use Rattle.promises.proofs.Demand.{all-counted, run-read}
+use Rattle.promises.proofs.Runs.{all-counted, run-read}
 
 -- a late packet is answered by 12 and gap 0, and any other by 0 and the gap that the flow finds
 abbrev pub verdictsRead : Reading Verdict
@@ -48,10 +48,10 @@ verdicts-read kind session flow c (x ∷ more) =
     cond (handsTo kind session flow x) (record { code = (answer c x) .code; gap = (answer c x) .gap } ∷ []) [] ++ l)
     (verdicts-read kind session flow (after c x) more)
 
-module _ (start : ℕ) (packets : List Packet)
+module _ (terms : Terms) (start : ℕ) (packets : List Packet)
     (by-place : (f : Flow) (x : ℕ) → Counts packets x → judgedOf f (sub (packetAt packets x)) ≡ judge f (numberAt start x)) where
   abbrev verdictsAlone : Flow → List ℕ → List ℕ → List Verdict
-  verdictsAlone f held xs = readAlone verdictsRead f held (map (packetAt packets) xs)
+  verdictsAlone f held xs = readAlone verdictsRead terms f held (map (packetAt packets) xs)
 
   -- `expected` is the place that the flow waits for
   verdicts-along : (f : Flow) (expected : ℕ) (held : List ℕ) (xs : List ℕ) → f .heard ≡ heardMark → f .expected ≡ numberAt start expected →
@@ -73,13 +73,13 @@ module _ (start : ℕ) (packets : List Packet)
       pick on stay true e =
           let l : expected ≤ x = leb-true expected x e in
           let m : max expected (suc x) ≡ suc x = omega arith in
-          alone-heard verdictsRead f held (packetAt packets x) (map (packetAt packets) xs) (numberAt start x) (x - expected)
+          alone-heard verdictsRead terms f held (packetAt packets x) (map (packetAt packets) xs) (numberAt start x) (x - expected)
           (by-place f x (sent .0) ∙ judge-forward f start expected hears waits x l (within .0))
           ∙ ap (λ (r : List Verdict). record { code = 0; gap = x - expected } ∷ r) (on _ _ refl (next-place start x) (rw m at (within .2)))
       pick on stay false e =
           let l : x < expected = leb-false expected x e in
           let m : max expected (suc x) ≡ expected = omega arith in
-          alone-late verdictsRead f held (packetAt packets x) (map (packetAt packets) xs)
+          alone-late verdictsRead terms f held (packetAt packets x) (map (packetAt packets) xs)
           (by-place f x (sent .0) ∙ judge-behind f start expected hears waits x l (within .1))
           ∙ ap (λ (r : List Verdict). record { code = 12; gap = 0 } ∷ r) (stay (rw m at (within .2)))
 
@@ -88,13 +88,13 @@ module _ (start : ℕ) (packets : List Packet)
   unfolding readAlone verdictsOf
   window-verdicts [] sent window = refl
   window-verdicts (x ∷ xs) sent window =
-      alone-heard verdictsRead fresh [] (packetAt packets x) (map (packetAt packets) xs) (numberAt start x) 0 (by-place fresh x (sent .0))
+      alone-heard verdictsRead terms fresh [] (packetAt packets x) (map (packetAt packets) xs) (numberAt start x) 0 (by-place fresh x (sent .0))
       ∙ ap (λ (r : List Verdict). record { code = 0; gap = 0 } ∷ r)
       (verdicts-along _ (suc x) _ xs refl (next-place start x) (sent .1) window)
 
 pub gaps-are-told : GapsAreTold
-gaps-are-told s r =
-    verdicts-read (kindOn (s .line)) (s .line .session) (s .line .flow) _ (r .calls)
-    ∙ run-read s r verdictsRead
-    ∙ window-verdicts (s .line .start) (s .packets)
-    (judged-by-place (s .line) (s .frames) (s .unfinished) (s .packets) (s .keeps-rules)) (r .arrivals) (all-counted s r) (r .in-window)
+gaps-are-told kind line packets up r =
+    verdicts-read kind (line .session) (line .flow) _ (r .calls)
+    ∙ run-read kind line packets r (up .passing) verdictsRead
+    ∙ window-verdicts (termsFor kind) (line .start) packets (judged-by-place (line .start) packets (up .numbered)) (r .arrivals)
+    (all-counted kind line packets r) (r .in-window)

@@ -11,6 +11,7 @@ use Rattle.flow.specs.Numbers.{next}
 use Rattle.flow.specs.Flow.{heardMark, accepted, tooLate}
 use Rattle.packet.specs.Header.{Packet, sub, sSet}
 use Rattle.packet.specs.Segments.{entryWidth}
+use Rattle.table.specs.declared.Terms.{Terms}
 use Rattle.card.specs.Hear.{Heard, judgedOf, fateOf, hear, recordAfter}
 use Rattle.sender.specs.Rules.{segmentsOf}
 use Rattle.promises.proofs.Readings.{Reading, framesRead}
@@ -22,22 +23,22 @@ abbrev pub listening : ℕ → List ℕ → Flow
 listening n held = record { heard = heardMark; expected = next n; held = length held }
 
 -- what is heard, by the judgement of the packet
-abbrev pub heardAs : List ℕ → Packet → Judged → Heard
-heardAs held packet j = record { judged = j; fate = fateOf pspTerms (j .gap) held (sub packet) }
+abbrev pub heardAs : Terms → List ℕ → Packet → Judged → Heard
+heardAs terms held packet j = record { judged = j; fate = fateOf terms (j .gap) held (sub packet) }
 
-module _ {A : Type 0} (w : Reading A) (f : Flow) (held : List ℕ) (packet : Packet) (more : List Packet) where
+module _ {A : Type 0} (w : Reading A) (terms : Terms) (f : Flow) (held : List ℕ) (packet : Packet) (more : List Packet) where
   abbrev by : Judged → List A
   by j =
-      let h = heardAs held packet j in
-      cond (j .late) (w .of-late ++ readAlone w f held more) (w .of-heard h ++ readAlone w (recordAfter h) (h .fate .held) more)
+      let h = heardAs terms held packet j in
+      cond (j .late) (w .of-late ++ readAlone w terms f held more) (w .of-heard h ++ readAlone w terms (recordAfter h) (h .fate .held) more)
 
-  pub alone-late : judgedOf f (sub packet) ≡ tooLate f → readAlone w f held (packet ∷ more) ≡ w .of-late ++ readAlone w f held more
+  pub alone-late : judgedOf f (sub packet) ≡ tooLate f → readAlone w terms f held (packet ∷ more) ≡ w .of-late ++ readAlone w terms f held more
   unfolding readAlone hear
   alone-late e = ap by e
 
   pub alone-heard : (n gap : ℕ) → judgedOf f (sub packet) ≡ accepted f n gap →
-      let h = heardAs held packet (accepted f n gap) in
-      readAlone w f held (packet ∷ more) ≡ w .of-heard h ++ readAlone w (recordAfter h) (h .fate .held) more
+      let h = heardAs terms held packet (accepted f n gap) in
+      readAlone w terms f held (packet ∷ more) ≡ w .of-heard h ++ readAlone w terms (recordAfter h) (h .fate .held) more
   unfolding readAlone hear
   alone-heard n gap e = ap by e
 
@@ -49,5 +50,5 @@ pub frames-heard : (f : Flow) (held : List ℕ) (packet : Packet) (more : List P
     ++ framesAlone (listening n (left (behind gap held) (segmentsOf entryWidth packet)))
     (left (behind gap held) (segmentsOf entryWidth packet)) more
 frames-heard f held packet more n gap set e =
-    alone-heard framesRead f held packet more n gap e
+    alone-heard framesRead pspTerms f held packet more n gap e
     ∙ rw (set, packet-gives gap held (segmentsOf entryWidth packet), packet-leaves gap held (segmentsOf entryWidth packet))

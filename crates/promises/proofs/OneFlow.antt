@@ -28,7 +28,7 @@ module _ (line : Line) (frames : List Pieces) (unfinished : Pieces) (packets : L
   flow-survivors : Each (Counts packets) arrivals → Window arrivals →
       framesAlone fresh [] (map (packetAt packets) arrivals) ≡ survivors (inTime arrivals) frames (placesFrom 0 packets)
   flow-survivors sent window =
-      window-along (line .start) packets (judged-by-place line frames unfinished packets rules) arrivals sent window
+      window-along (line .start) packets (judged-by-place (line .start) packets (rules .numbered)) arrivals sent window
       ∙ along-segments (inTime arrivals) 0 [] packets (all-some packets (rules .passing))
       ∙ ap (walk (inTime arrivals) [] (placesFrom 0 packets)) (rules .in-order)
       ∙ frames-survive (inTime arrivals) frames unfinished (placesFrom 0 packets) (rules .sizes)

@@ -83,8 +83,9 @@ module _ (line : Line) (frames : List Pieces) (unfinished : Pieces) (packets : L
       (each-front HasBytes (inTurn frames) (begunFrame true unfinished)
       (subst (Each HasBytes) (rules .in-order) (all-filled packets (rules .passing))))
 
-  -- such a packet, at place x, is judged by the number of its place
-  pub judged-by-place : (f : Flow) (x : ℕ) → Counts packets x → judgedOf f (sub (packetAt packets x)) ≡ judge f (numberAt (line .start) x)
-  judged-by-place f x c =
-      ap (λ (s : Bool). judgedBy s f (number (sub (packetAt packets x)))) (c .1)
-      ∙ ap (judge f) (rules .numbered x (c .0))
+-- where packets are numbered one up, the one at place x is judged by the number of its place
+pub judged-by-place : (start : ℕ) (packets : List Packet) →
+    ((i : ℕ) → i < length packets → number (sub (packetAt packets i)) ≡ numberAt start i) → (f : Flow) (x : ℕ) → Counts packets x →
+    judgedOf f (sub (packetAt packets x)) ≡ judge f (numberAt start x)
+judged-by-place start packets numbered f x c =
+    ap (λ (s : Bool). judgedBy s f (number (sub (packetAt packets x)))) (c .1) ∙ ap (judge f) (numbered x (c .0))

@@ -36,26 +36,33 @@ opening line = asking kind.Psp (line .session)
 abbrev pub kindOn : Line → Kind
 kindOn line = (opening line) .kind
 
--- A run of a card: any calls from an empty table, then the session's opening as PSP, then any calls again, none of which closes it. Among
--- them its flow gets the sender's packets, and no others, in the order of `arrivals`; and no packet without a number, S clear, comes on
--- the flow (document 02, W2). What else is called, for other sessions and other
--- flows, before and after, refused or not, is left open. (That each arrival was sent is not asked for: past the end of the packets stands
--- one without bytes, which is no packet of any flow.)
-pub record Run (s : Sending) : Type 0 where
+-- A run of a card, seen from one flow of a session of this kind: any calls from an empty table, then the session's opening, then any calls
+-- again, none of which closes it. Among them the flow gets these packets, and no others, in the order of `arrivals`; and no packet without
+-- a number, S clear, comes on the flow (document 02, W2). What else is called, for other sessions and other flows, before and after,
+-- refused or not, is left open. (That each arrival was sent is not asked for: past the end of the packets stands one without bytes, which
+-- is no packet of any flow.)
+pub record RunOf (kind : Kind) (line : Line) (packets : List Packet) : Type 0 where
   pub holding : List ℕ
   pub before : List Call
   pub calls : List Call
   pub arrivals : List ℕ
-  pub opens-now : (answer (afterAll (emptyCard holding) before) (opens (opening (s .line)))) .code ≡ 0
-  pub stays-open : StaysOpen (s .line .session) calls
-  pub long-enough : LongEnough (kindOn (s .line)) (s .line .session) (s .line .flow) holding calls
-  pub only-these : packetsTo (kindOn (s .line)) (s .line .session) (s .line .flow) calls ≡ map (packetAt (s .packets)) arrivals
-  pub all-numbered : Each (λ p. sSet (sub p) ≡ true) (packetsTo (kindOn (s .line)) (s .line .session) (s .line .flow) calls)
+  pub opens-now : (answer (afterAll (emptyCard holding) before) (opens (asking kind (line .session)))) .code ≡ 0
+  pub stays-open : StaysOpen (line .session) calls
+  pub long-enough : LongEnough kind (line .session) (line .flow) holding calls
+  pub only-these : packetsTo kind (line .session) (line .flow) calls ≡ map (packetAt packets) arrivals
+  pub all-numbered : Each (λ p. sSet (sub p) ≡ true) (packetsTo kind (line .session) (line .flow) calls)
   pub in-window : Window arrivals
 
--- the card when the session has been opened, and what comes out of the flow from then on
+-- the card when the session has been opened
+abbrev pub cardOpened : (kind : Kind) (line : Line) (packets : List Packet) → RunOf kind line packets → Card
+cardOpened kind line packets r = after (afterAll (emptyCard (r .holding)) (r .before)) (opens (asking kind (line .session)))
+
+-- a run that brings a sender's packets, its card, and what comes out of the flow from the opening on
+abbrev pub Run : Sending → Type 0
+Run s = RunOf (kindOn (s .line)) (s .line) (s .packets)
+
 abbrev pub openedCard : (s : Sending) → Run s → Card
-openedCard s r = after (afterAll (emptyCard (r .holding)) (r .before)) (opens (opening (s .line)))
+openedCard s r = cardOpened (kindOn (s .line)) (s .line) (s .packets) r
 
 abbrev pub comesOut : (s : Sending) → Run s → List (List ℕ)
 comesOut s r = framesOut (kindOn (s .line)) (s .line .session) (s .line .flow) (openedCard s r) (r .calls)
