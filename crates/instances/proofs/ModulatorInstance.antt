@@ -28,7 +28,7 @@ use Rattle.sender.specs.Rules.{Pieces, packetAt, wholeFrame, begunFrame, inTurn
 use Rattle.mpeg.specs.Frame.{good, mayBegin, Good}
 use Rattle.mpeg.specs.Write.{leftAt, packetOf, carried, countAfter}
 use Rattle.mpeg.specs.Read.{found, withoutFlag, withFlag, readPacket, readFrom, packetsIn, reading}
-use Rattle.mpeg.specs.Run.{Burst, packetNext, afterNext, runPackets, allFrames}
+use Rattle.mpeg.specs.Run.{Burst, noBacklog, waitingIn, packetNext, afterNext, runPackets, runEnd, allFrames}
 use Rattle.promises.specs.Words.{packetsTo, framesOut, LongEnough}
 use Rattle.promises.specs.Demand.{Sending, Run, comesOut}
 use Rattle.promises.specs.Modulator.{Modulation, leaves, MayTravel}
@@ -128,21 +128,21 @@ unfolding part rest put joined lengthsOf cutBy any least sumTo upTo ahead next b
     settledBy settled fateBy fate atGap inOrder pspFate hear carriedOut refused receivedBy received answer after afterAll framesOut
 comes-out = refl
 
--- What comes out of the first call is added before the first packet, what comes out of the second before the third; the second and those
--- behind the third are null packets.
+-- What comes out of the first call is added before the first packet, what comes out of the second before the third; the second and the
+-- fourth are null packets.
 abbrev pub bursts : List Burst
-bursts = (six ∷ []) ∷ [] ∷ (seven ∷ []) ∷ []
+bursts = (six ∷ []) ∷ [] ∷ (seven ∷ []) ∷ [] ∷ []
 
 pub all-given : allFrames bursts ≡ comesOut sending run
 unfolding allFrames
 all-given = comes-out
 
-pub enough : length (joined (comesOut sending run)) ≤ 13
-unfolding joined
-enough = subst (λ (out : List (List ℕ)). length (joined out) ≤ 13) comes-out (omega arith)
+pub nothing-waits : waitingIn (runEnd (noBacklog 15) bursts) ≡ []
+unfolding rest joined lengthsOf leftAt carried countAfter afterNext runEnd
+nothing-waits = refl
 
 abbrev pub modulation : Modulation sending run
-modulation = record { count = 15; bursts = bursts; calls = 13; all-given = all-given; enough = enough }
+modulation = record { count = 15; bursts = bursts; all-given = all-given; nothing-waits = nothing-waits }
 
 -- a list is of bytes where each of its elements is one
 all-bytes : (l : List ℕ) → Each (λ byte. byte < 256) l → AllBytes l

@@ -1,5 +1,6 @@
--- What a run of the writer gives, the reader takes, and gives back the frames that have been sent whole (W3): `runs-are-read`. And with
--- calls enough all frames come back: `all-come-back`. After each packet the reader stands where the run stands: `Keeps`.
+-- What a run of the writer gives, the reader takes, and gives back the frames that have been sent whole (W3): `runs-are-read`. Where
+-- nothing waits at its end these are all frames (`all-come-back`), and calls enough come to such an end (`drained-is-empty`). After each
+-- packet the reader stands where the run stands: `Keeps`.
 use mathlib.Core.Path.{_≡_, refl, sym, ap, _∙_}
 use Prim.Native.Nat.{ℕ, zero, suc, _+_, _-_, _/_, _%_, _≤_, _<_, min}
 use native.Mathlib.Omega.{arith}
@@ -25,7 +26,7 @@ use Rattle.mpeg.specs.Frame.{startsWell, Good}
 use Rattle.mpeg.specs.Write.{packetOf, carried, countAfter}
 use Rattle.mpeg.specs.Read.{Reading, atStart, anyCount, readPacket, readFrom, packetsIn, reading}
 use Rattle.mpeg.specs.Run.{Backlog, noBacklog, Burst, added, waitingIn, leftIn, packetNext, afterNext, runPackets, runEnd, GoodBursts}
-use Rattle.mpeg.specs.Run.{allFrames, sentWhole, RunsAreRead, drained, AllComeBack}
+use Rattle.mpeg.specs.Run.{allFrames, sentWhole, RunsAreRead, AllComeBack, DrainedIsEmpty}
 use Rattle.mpeg.proofs.Backlogs.{Mid, between, within, mid-front, one, one-some, At, at-next, at-added, at-none, at-on, at-whole}
 use Rattle.mpeg.proofs.Backlogs.{at-ends, NotEmpty, at-sent, count-next, count-some, packet-on, packet-ends, carried-some}
 use Rattle.mpeg.proofs.Frames.{Says, good-says, good-some, starts-append, starts-not-fill, front-begins, front-not-good}
@@ -310,6 +311,27 @@ runs-are-read count bursts g =
           ∙ ap (λ (fs : List (List ℕ)). sentWhole fs ((runEnd (noBacklog count) bursts) .place)) (frames-at-end bursts (noBacklog count));
     }
 
+-- With every byte sent, all frames have been sent whole.
+sent-all : (frames : List (List ℕ)) (place : ℕ) → length (joined frames) ≤ place → sentWhole frames place ≡ frames
+unfolding sentWhole
+sent-all [] place h = refl
+sent-all (f ∷ frames) place h =
+    let k : length f ≤ place = omega (arith, length-joined f frames) in
+    let more : length (joined frames) ≤ place - length f = omega (arith, length-joined f frames) in
+    rw (le-leb (length f) place k) (ap (λ (fs : List (List ℕ)). f ∷ fs) (sent-all frames (place - length f) more))
+
+abbrev all-length : Backlog → ℕ
+all-length q = length (joined (q .frames))
+
+pub all-come-back : AllComeBack
+all-come-back count bursts g nothing =
+    let all = allFrames bursts in
+    let end = runEnd (noBacklog count) bursts in
+    let frames-are : end .frames ≡ all = frames-at-end bursts (noBacklog count) in
+    let long : all-length end ≡ length (joined all) = ap (λ (fs : List (List ℕ)). length (joined fs)) frames-are in
+    let left : all-length end - end .place ≡ 0 = sym (length-rest (joined (end .frames)) (end .place)) ∙ ap length nothing in
+    (runs-are-read count bursts g) .given-back ∙ sent-all all (end .place) (omega arith)
+
 -- Calls enough: each sends a byte at least as long as any wait.
 some-carried : (r : ℕ) (waiting : List ℕ) → 0 < length waiting → 0 < carried r waiting
 some-carried r waiting some =
@@ -321,9 +343,6 @@ some-carried r waiting some =
     let c : carried r waiting ≡ min pointedLength (length waiting) = carried-some r waiting some ∙ rw e refl in
     let g : 0 < carried r waiting = omega arith in g)
     (true-or-false (leb payloadLength r))
-
-abbrev all-length : Backlog → ℕ
-all-length q = length (joined (q .frames))
 
 goes-on : (q : Backlog) (n : ℕ) → all-length q ≤ q .place + suc n → all-length q ≤ (afterNext q) .place + n
 unfolding afterNext
@@ -357,42 +376,25 @@ all-sent (suc n) q h =
     let sent : all-length q′ ≤ (runEnd q′ (replicate n [])) .place = all-sent n q′ (omega arith) in
     omega arith
 
+calls-keep : (n : ℕ) (q : Backlog) → all-length (runEnd q (replicate n [])) ≡ all-length q
+unfolding runEnd
+calls-keep zero q = refl
+calls-keep (suc n) q =
+    calls-keep n (afterNext (added q [])) ∙ frames-kept (added q []) ∙ same-length q
+
 -- the run of the bursts, and then of the calls
 run-both : (bursts more : List Burst) (q : Backlog) → runEnd q (bursts ++ more) ≡ runEnd (runEnd q bursts) more
 unfolding runEnd
 run-both [] more q = refl
 run-both (burst ∷ bursts) more q = run-both bursts more (afterNext (added q burst))
 
-drained-frames : (bursts : List Burst) (n : ℕ) → allFrames (drained bursts n) ≡ allFrames bursts
-unfolding allFrames
-drained-frames [] zero = refl
-drained-frames [] (suc n) = drained-frames [] n
-drained-frames (burst ∷ bursts) n = ap (λ (fs : List (List ℕ)). burst ++ fs) (drained-frames bursts n)
-
-pub drained-good : (bursts : List Burst) (n : ℕ) → GoodBursts bursts → GoodBursts (drained bursts n)
-drained-good [] zero g = tt
-drained-good [] (suc n) g = (tt, drained-good [] n g)
-drained-good (burst ∷ bursts) n (g, gs) = (g, drained-good bursts n gs)
-
--- with every byte sent, all frames have been sent whole
-sent-all : (frames : List (List ℕ)) (place : ℕ) → length (joined frames) ≤ place → sentWhole frames place ≡ frames
-unfolding sentWhole
-sent-all [] place h = refl
-sent-all (f ∷ frames) place h =
-    let k : length f ≤ place = omega (arith, length-joined f frames) in
-    let more : length (joined frames) ≤ place - length f = omega (arith, length-joined f frames) in
-    rw (le-leb (length f) place k) (ap (λ (fs : List (List ℕ)). f ∷ fs) (sent-all frames (place - length f) more))
-
-pub all-come-back : AllComeBack
-all-come-back count n bursts g h =
-    let all = allFrames bursts in
+pub drained-is-empty : DrainedIsEmpty
+drained-is-empty count n bursts h =
     let behind = runEnd (noBacklog count) bursts in
-    let frames-are : behind .frames ≡ all = frames-at-end bursts (noBacklog count) in
-    let long : all-length behind ≡ length (joined all) = ap (λ (fs : List (List ℕ)). length (joined fs)) frames-are in
-    let sent : all-length behind ≤ (runEnd behind (replicate n [])) .place = all-sent n behind (omega arith) in
-    let end : runEnd (noBacklog count) (drained bursts n) ≡ runEnd behind (replicate n []) =
-    run-both bursts (replicate n []) (noBacklog count) in
-    let place : length (joined all) ≤ (runEnd (noBacklog count) (drained bursts n)) .place = rw end (omega arith) in
-    (runs-are-read count (drained bursts n) (drained-good bursts n g)) .given-back
-    ∙ ap (λ (fs : List (List ℕ)). sentWhole fs ((runEnd (noBacklog count) (drained bursts n)) .place)) (drained-frames bursts n)
-    ∙ sent-all all ((runEnd (noBacklog count) (drained bursts n)) .place) place
+    let frames-are : behind .frames ≡ allFrames bursts = frames-at-end bursts (noBacklog count) in
+    let long : all-length behind ≡ length (joined (allFrames bursts)) = ap (λ (fs : List (List ℕ)). length (joined fs)) frames-are in
+    let end = runEnd behind (replicate n []) in
+    let kept : all-length end ≡ all-length behind = calls-keep n behind in
+    let sent : all-length behind ≤ end .place = all-sent n behind (omega arith) in
+    let none : length (waitingIn end) ≡ 0 = omega (arith, length-rest (joined (end .frames)) (end .place)) in
+    rw (run-both bursts (replicate n []) (noBacklog count)) (length-none (waitingIn end) none)

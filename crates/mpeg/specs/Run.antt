@@ -90,15 +90,21 @@ pub record IsRun (bytes : List ℕ) : Type 0 where
 abbrev pub ReadIsRun : Type 0
 ReadIsRun = (bytes : List ℕ) → AllBytes bytes → (reading bytes) .sound ≡ true → IsRun bytes
 
--- `all-come-back`: any frames, added in any bursts; and then at least as many calls more as the frames have bytes, each of which sends at
--- least one byte as long as any wait. All frames come back, in order.
+-- `all-come-back`: any frames, added in any bursts, and nothing waits when the run stops. All frames come back, in order.
+abbrev pub AllComeBack : Type 0
+AllComeBack =
+    (count : ℕ) (bursts : List Burst) → GoodBursts bursts → waitingIn (runEnd (noBacklog count) bursts) ≡ [] →
+    (reading (joined (runPackets (noBacklog count) bursts))) .frames ≡ allFrames bursts
+
+-- `drained-is-empty`: each call sends at least one byte as long as any wait. So nothing waits after at least as many calls more as the
+-- frames have bytes.
 abbrev pub drained : List Burst → ℕ → List Burst
 drained bursts n = bursts ++ replicate n []
 
-abbrev pub AllComeBack : Type 0
-AllComeBack =
-    (count n : ℕ) (bursts : List Burst) → GoodBursts bursts → length (joined (allFrames bursts)) ≤ n →
-    (reading (joined (runPackets (noBacklog count) (drained bursts n)))) .frames ≡ allFrames bursts
+abbrev pub DrainedIsEmpty : Type 0
+DrainedIsEmpty =
+    (count n : ℕ) (bursts : List Burst) → length (joined (allFrames bursts)) ≤ n →
+    waitingIn (runEnd (noBacklog count) (drained bursts n)) ≡ []
 
 -- `calls-make-runs`: a call with frames that may be written and room for a packet is a step of a run.
 abbrev pub askedFor : Backlog → List ℕ → Asked

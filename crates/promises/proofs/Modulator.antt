@@ -1,20 +1,19 @@
 -- From the core to the modulator: a reader gets back whatever frames that keep W3's rules the writer was given, and what comes out of the
 -- card is known by demand 3.
 use Prim.Native.Nat.{ℕ}
-use mathlib.Core.Path.{sym, ap, subst, _∙_}
+use mathlib.Core.Path.{sym, subst, _∙_}
 use mathlib.Core.List.{List, [], _∷_}
-use lib.ListN.{length}
 use Rattle.octets.specs.Stretch.{joined}
 use Rattle.octets.specs.Each.{Each}
 use Rattle.octets.proofs.Elements.{each-front, each-back}
 use Rattle.sender.specs.Rules.{Pieces}
 use Rattle.mpeg.specs.Frame.{Good}
-use Rattle.mpeg.specs.Run.{Burst, GoodBursts, allFrames, drained}
+use Rattle.mpeg.specs.Run.{Burst, GoodBursts, allFrames}
 use Rattle.mpeg.specs.Write as write
 use Rattle.mpeg.specs.Read as read
 use Rattle.mpeg.proofs.Unique.{write-permitted, write-unique, read-permitted, read-unique, hand-out-there, hand-out-permitted}
 use Rattle.mpeg.proofs.Unique.{hand-out-unique}
-use Rattle.mpeg.proofs.RunsRead.{runs-are-read, drained-good, all-come-back}
+use Rattle.mpeg.proofs.RunsRead.{runs-are-read, all-come-back}
 use Rattle.promises.specs.Arrivals.{Kept, no-more, kept, lost}
 use Rattle.promises.specs.Demand.{WholeIn}
 use Rattle.promises.specs.Modulator.{SentMayTravel, CoreToModulator, UniqueMpeg}
@@ -40,10 +39,9 @@ pub core-to-modulator : CoreToModulator
 core-to-modulator s r m travels =
     let good = subst (λ (out : List (List ℕ)). Each Good out) (sym (m .all-given)) travels in
     let bursts = bursts-good (m .bursts) good in
-    let few = ap (λ (out : List (List ℕ)). length (joined out)) (m .all-given) in
-    let back = all-come-back (m .count) (m .calls) (m .bursts) bursts (rw few (m .enough)) ∙ m .all-given in
+    let back = all-come-back (m .count) (m .bursts) bursts (m .nothing-waits) ∙ m .all-given in
     record {
-      taken = (runs-are-read (m .count) (drained (m .bursts) (m .calls)) (drained-good (m .bursts) (m .calls) bursts)) .taken;
+      taken = (runs-are-read (m .count) (m .bursts) bursts) .taken;
       those-in-time = subst (λ (out : List (List ℕ)). Kept (WholeIn s r) 0 (s .frames) out) (sym back) (demand-3 s r);
     }
 

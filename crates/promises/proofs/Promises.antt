@@ -19,7 +19,7 @@ use Rattle.promises.specs.Ignored.{IgnoredBits}
 use Rattle.promises.specs.RoundTrip.{SenderKeepsRules, SendingsGoOn, KeepsLimit, RoundTrip}
 use Rattle.promises.specs.Modulator.{CoreToModulator, SentMayTravel, UniqueMpeg}
 use Rattle.promises.specs.Captures.{ReadsBack}
-use Rattle.mpeg.specs.Run.{RunsAreRead, ReadIsRun, AllComeBack, CallsMakeRuns, JudgedByFrames, SentMayGo, NullsBetween}
+use Rattle.mpeg.specs.Run.{RunsAreRead, ReadIsRun, AllComeBack, DrainedIsEmpty, CallsMakeRuns, JudgedByFrames, SentMayGo, NullsBetween}
 use Rattle.mpeg.specs.HandOut.{HandsOutPackets}
 use Rattle.mpeg.proofs.RunsRead as runs-read
 use Rattle.mpeg.proofs.ReadRuns as read-runs
@@ -152,6 +152,9 @@ read-is-run = read-runs.read-is-run
 
 pub all-come-back : AllComeBack
 all-come-back = runs-read.all-come-back
+
+pub drained-is-empty : DrainedIsEmpty
+drained-is-empty = runs-read.drained-is-empty
 
 pub calls-make-runs : CallsMakeRuns
 calls-make-runs = steps.calls-make-runs
