@@ -76,6 +76,16 @@ module _ {X : Type 0} where
       by true behind = (all .0, behind)
       by false behind = behind
 
+  pub chosen-joined : (test : X → Bool) (xs ys : List X) → chosen test (xs ++ ys) ≡ chosen test xs ++ chosen test ys
+  unfolding chosen
+  chosen-joined test [] ys = refl
+  chosen-joined test (x ∷ xs) ys = by (test x) (chosen-joined test xs ys)
+    where
+      by : (t : Bool) → chosen test (xs ++ ys) ≡ chosen test xs ++ chosen test ys →
+          cond t (x ∷ chosen test (xs ++ ys)) (chosen test (xs ++ ys)) ≡ cond t (x ∷ chosen test xs) (chosen test xs) ++ chosen test ys
+      by true behind = ap (λ (l : List X). x ∷ l) behind
+      by false behind = behind
+
   pub chosen-alike : (test also : X → Bool) (xs : List X) → ((x : X) → test x ≡ also x) → chosen test xs ≡ chosen also xs
   unfolding chosen
   chosen-alike test also [] same = refl
