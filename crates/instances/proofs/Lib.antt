@@ -4,6 +4,7 @@ pub mod ModulatorInstance
 pub mod DmptInstance
 pub mod UnnumberedInstance
 pub mod TransportsInstance
+pub mod IgnoredInstance
 pub mod RoundTripInstance
 pub mod AccountInstance
 pub mod IsolationInstance

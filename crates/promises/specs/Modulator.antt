@@ -73,12 +73,16 @@ pub record Arrives (frames : List (List ℕ)) (m : Modulation frames) : Type 0 w
 abbrev pub sessionFrames : Kind → ℕ → Card → List Call → List (List ℕ)
 sessionFrames kind session c calls = framesIn (deliveries kind session c calls)
 
+-- every frame that a session delivers may be written
+abbrev pub MayTravel : Kind → ℕ → Card → List Call → Type 0
+MayTravel kind session c calls = Each Good (sessionFrames kind session c calls)
+
 abbrev pub flowFrames : (s : Sending) → Run s → List (List ℕ)
 flowFrames s r = framesIn (onFlow (s .line .flow) (deliveries (kindOn (s .line)) (s .line .session) (openedCard s r) (r .calls)))
 
 pub record CoreToModulator : Type 0 where
   pub all-arrive : (kind : Kind) (session : ℕ) (c : Card) (calls : List Call) (m : Modulation (sessionFrames kind session c calls)) →
-      Each Good (sessionFrames kind session c calls) → Arrives (sessionFrames kind session c calls) m
+      MayTravel kind session c calls → Arrives (sessionFrames kind session c calls) m
   pub of-each-flow : (s : Sending) (r : Run s) → Kept (WholeIn s r) 0 (s .frames) (flowFrames s r)
 
 -- `sent-may-travel`: all that a session delivers keeps W3's rules where every frame keeps them that was sent on any of its flows, by
@@ -95,8 +99,8 @@ pub record SentOn (kind : Kind) (session flow : ℕ) (c : Card) (calls : List Ca
 
 abbrev pub SentMayTravel : Type 0
 SentMayTravel =
-    (kind : Kind) (session : ℕ) (c : Card) (calls : List Call) → ((flow : ℕ) → flow < flows → SentOn kind session flow c calls) →
-    Each Good (sessionFrames kind session c calls)
+    (kind : Kind) (session : ℕ) (c : Card) (calls : List Call) →
+    ((flow : ℕ) → flow < flows → SentOn kind session flow c calls) → MayTravel kind session c calls
 
 -- `unique-mpeg`: the writer, the reader and the hand-out
 abbrev pub UniqueMpeg : Type 0
