@@ -2,6 +2,7 @@ pub mod Marked
 pub mod DemandInstance
 pub mod ModulatorInstance
 pub mod DmptInstance
+pub mod GapsInstance
 pub mod UnnumberedInstance
 pub mod TransportsInstance
 pub mod IgnoredInstance
