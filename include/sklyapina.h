@@ -323,7 +323,9 @@ struct sklyapina_sent sklyapina_send(uint32_t session, size_t flow, uint16_t num
                                      uint8_t *output, size_t output_length);
 
 /* Writes the next MPEG packet of these frames, as a DOCSIS modulator takes it (DRFI, section 7). A frame starts in a
- * packet wherever the one before it ends; what the last frame leaves of its packet is filled up with 0xFF.
+ * packet where the one before it ends, if a byte is left there: one that ends with the packet, as where 183 bytes of it
+ * were left behind the pointer byte or 184 without it, is followed by the next in the next packet. What the last frame
+ * leaves of its packet is filled up with 0xFF.
  *
  * frames   the frames back to back, and lengths the length of each: any number of frames. Bytes 2 and 3 of a
  *          frame, the high one first, say its length without 6, so it has 6 to 2,048 bytes; its first is not 0xFF
