@@ -8,6 +8,7 @@ pub mod RunsRead
 pub mod RunInstance
 pub mod Completing
 pub mod ReadRuns
+pub mod Channels
 pub mod TailInstance
 pub mod Steps
 pub mod Packets

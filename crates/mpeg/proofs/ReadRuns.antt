@@ -191,7 +191,7 @@ unsound-stays s [] h = h
 unsound-stays s (packet ∷ more) h =
     ap (λ (t : Reading). (readFrom t more) .sound) (stays-unsound s packet h) ∙ unsound-stays unsound more refl
 
-sound-before : (s : Reading) (packets : List (List ℕ)) → (readFrom s packets) .sound ≡ true → s .sound ≡ true
+pub sound-before : (s : Reading) (packets : List (List ℕ)) → (readFrom s packets) .sound ≡ true → s .sound ≡ true
 sound-before s packets h =
     ⊎-elim
     (λ (e : s .sound ≡ true). e)

@@ -27,8 +27,8 @@ use Rattle.mpeg.specs.Write.{packetOf, carried, countAfter}
 use Rattle.mpeg.specs.Read.{Reading, atStart, anyCount, readPacket, readFrom, packetsIn, reading}
 use Rattle.mpeg.specs.Run.{Backlog, noBacklog, Burst, added, waitingIn, leftIn, packetNext, afterNext, runPackets, runEnd, GoodBursts}
 use Rattle.mpeg.specs.Run.{allFrames, sentWhole, RunsAreRead, AllComeBack, DrainedIsEmpty}
-use Rattle.mpeg.proofs.Backlogs.{Mid, between, within, mid-front, one, one-some, At, at-next, at-added, at-none, at-on, at-whole}
-use Rattle.mpeg.proofs.Backlogs.{at-ends, NotEmpty, at-sent, count-next, count-some, packet-on, packet-ends, carried-some}
+use Rattle.mpeg.proofs.Backlogs.{Mid, between, within, mid-front, one, one-some, At, at-left, at-next, at-added, at-none, at-on}
+use Rattle.mpeg.proofs.Backlogs.{at-whole, at-ends, NotEmpty, at-sent, count-next, count-some, packet-on, packet-ends, carried-some}
 use Rattle.mpeg.proofs.Frames.{Says, good-says, good-some, starts-append, starts-not-fill, front-begins, front-not-good}
 use Rattle.mpeg.proofs.Split.{room, split}
 use Rattle.mpeg.proofs.PacketsRead.{standing, Expects, read-null, read-on, read-whole, read-ends}
@@ -45,7 +45,7 @@ pub record Keeps (q : Backlog) (s : Reading) : Type 0 where
   pub expects : Expects expected (q .count)
   pub is : s ≡ standing expected b done
 
-keeps-added : {q : Backlog} {s : Reading} (burst : Burst) → Keeps q s → Each Good burst → Keeps (added q burst) s
+pub keeps-added : {q : Backlog} {s : Reading} (burst : Burst) → Keeps q s → Each Good burst → Keeps (added q burst) s
 keeps-added burst k g =
     let all : Each Good (one (k .b) (k .t) ++ k .waiting ++ burst) = each-both Good (one (k .b) (k .t) ++ k .waiting) burst (k .goods) g in
     record {
@@ -246,12 +246,28 @@ module _ (q : Backlog) (expected : ℕ) (done : List (List ℕ)) (b t : List ℕ
       (true-or-false (leb payloadLength (length t))))
       (true-or-false (eqb (length w) 0))
 
-keeps-next : {q : Backlog} {s : Reading} → Keeps q s →
+pub keeps-next : {q : Backlog} {s : Reading} → Keeps q s →
     Keeps (afterNext q) (readPacket s (packetNext q)) × (length (packetNext q) ≡ mpegLength)
 keeps-next {q} {s} k = rw (k .is) (next-keeps q (k .expected) (k .done) (k .b) (k .t) (k .waiting) (k .at) (k .goods) (k .expects))
 
+-- a null packet more changes nothing where nothing is left of a frame that has begun
+pub keeps-null : {q : Backlog} {s : Reading} → Keeps q s → leftIn q ≡ 0 → readPacket s nullPacket ≡ s
+keeps-null k left =
+    let none-left : length (k .t) ≡ 0 = sym (at-left (k .at)) ∙ left in
+    let no-b : k .b ≡ [] = none-begun (k .at .mid) [] (omega (arith, length-append (k .t) [])) in
+    rw (k .is, no-b) (read-null (k .expected) (k .done))
+
+-- So all is sound, and the frames found are those that have been sent whole.
+pub keeps-sound : {q : Backlog} {s : Reading} → Keeps q s → s .sound ≡ true
+keeps-sound k = ap (λ (s : Reading). s .sound) (k .is)
+
+pub keeps-sent : {q : Backlog} {s : Reading} → Keeps q s → s .frames ≡ sentWhole (q .frames) (q .place)
+keeps-sent k =
+    ap (λ (s : Reading). s .frames) (k .is)
+    ∙ sym (at-sent (k .at) (each-some (k .waiting) (each-back Good (one (k .b) (k .t)) (k .waiting) (k .goods))))
+
 -- A run.
-abbrev Sized : List ℕ → Type 0
+abbrev pub Sized : List ℕ → Type 0
 Sized packet = length packet ≡ mpegLength
 
 keeps-run : (bursts : List Burst) {q : Backlog} {s : Reading} → GoodBursts bursts → Keeps q s →
@@ -273,7 +289,7 @@ packets-back : (ps : List (List ℕ)) → Each Sized ps → packetsIn (joined ps
 unfolding packetsIn
 packets-back ps h = pieces-joined mpegLength ps h
 
-reading-packets : (ps : List (List ℕ)) → Each Sized ps → reading (joined ps) ≡ readFrom atStart ps
+pub reading-packets : (ps : List (List ℕ)) → Each Sized ps → reading (joined ps) ≡ readFrom atStart ps
 unfolding reading
 reading-packets ps h =
     let long = length-joined-each mpegLength ps h in
@@ -282,7 +298,7 @@ reading-packets ps h =
     rw (eq-eqb (length (joined ps) % mpegLength) 0 whole, many, packets-back ps h) refl
 
 -- What a run gives is read.
-keeps-start : (count : ℕ) → Keeps (noBacklog count) atStart
+pub keeps-start : (count : ℕ) → Keeps (noBacklog count) atStart
 keeps-start count =
     record {
       expected = anyCount;
@@ -300,15 +316,13 @@ pub runs-are-read : RunsAreRead
 runs-are-read count bursts g =
     let run = keeps-run bursts g (keeps-start count) in
     let k = run .0 in
-    let e : reading (joined (runPackets (noBacklog count) bursts)) ≡ standing (k .expected) (k .b) (k .done) =
-    reading-packets (runPackets (noBacklog count) bursts) (run .1) ∙ k .is in
-    let sent : sentWhole ((runEnd (noBacklog count) bursts) .frames) ((runEnd (noBacklog count) bursts) .place) ≡ k .done =
-    at-sent (k .at) (each-some (k .waiting) (each-back Good (one (k .b) (k .t)) (k .waiting) (k .goods))) in
+    let end = runEnd (noBacklog count) bursts in
+    let e = reading-packets (runPackets (noBacklog count) bursts) (run .1) in
     record {
-      taken = ap (λ (s : Reading). s .sound) e;
+      taken = ap (λ (s : Reading). s .sound) e ∙ keeps-sound k;
       given-back = ap (λ (s : Reading). s .frames) e
-          ∙ sym sent
-          ∙ ap (λ (fs : List (List ℕ)). sentWhole fs ((runEnd (noBacklog count) bursts) .place)) (frames-at-end bursts (noBacklog count));
+          ∙ keeps-sent k
+          ∙ ap (λ (fs : List (List ℕ)). sentWhole fs (end .place)) (frames-at-end bursts (noBacklog count));
     }
 
 -- With every byte sent, all frames have been sent whole.
@@ -323,14 +337,20 @@ sent-all (f ∷ frames) place h =
 abbrev all-length : Backlog → ℕ
 all-length q = length (joined (q .frames))
 
+-- .. and so where nothing waits
+pub all-whole : (q : Backlog) → waitingIn q ≡ [] → sentWhole (q .frames) (q .place) ≡ q .frames
+all-whole q nothing =
+    let left : all-length q - q .place ≡ 0 = sym (length-rest (joined (q .frames)) (q .place)) ∙ ap length nothing in
+    sent-all (q .frames) (q .place) (omega arith)
+
 pub all-come-back : AllComeBack
 all-come-back count bursts g nothing =
-    let all = allFrames bursts in
     let end = runEnd (noBacklog count) bursts in
-    let frames-are : end .frames ≡ all = frames-at-end bursts (noBacklog count) in
-    let long : all-length end ≡ length (joined all) = ap (λ (fs : List (List ℕ)). length (joined fs)) frames-are in
-    let left : all-length end - end .place ≡ 0 = sym (length-rest (joined (end .frames)) (end .place)) ∙ ap length nothing in
-    (runs-are-read count bursts g) .given-back ∙ sent-all all (end .place) (omega arith)
+    let are = frames-at-end bursts (noBacklog count) in
+    (runs-are-read count bursts g) .given-back
+    ∙ ap (λ (fs : List (List ℕ)). sentWhole fs (end .place)) (sym are)
+    ∙ all-whole end nothing
+    ∙ are
 
 -- Calls enough: each sends a byte at least as long as any wait.
 some-carried : (r : ℕ) (waiting : List ℕ) → 0 < length waiting → 0 < carried r waiting

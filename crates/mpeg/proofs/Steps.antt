@@ -4,22 +4,23 @@
 use Prim.Native.Nat.{ℕ, _+_, _≤_}
 use mathlib.Core.Path.{_≡_, refl, sym, ap, _∙_}
 use mathlib.Core.Bool.{true, false, not, _||_}
+use mathlib.Core.Logic.{⊎-elim}
 use mathlib.Core.List.{List, [], _∷_, _++_}
 use native.Mathlib.Omega.{arith}
 use lib.Dec.{eqb, ltb, leb}
 use lib.ListN.{length, length-append}
-use borrow.Author.Tests.{le-ltb, le-leb, ltb-false, eqb-true, not-false}
+use borrow.Author.Tests.{le-ltb, leb-true, leb-false, ltb-false, eqb-true, not-false}
 use Rattle.refusal.specs.Refusal.{first}
 use Rattle.octets.specs.Stretch.{part, rest, joined, lengthsOf, cutBy}
 use Rattle.octets.specs.Each.{Each}
-use Rattle.octets.proofs.Counts.{or-false-left, or-false-right}
+use Rattle.octets.proofs.Counts.{true-or-false, or-false-left, or-false-right}
 use Rattle.octets.proofs.Elements.{each-too, length-none}
 use Rattle.octets.proofs.Stretches.{length-part, part-all, part-and-rest, part-append, rest-append, rest-joined-append}
 use Rattle.octets.proofs.Stretches.{joined-none, joined-cons, lengthsOf-none, lengthsOf-cons, cut-none, cut-cons}
 use Rattle.ts.specs.Packet.{mpegLength, nullPacket}
 use Rattle.mpeg.specs.Frame.{good, Good}
 use Rattle.mpeg.specs.Write.{badFrames, writeRefusals, carried, WriteOutcome, wrote, writtenBy, written}
-use Rattle.mpeg.specs.HandOut.{source, handedLength, HandsOutPackets}
+use Rattle.mpeg.specs.HandOut.{source, handedLength, handedOut, HandsOutPackets}
 use Rattle.mpeg.specs.Read.{Reading, readPacket, readFrom}
 use Rattle.mpeg.specs.Run.{Backlog, packetNext, afterNext, waitingIn, leftIn, askedFor, IsStep, CallsMakeRuns, JudgedByFrames}
 use Rattle.mpeg.specs.Run.{behindSent, SentMayGo, NullsBetween}
@@ -108,14 +109,14 @@ nulls-between s (p ∷ before) behind sound none-begun = nulls-between (readPack
 
 -- What is handed out.
 pub hands-out-packets : HandsOutPackets
-unfolding handedLength nullPacket
+unfolding handedLength handedOut nullPacket
 hands-out-packets queue null answer is-null p =
-    record {
-      of-the-queue = λ some.
-          let from : source queue null ≡ queue = from-queue queue null some in
-          let whole : leb mpegLength (length (queue .now)) ≡ true = le-leb mpegLength (length (queue .now)) some in
-          p .its-bytes ∙ rw (from, whole) refl;
-      the-null-packet = λ few.
-          let from : source queue null ≡ null = from-null queue null few in
-          p .its-bytes ∙ rw (from, is-null) (part-all nullPacket);
-    }
+    let long = length (queue .now) in
+    ⊎-elim
+    (λ (whole : leb mpegLength long ≡ true).
+    let from : source queue null ≡ queue = from-queue queue null (leb-true mpegLength long whole) in
+    p .its-bytes ∙ rw (from, whole) refl)
+    (λ (few : leb mpegLength long ≡ false).
+    let from : source queue null ≡ null = from-null queue null (leb-false mpegLength long few) in
+    p .its-bytes ∙ rw (from, is-null, few) (part-all nullPacket))
+    (true-or-false (leb mpegLength long))

@@ -1,7 +1,7 @@
 -- The hand-out (W3). The channel's queue is a slice of packets back to back. Where it has one, its first packet is handed out; where it has
 -- none, the null packet is, from the slice where the caller keeps it (`null`). Either is handed out as the stretch that it came from: no
 -- byte is copied, and none is looked at.
-use Prim.Native.Nat.{ℕ, _≤_, _<_}
+use Prim.Native.Nat.{ℕ}
 use mathlib.Core.Path.{_≡_}
 use mathlib.Core.Bool.{cond}
 use mathlib.Core.List.{List}
@@ -25,11 +25,11 @@ pub record PermitsHandOut (queue null answer : RefT (List ℕ)) : Type 0 where
   pub at-its-front : answer .ptr .1 ≡ (source queue null) .ptr .1
   pub its-bytes : answer .now ≡ part ((source queue null) .now) 0 (handedLength ((source queue null) .now))
 
--- `hands-out-packets`: where the caller keeps the null packet in that slice, a packet is always handed out: the queue's first, or the null
--- packet.
-pub record HandsOut (queue answer : RefT (List ℕ)) : Type 0 where
-  pub of-the-queue : mpegLength ≤ length (queue .now) → answer .now ≡ part (queue .now) 0 mpegLength
-  pub the-null-packet : length (queue .now) < mpegLength → answer .now ≡ nullPacket
+-- the packet that is handed out from a queue: its first, or the null packet
+unfoldable pub handedOut : List ℕ → List ℕ
+handedOut queue = cond (leb mpegLength (length queue)) (part queue 0 mpegLength) nullPacket
 
+-- `hands-out-packets`: where the caller keeps the null packet in that slice, a packet is always handed out, and it is that one.
 abbrev pub HandsOutPackets : Type 0
-HandsOutPackets = (queue null answer : RefT (List ℕ)) → null .now ≡ nullPacket → PermitsHandOut queue null answer → HandsOut queue answer
+HandsOutPackets =
+    (queue null answer : RefT (List ℕ)) → null .now ≡ nullPacket → PermitsHandOut queue null answer → answer .now ≡ handedOut (queue .now)

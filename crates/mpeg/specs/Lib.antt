@@ -4,4 +4,5 @@ pub mod Write
 pub mod HandOut
 pub mod Read
 pub mod Run
+pub mod Channel
 pub mod Inside

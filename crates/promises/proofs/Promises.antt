@@ -21,9 +21,11 @@ use Rattle.promises.specs.Modulator.{CoreToModulator, SentMayTravel, Uni
 use Rattle.promises.specs.Captures.{ReadsBack}
 use Rattle.mpeg.specs.Run.{RunsAreRead, ReadIsRun, AllComeBack, DrainedIsEmpty, CallsMakeRuns, JudgedByFrames, SentMayGo, NullsBetween}
 use Rattle.mpeg.specs.HandOut.{HandsOutPackets}
+use Rattle.mpeg.specs.Channel.{ChannelIsRead}
 use Rattle.mpeg.proofs.RunsRead as runs-read
 use Rattle.mpeg.proofs.ReadRuns as read-runs
 use Rattle.mpeg.proofs.Steps as steps
+use Rattle.mpeg.proofs.Channels as channels
 use Rattle.promises.proofs.InTime as in-time
 use Rattle.promises.proofs.Demand as demand
 use Rattle.promises.proofs.Gaps as gaps
@@ -136,8 +138,8 @@ keeps-limit = trip.keeps-limit
 pub round-trip : RoundTrip
 round-trip = trip.round-trip
 
--- To the modulator: specs/Modulator.antt; what is said of single packets and of runs of the writer, in specs/Run.antt and
--- specs/HandOut.antt of crate mpeg.
+-- To the modulator: specs/Modulator.antt; what is said of single packets, of runs of the writer and of a channel, in specs/Run.antt,
+-- specs/HandOut.antt and specs/Channel.antt of crate mpeg.
 pub core-to-modulator : CoreToModulator
 core-to-modulator = modulator.core-to-modulator
 
@@ -170,6 +172,9 @@ nulls-between = steps.nulls-between
 
 pub hands-out-packets : HandsOutPackets
 hands-out-packets = steps.hands-out-packets
+
+pub channel-is-read : ChannelIsRead
+channel-is-read = channels.channel-is-read
 
 pub unique-mpeg : UniqueMpeg
 unique-mpeg = modulator.unique-mpeg
