@@ -1,6 +1,7 @@
 pub mod Marked
 pub mod DemandInstance
 pub mod ModulatorInstance
+pub mod StreamInstance
 pub mod DmptInstance
 pub mod GapsInstance
 pub mod UnnumberedInstance
