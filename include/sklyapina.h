@@ -372,8 +372,8 @@ struct sklyapina_mpeg_read_back sklyapina_mpeg_read(const uint8_t *packets, size
 
 /* The null packet, which a channel sends where nothing waits: PID 0x1FFF, and nothing in it but 0xFF. It is always
  * the same, and nothing is refused: ask once, keep it, and hand the modulator its address. Hand it out only where no
- * frame has begun, that is where `place` is 0 or the sum of the first lengths, however many: else the modem loses
- * the frame, and sklyapina_mpeg_read answers 53. */
+ * frame has begun: every packet that was written has gone out, and `place` is 0 or the sum of the first lengths,
+ * however many. Else the modem loses the frame, and sklyapina_mpeg_read answers 53. */
 struct sklyapina_mpeg_packet {
     uint8_t bytes[SKLYAPINA_MPEG_LENGTH];
 };
