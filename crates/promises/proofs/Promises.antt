@@ -13,7 +13,7 @@ use Rattle.promises.specs.Isolation.{Isolation, OpenByIds}
 use Rattle.promises.specs.Limits.{WithinLimits, NeverBroken}
 use Rattle.promises.specs.Refusals.{RefusalsChangeNothing}
 use Rattle.promises.specs.Unique.{UniqueOpen, UniqueClose, UniqueReceive, UniqueSend, UniqueCheck, UniqueSegment, UniqueCapture}
-use Rattle.promises.specs.Unique.{UniqueFlow}
+use Rattle.promises.specs.Unique.{UniqueFlow, UniqueNull}
 use Rattle.promises.specs.Transports.{SamePacket}
 use Rattle.promises.specs.Ignored.{IgnoredBits}
 use Rattle.promises.specs.RoundTrip.{SenderKeepsRules, SendingsGoOn, KeepsLimit, RoundTrip}
@@ -117,6 +117,9 @@ unique-capture = unique.unique-capture
 
 pub unique-flow : UniqueFlow
 unique-flow = unique.unique-flow
+
+pub unique-null : UniqueNull
+unique-null = unique.unique-null
 
 -- Over IP and over UDP: specs/Transports.antt. What nobody reads: specs/Ignored.antt.
 pub same-packet : SamePacket

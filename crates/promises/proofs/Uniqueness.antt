@@ -3,6 +3,8 @@
 use Prim.Native.Nat.{_+_}
 use Rattle.flow.specs.Flow.{fresh, judge}
 use Rattle.flow.proofs.Unique.{fresh-permitted, fresh-unique, judge-permitted, judge-unique}
+use Rattle.ts.specs.Packet.{nullPacket}
+use Rattle.ts.proofs.Unique.{null-permitted, null-unique, packet-with, same-packet}
 use Rattle.packet.specs.Header.{packetBy}
 use Rattle.packet.specs.Check as packet
 use Rattle.packet.proofs.Unique as packet-laws
@@ -17,7 +19,7 @@ use Rattle.sender.proofs.Unique.{send-permitted, send-unique}
 use Rattle.capture.specs.File as capture
 use Rattle.capture.proofs.Unique as capture-laws
 use Rattle.promises.specs.Unique.{UniqueOpen, UniqueClose, UniqueReceive, UniqueSend}
-use Rattle.promises.specs.Unique.{UniqueCheck, UniqueSegment, UniqueCapture, UniqueFlow}
+use Rattle.promises.specs.Unique.{UniqueCheck, UniqueSegment, UniqueCapture, UniqueFlow, UniqueNull}
 
 pub unique-open : UniqueOpen
 unique-open = (
@@ -95,4 +97,14 @@ unique-flow = (
   record { outcome = fresh; permitted = fresh-permitted; only-one = fresh-unique },
   λ f number. record { outcome = judge f number; permitted = judge-permitted f number; only-one = judge-unique f number },
   record { outcome = empty; permitted = empty-permitted; only-one = empty-unique },
+)
+
+pub unique-null : UniqueNull
+unique-null = (
+  record { outcome = nullPacket; permitted = null-permitted; only-one = null-unique },
+  record {
+    outcome = packet-with nullPacket;
+    permitted = null-permitted;
+    only-one = λ a b p q. same-packet a b (null-unique (a .bytes) (b .bytes) p q);
+  },
 )

@@ -8,6 +8,8 @@ use mathlib.Core.List.{List}
 use denote.Ref.{RefT}
 use Rattle.flow.specs.declared.Flow.{Flow}
 use Rattle.flow.specs.Flow.{PermitsFresh, PermitsJudge}
+use Rattle.ts.specs.declared.MpegPacket.{MpegPacket}
+use Rattle.ts.specs.Packet.{PermitsNullPacket}
 use Rattle.packet.specs.Check as packet
 use Rattle.packet.specs.Header.{Packet, packetBy}
 use Rattle.table.specs.declared.Request.{Request}
@@ -66,3 +68,7 @@ UniqueCapture =
 -- `unique-flow`: the two calls on a flow's record, and the empty table
 abbrev pub UniqueFlow : Type 0
 UniqueFlow = One PermitsFresh × ((f : Flow) (number : ℕ) → One (PermitsJudge f number)) × One PermitsEmpty
+
+-- `unique-null`: the null packet, as bytes and as the struct that crosses to C
+abbrev pub UniqueNull : Type 0
+UniqueNull = One PermitsNullPacket × One (λ (p : MpegPacket). PermitsNullPacket (p .bytes))

@@ -1,19 +1,13 @@
 // What the host program calls on the modulator's side (W3): frames into MPEG packets, MPEG packets back into frames, and the null packet.
 // Each is the call of crate `mpeg`, or of `ts`, as it stands, and its contract is that call's.
-ghost use mathlib.Core.Path.{_≡_};
-ghost use Rattle.ts.specs.Packet.{nullPacket};
+ghost use Rattle.ts.specs.Packet.{PermitsNullPacket};
 ghost use Rattle.mpeg.specs.Write.{PermitsWrite};
 ghost use Rattle.mpeg.specs.Read.{PermitsRead};
 use mpeg::reader;
 use mpeg::reader::ReadBack;
 use mpeg::writer;
 use mpeg::writer::Written;
-
-// A whole MPEG packet. C returns no array; a struct that has one it does.
-#[repr(C)]
-pub struct MpegPacket {
-    pub bytes: [u8; ts::MPEG_LENGTH],
-}
+use ts::MpegPacket;
 
 // Writes the next MPEG packet of these frames at the front of the output; or refuses, and then nothing has changed.
 #[no_mangle]
@@ -59,7 +53,7 @@ pub extern "C" fn sklyapina_mpeg_read(
 // The packet that is sent where nothing waits.
 #[no_mangle]
 pub extern "C" fn sklyapina_mpeg_null() -> MpegPacket
-    ensures { λ r. ⌜ r .bytes ≡ nullPacket ⌝ }
+    ensures { λ r. ⌜ PermitsNullPacket (r .bytes) ⌝ }
 {
     let bytes = ts::null_packet();
     MpegPacket { bytes }

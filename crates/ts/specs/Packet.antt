@@ -11,6 +11,7 @@
 -- P (priority) are written as 0. c is 00, not scrambled, and a is 01, payload and nothing else, so that 0x10 stands beside the count, which
 -- goes round from 0 to 15.
 use Prim.Native.Nat.{ℕ, _+_, _-_, _*_, _/_, _%_}
+use mathlib.Core.Path.{_≡_}
 use mathlib.Core.Bool.{Bool, true, false, cond, _&&_}
 use mathlib.Core.List.{List, [], _∷_, _++_}
 use lib.Dec.{eqb}
@@ -77,3 +78,7 @@ allFill (x ∷ xs) = eqb x fillByte && allFill xs
 -- the packet that carries nothing: PID 0x1FFF, no flag, 0x10, and nothing but 0xFF
 unfoldable pub nullPacket : List ℕ
 nullPacket = header false nullPid 0 ++ replicate payloadLength fillByte
+
+-- What the call for it permits, whole.
+abbrev pub PermitsNullPacket : List ℕ → Type 0
+PermitsNullPacket answer = answer ≡ nullPacket

@@ -6,6 +6,7 @@ ghost use lib.ListN.{length};
 ghost use Rattle.octets.specs.Stretch.{part, put};
 ghost use Rattle.octets.specs.Tests.{same};
 ghost use Rattle.ts.specs.Packet.{mpegLength, headLength, flagged, pids, pid, countOf, nextCount, header, allFill, nullPacket};
+ghost use Rattle.ts.specs.Packet.{PermitsNullPacket};
 
 // The packet, its header, and what is left behind it.
 pub const MPEG_LENGTH: usize = 188;
@@ -37,6 +38,12 @@ pub const COUNTS: u8 = 16;
 
 // What a payload has where nothing else is to be sent.
 pub const FILL_BYTE: u8 = 0xFF;
+
+// A whole packet, as it crosses to C: C returns no array, but a struct that has one.
+#[repr(C)]
+pub struct MpegPacket {
+    pub bytes: [u8; MPEG_LENGTH],
+}
 
 // The PID of the packet at this place.
 pub fn pid_at(packets: &[u8], at: usize) -> u16
@@ -84,7 +91,7 @@ pub fn write_header(packet: &mut [u8], starts: bool, pid: u16, count: u8)
 
 // The packet that carries nothing.
 pub fn null_packet() -> [u8; MPEG_LENGTH]
-    ensures { λ r. ⌜ r ≡ nullPacket ⌝ }
+    ensures { λ r. ⌜ PermitsNullPacket r ⌝ }
 {
     let mut null = [FILL_BYTE; MPEG_LENGTH];
     null[0] = SYNC_BYTE;
