@@ -5,16 +5,19 @@ use Prim.Native.Nat.{ℕ, _+_, _-_, _≤_, _<_, min}
 use mathlib.Core.Path.{_≡_, refl, sym, ap, _∙_}
 use mathlib.Core.Bool.{true, false}
 use mathlib.Core.List.{List, [], _∷_, _++_, append-nil}
+use mathlib.Core.Logic.{⊎-elim}
 use native.Mathlib.Omega.{arith}
 use denote.Ref.{RefT}
+use lib.Dec.{leb}
 use lib.ListN.{length, set, replicate, length-set, length-replicate, replicate-append-replicate}
-use borrow.Author.Tests.{le-leb, lt-leb}
+use borrow.Author.Tests.{leb-true, leb-false, le-leb, lt-leb}
 use Rattle.octets.specs.Stretch.{part, rest, put}
-use Rattle.octets.proofs.Stretches.{length-part, length-rest, length-put, part-min, part-rest-front}
+use Rattle.octets.proofs.Counts.{true-or-false}
+use Rattle.octets.proofs.Stretches.{length-part, length-rest, length-put, part-all, part-min, part-rest-front}
 use Rattle.octets.proofs.Stretches.{put-nil, put-put, put-more, put-on, set-put}
-use Rattle.ts.specs.Packet.{mpegLength, headLength, payloadLength, header, fillByte}
+use Rattle.ts.specs.Packet.{mpegLength, headLength, payloadLength, header, fillByte, nullPacket}
 use Rattle.mpeg.specs.Packet.{pointedLength, framesPid}
-use Rattle.mpeg.specs.HandOut.{source, handedLength, PermitsHandOut}
+use Rattle.mpeg.specs.HandOut.{source, handedLength, handedOut, PermitsHandOut}
 use Rattle.mpeg.specs.Write.{dataPacket, carries}
 use Rattle.mpeg.specs.Inside.Writing.{behindPointer, Waiting}
 
@@ -40,6 +43,29 @@ pub handed : (queue null from answer : RefT (List ℕ)) (n : ℕ) → source que
     answer .ptr .0 ≡ from .ptr .0 → answer .ptr .1 ≡ from .ptr .1 → answer .now ≡ part (from .now) 0 n → PermitsHandOut queue null answer
 handed queue null from answer n s l block place bytes =
     record { in-its-source = rw s block; at-its-front = rw s place; its-bytes = rw (s, l) bytes }
+
+-- The bytes of what is handed out, where the other slice has the null packet; and they are a packet.
+pub handed-bytes : (queue null answer : RefT (List ℕ)) → null .now ≡ nullPacket → PermitsHandOut queue null answer →
+    answer .now ≡ handedOut (queue .now)
+unfolding handedOut nullPacket
+handed-bytes queue null answer is-null p =
+    let bytes = queue .now in
+    ⊎-elim
+    (λ (some : leb mpegLength (length bytes) ≡ true).
+    let whole = leb-true mpegLength (length bytes) some in
+    p .its-bytes ∙ rw (from-queue queue null whole, handed-whole bytes whole, some) refl)
+    (λ (no : leb mpegLength (length bytes) ≡ false).
+    let from = from-null queue null (leb-false mpegLength (length bytes) no) in
+    p .its-bytes ∙ rw (from, is-null, handed-whole nullPacket (omega arith), no) (part-all nullPacket))
+    (true-or-false (leb mpegLength (length bytes)))
+
+pub handed-long : (queue : List ℕ) → length (handedOut queue) ≡ mpegLength
+unfolding handedOut nullPacket
+handed-long queue =
+    ⊎-elim
+    (λ (some : leb mpegLength (length queue) ≡ true). rw some (length-part queue 0 mpegLength (leb-true mpegLength (length queue) some)))
+    (λ (no : leb mpegLength (length queue) ≡ false). rw no refl)
+    (true-or-false (leb mpegLength (length queue)))
 
 -- The loop that fills up, from `at` on.
 pub record Filling (d : List ℕ) (at : ℕ) (output : List ℕ) (i : ℕ) : Type 0 where

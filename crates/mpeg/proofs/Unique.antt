@@ -8,7 +8,7 @@ use denote.Ref.{RefT}
 use Rattle.octets.specs.Stretch.{part}
 use Rattle.mpeg.specs.Write.{Asked, WriteOutcome, written, PermitsWrite}
 use Rattle.mpeg.specs.Read.{AskedRead, ReadOutcome, read, PermitsRead}
-use Rattle.mpeg.specs.HandOut.{source, handedLength, PermitsHandOut}
+use Rattle.mpeg.specs.HandOut.{source, handedLength, handedOut, PermitsHandOut, PermitsHandedOut}
 
 pub write-permitted : (a : Asked) → PermitsWrite a (written a)
 write-permitted a = refl
@@ -38,3 +38,10 @@ pub hand-out-unique : (queue null a b : RefT (List ℕ)) → PermitsHandOut queu
     (a .ptr .0 ≡ b .ptr .0) × (a .ptr .1 ≡ b .ptr .1) × (a .now ≡ b .now)
 hand-out-unique queue null a b p q =
     (p .in-its-source ∙ sym (q .in-its-source), p .at-its-front ∙ sym (q .at-its-front), p .its-bytes ∙ sym (q .its-bytes))
+
+-- the copy
+pub handed-out-permitted : (queue : List ℕ) → PermitsHandedOut queue (handedOut queue)
+handed-out-permitted queue = refl
+
+pub handed-out-unique : (queue a b : List ℕ) → PermitsHandedOut queue a → PermitsHandedOut queue b → a ≡ b
+handed-out-unique queue a b p q = p ∙ sym q

@@ -33,3 +33,7 @@ handedOut queue = cond (leb mpegLength (length queue)) (part queue 0 mpegLength)
 abbrev pub HandsOutPackets : Type 0
 HandsOutPackets =
     (queue null answer : RefT (List ℕ)) → null .now ≡ nullPacket → PermitsHandOut queue null answer → answer .now ≡ handedOut (queue .now)
+
+-- What the call that hands out a copy permits, whole: it is for a caller that can be given no reference.
+abbrev pub PermitsHandedOut : List ℕ → List ℕ → Type 0
+PermitsHandedOut queue answer = answer ≡ handedOut queue

@@ -23,12 +23,14 @@ use Rattle.card.proofs.ByKind.{flow-in-row}
 use Rattle.card.specs.Receive.{rowOf}
 use Rattle.table.specs.Rows.{termsAt}
 use Rattle.sender.specs.Rules.{Pieces}
+use Rattle.ts.proofs.Unique.{packet-with, same-packet}
 use Rattle.mpeg.specs.Frame.{Good}
 use Rattle.mpeg.specs.Run.{Burst, GoodBursts, allFrames}
 use Rattle.mpeg.specs.Write as write
 use Rattle.mpeg.specs.Read as read
+use Rattle.mpeg.specs.HandOut.{handedOut}
 use Rattle.mpeg.proofs.Unique.{write-permitted, write-unique, read-permitted, read-unique, hand-out-there, hand-out-permitted}
-use Rattle.mpeg.proofs.Unique.{hand-out-unique}
+use Rattle.mpeg.proofs.Unique.{hand-out-unique, handed-out-permitted, handed-out-unique}
 use Rattle.mpeg.proofs.RunsRead.{runs-are-read, all-come-back}
 use Rattle.promises.specs.Arrivals.{Kept, no-more, kept, lost}
 use Rattle.promises.specs.Words.{ofSession, handsTo, framesOut, chosen}
@@ -194,5 +196,10 @@ unique-mpeg = (
     outcome = hand-out-there queue null;
     permitted = hand-out-permitted queue null;
     only-one = hand-out-unique queue null;
+  },
+  λ queue. record {
+    outcome = packet-with (handedOut queue);
+    permitted = handed-out-permitted queue;
+    only-one = λ a b p q. same-packet a b (handed-out-unique queue (a .bytes) (b .bytes) p q);
   },
 )

@@ -15,10 +15,11 @@ use Rattle.packet.specs.Header.{sub}
 use Rattle.table.specs.declared.Kind.{Kind}
 use Rattle.card.specs.Hear.{flowIn}
 use Rattle.card.specs.History.{Card, Call, opens, closes, hands, framesOf, answer, after}
+use Rattle.ts.specs.declared.MpegPacket.{MpegPacket}
 use Rattle.mpeg.specs.Frame.{Good}
 use Rattle.mpeg.specs.Write as write
 use Rattle.mpeg.specs.Read as read
-use Rattle.mpeg.specs.HandOut.{PermitsHandOut}
+use Rattle.mpeg.specs.HandOut.{PermitsHandOut, PermitsHandedOut}
 use Rattle.mpeg.specs.Run.{Burst, noBacklog, waitingIn, runPackets, runEnd, allFrames}
 use Rattle.promises.specs.Words.{ofSession, chosen}
 use Rattle.promises.specs.Arrivals.{Kept}
@@ -102,9 +103,10 @@ SentMayTravel =
     (kind : Kind) (session : ℕ) (c : Card) (calls : List Call) →
     ((flow : ℕ) → flow < flows → SentOn kind session flow c calls) → MayTravel kind session c calls
 
--- `unique-mpeg`: the writer, the reader and the hand-out
+-- `unique-mpeg`: the writer, the reader, the hand-out, and its copy, as the struct that crosses to C
 abbrev pub UniqueMpeg : Type 0
 UniqueMpeg =
     ((a : write.Asked) → One (write.PermitsWrite a))
     × ((a : read.AskedRead) → One (read.PermitsRead a))
     × ((queue null : RefT (List ℕ)) → OneOutcome SameSlice (PermitsHandOut queue null))
+    × ((queue : List ℕ) → One (λ (p : MpegPacket). PermitsHandedOut queue (p .bytes)))

@@ -1,8 +1,9 @@
-// What the host program calls on the modulator's side (W3): frames into MPEG packets, MPEG packets back into frames, and the null packet.
-// Each is the call of crate `mpeg`, or of `ts`, as it stands, and its contract is that call's.
+// What the host program calls on the modulator's side (W3): frames into MPEG packets, MPEG packets back into frames, the null packet, and
+// the hand-out. Each is the call of crate `mpeg`, or of `ts`, as it stands, and its contract is that call's; what is handed out is copied.
 ghost use Rattle.ts.specs.Packet.{PermitsNullPacket};
 ghost use Rattle.mpeg.specs.Write.{PermitsWrite};
 ghost use Rattle.mpeg.specs.Read.{PermitsRead};
+ghost use Rattle.mpeg.specs.HandOut.{PermitsHandedOut};
 use mpeg::reader;
 use mpeg::reader::ReadBack;
 use mpeg::writer;
@@ -56,5 +57,17 @@ pub extern "C" fn sklyapina_mpeg_null() -> MpegPacket
     ensures { λ r. ⌜ PermitsNullPacket (r .bytes) ⌝ }
 {
     let bytes = ts::null_packet();
+    MpegPacket { bytes }
+}
+
+// The packet that a channel sends next: a copy of the first of its queue, or the null packet where the queue has none.
+#[no_mangle]
+pub extern "C" fn sklyapina_mpeg_hand_out(queue: &[u8]) -> MpegPacket
+    ensures { λ r. ⌜ PermitsHandedOut (now (queue .entry)) (r .bytes) ⌝ }
+{
+    let null = ts::null_packet();
+    let mut bytes = [0; ts::MPEG_LENGTH];
+    let packet = mpeg::hand_out(queue, &null);
+    octets::copy(&mut bytes, 0, packet, 0, ts::MPEG_LENGTH);
     MpegPacket { bytes }
 }
