@@ -7,8 +7,8 @@ use mathlib.Core.List.{List}
 use denote.Ref.{RefT}
 use Rattle.packet.specs.declared.Extent.{Extent}
 use Rattle.packet.specs.Header.{Packet, packetBy}
-use Rattle.packet.specs.Check.{check, segmentCause, segmentExtent, segmentGiven}
-use Rattle.packet.specs.Check.{PermitsCheck, PermitsSegmentCause, PermitsSegmentExtent, PermitsSegment}
+use Rattle.packet.specs.Check.{check, segmentCause, segmentExtent, segmentGiven, CopyOutcome, segmentCopied}
+use Rattle.packet.specs.Check.{PermitsCheck, PermitsSegmentCause, PermitsSegmentExtent, PermitsSegmentCopy, PermitsSegment}
 
 pub check-permitted : (kind : ℕ) (p : Packet) → PermitsCheck kind p (check kind p)
 check-permitted kind p = refl
@@ -28,6 +28,13 @@ extent-permitted kind p k = refl
 pub extent-unique : (kind : ℕ) (p : Packet) (k : ℕ) (a b : Extent) →
     PermitsSegmentExtent kind p k a → PermitsSegmentExtent kind p k b → a ≡ b
 extent-unique kind p k a b one other = one ∙ sym other
+
+pub copy-permitted : (kind : ℕ) (p : Packet) (k : ℕ) (output : List ℕ) → PermitsSegmentCopy kind p k output (segmentCopied kind p k output)
+copy-permitted kind p k output = refl
+
+pub copy-unique : (kind : ℕ) (p : Packet) (k : ℕ) (output : List ℕ) (a b : CopyOutcome) →
+    PermitsSegmentCopy kind p k output a → PermitsSegmentCopy kind p k output b → a ≡ b
+copy-unique kind p k output a b one other = one ∙ sym other
 
 pub segment-permitted : (kind transport : ℕ) (packet : RefT (List ℕ)) (k : ℕ) →
     PermitsSegment kind transport packet k

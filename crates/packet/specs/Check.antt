@@ -7,9 +7,10 @@ use mathlib.Core.Path.{_≡_}
 use mathlib.Core.Bool.{Bool, cond, not, _&&_}
 use mathlib.Core.List.{List, [], _∷_, _++_}
 use lib.Dec.{eqb, leb}
+use lib.ListN.{length}
 use denote.Ref.{RefT}
 use Rattle.refusal.specs.Refusal.{Refusal, _when_, first}
-use Rattle.octets.specs.Stretch.{part}
+use Rattle.octets.specs.Stretch.{part, put}
 use Rattle.packet.specs.declared.Extent.{Extent}
 use Rattle.packet.specs.Header.{Packet, packetBy, lead, idLength, sub, beforeSession, segmentCount}
 use Rattle.packet.specs.Segments.{entryWidth, bodyAt, lengthAt}
@@ -65,9 +66,22 @@ segmentExtent kind p k = extentBy (segmentCause kind p k) p k
 unfoldable pub segmentGiven : ℕ → Packet → ℕ → List ℕ
 segmentGiven kind p k = part (p .bytes) ((segmentExtent kind p k) .start) ((segmentExtent kind p k) .size)
 
+-- Segment k copied: how long it is, whatever room there is, and the output with the segment at its front, as much of it as fits. A refused
+-- request has an empty segment: the answer is 0, and the output is as it was.
+pub record CopyOutcome : Type 0 where
+  pub answer : ℕ
+  pub output : List ℕ
+
+unfoldable pub segmentCopied : ℕ → Packet → ℕ → List ℕ → CopyOutcome
+segmentCopied kind p k output =
+    record {
+      answer = length (segmentGiven kind p k);
+      output = put output 0 (part (segmentGiven kind p k) 0 (length output));
+    }
+
 -- What the calls permit, whole. A slice that is given back is a reference: `ptr` says where it points, as a block of memory and a place
 -- in that block, and `now` the bytes there. So it is not enough to give back equal bytes from elsewhere in the packet, or a copy.
--- The extent is for callers that cannot be given a reference.
+-- The extent and the copy are for callers that cannot be given a reference.
 abbrev pub PermitsCheck : ℕ → Packet → ℕ → Type 0
 PermitsCheck kind p answer = answer ≡ check kind p
 
@@ -76,6 +90,9 @@ PermitsSegmentCause kind p k answer = answer ≡ segmentCause kind p k
 
 abbrev pub PermitsSegmentExtent : ℕ → Packet → ℕ → Extent → Type 0
 PermitsSegmentExtent kind p k answer = answer ≡ segmentExtent kind p k
+
+abbrev pub PermitsSegmentCopy : ℕ → Packet → ℕ → List ℕ → CopyOutcome → Type 0
+PermitsSegmentCopy kind p k output o = o ≡ segmentCopied kind p k output
 
 pub record PermitsSegment (kind transport : ℕ) (packet : RefT (List ℕ)) (k : ℕ) (answer : RefT (List ℕ)) : Type 0 where
   pub in-the-packet : answer .ptr .0 ≡ packet .ptr .0

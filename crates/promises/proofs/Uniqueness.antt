@@ -76,6 +76,11 @@ unique-segment kind transport slice k = (
     permitted = packet-laws.extent-permitted kind (packetBy transport (slice .now)) k;
     only-one = packet-laws.extent-unique kind (packetBy transport (slice .now)) k;
   },
+  λ output. record {
+    outcome = packet.segmentCopied kind (packetBy transport (slice .now)) k output;
+    permitted = packet-laws.copy-permitted kind (packetBy transport (slice .now)) k output;
+    only-one = packet-laws.copy-unique kind (packetBy transport (slice .now)) k output;
+  },
 )
 
 pub unique-capture : UniqueCapture

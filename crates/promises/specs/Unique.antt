@@ -48,7 +48,7 @@ UniqueReceive = (t : Table) (p : Packet) (s : Slices) → One (PermitsReceive t 
 abbrev pub UniqueSend : Type 0
 UniqueSend = (a : Asked) → One (PermitsSend a)
 
--- `unique-check`, and `unique-segment` with its cause and where it lies
+-- `unique-check`, and `unique-segment` with its cause, where it lies, and its copy into an output
 abbrev pub UniqueCheck : Type 0
 UniqueCheck = (kind : ℕ) (p : Packet) → One (packet.PermitsCheck kind p)
 
@@ -58,6 +58,7 @@ UniqueSegment =
     let p = packetBy transport (slice .now) in
     OneOutcome SameSlice (packet.PermitsSegment kind transport slice k)
     × One (packet.PermitsSegmentCause kind p k) × One (packet.PermitsSegmentExtent kind p k)
+    × ((output : List ℕ) → One (packet.PermitsSegmentCopy kind p k output))
 
 -- `unique-capture`: the check of a capture file, and an entry's body
 abbrev pub UniqueCapture : Type 0

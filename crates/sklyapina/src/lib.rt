@@ -1,12 +1,13 @@
 // What the card's host program, in C, can call. A static library exports the functions of one crate alone, so every export stands here, or
 // in `modulator`. Each is the call of a crate below, as it stands, and its contract is that call's; include/sklyapina.h is its other side.
-// Nothing checks the one against the other but the tests from C.
+// Nothing checks the one against the other but the tests from C. Two calls below answer with a reference, which cannot cross to C: what they
+// refer to crosses as a copy, by `sklyapina_segment_copy` and `sklyapina_mpeg_hand_out`.
 //
 // A call is given all that it may touch and keeps none of it: there is no state here, no heap, and no pointer outlives its call.
 pub mod modulator;
 
 ghost use Rattle.packet.specs.Header.{packetBy};
-ghost use Rattle.packet.specs.Check.{PermitsCheck, PermitsSegmentCause, PermitsSegmentExtent};
+ghost use Rattle.packet.specs.Check.{PermitsCheck, PermitsSegmentCause, PermitsSegmentExtent, PermitsSegmentCopy};
 ghost use Rattle.table.specs.Calls.{PermitsOpenByNumber, PermitsClose};
 ghost use Rattle.join.specs.Slices.{asSlices};
 ghost use Rattle.card.specs.Receive.{PermitsReceive};
@@ -52,13 +53,36 @@ pub extern "C" fn sklyapina_segment_cause(kind: u32, transport: u32, packet: &[u
     packet::segment_cause(kind, transport, packet, k)
 }
 
-// Where segment k of a packet stands in it, counted from its first byte; place and length 0 where it is refused. (The stretch itself, a
-// reference, cannot cross to C.)
+// Where segment k of a packet stands in it, counted from its first byte; place and length 0 where it is refused.
 #[no_mangle]
 pub extern "C" fn sklyapina_segment(kind: u32, transport: u32, packet: &[u8], k: usize) -> Extent
     ensures { λ r. ⌜ PermitsSegmentExtent kind (packetBy transport (now (packet .entry))) k r ⌝ }
 {
     packet::segment_extent(kind, transport, packet, k)
+}
+
+// Copies segment k of a packet to the front of the output, as much of it as there is room for, and says how long it is; 0, and nothing is
+// copied, where it is refused.
+#[no_mangle]
+pub extern "C" fn sklyapina_segment_copy(
+    kind: u32,
+    transport: u32,
+    packet: &[u8],
+    k: usize,
+    output: &mut [u8],
+) -> usize
+    ensures { λ r. ⌜ PermitsSegmentCopy kind (packetBy transport (now (packet .entry))) k (now (output .entry))
+        (record { answer = r; output = now (output .exit) }) ⌝ }
+{
+    let segment = packet::segment(kind, transport, packet, k);
+    let length = segment.len();
+    let room = output.len();
+    if room < length {
+        octets::copy(output, 0, segment, 0, room);
+        return length;
+    }
+    octets::copy(output, 0, segment, 0, length);
+    length
 }
 
 // Takes a packet that came by this transport (1 IP, 2 UDP): delivers the frames that it completes, and holds what it begins; or refuses it,
