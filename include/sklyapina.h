@@ -220,6 +220,15 @@ struct sklyapina_stretch {
 struct sklyapina_stretch sklyapina_segment(uint32_t kind, uint32_t transport,
                                            const uint8_t *packet, size_t packet_length, size_t k);
 
+/* Copies segment k of a packet to the front of output, as many of its bytes as there is room for.
+ *
+ * Answers how long the segment is, whatever room there is: where that is more than output_length, the copy is not
+ * whole. Where sklyapina_segment_cause answers another number than 0, it is 0. Every byte of output behind the copy is
+ * as it was. */
+size_t sklyapina_segment_copy(uint32_t kind, uint32_t transport,
+                              const uint8_t *packet, size_t packet_length, size_t k,
+                              uint8_t *output, size_t output_length);
+
 /* Opens a session in the lowest closed row, with all its flows fresh: the first packet of each that has a number is
  * accepted whatever that number is.
  *
@@ -379,6 +388,14 @@ struct sklyapina_mpeg_packet {
 };
 
 struct sklyapina_mpeg_packet sklyapina_mpeg_null(void);
+
+/* The packet that a channel sends next: a copy of the first of its queue, or the null packet where the queue has none.
+ *
+ * queue  the packets that wait, back to back. Only the first 188 bytes are read, and they are not judged; fewer than
+ *        188 are no packet
+ *
+ * Nothing is refused, and the queue is as it was: to take the packet away is the caller's. */
+struct sklyapina_mpeg_packet sklyapina_mpeg_hand_out(const uint8_t *queue, size_t queue_length);
 
 #ifdef __cplusplus
 }

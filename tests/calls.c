@@ -22,7 +22,7 @@ static void next_table(struct sklyapina_table *table)
 /* The table that the call in hand is given, the one that has come back and the one that should have. */
 static struct sklyapina_table given, back, expected;
 
-enum { CHECK, OPEN, CLOSE, RECEIVE, SEND, SEGMENT_CAUSE, SEGMENT, CALLS };
+enum { CHECK, OPEN, CLOSE, RECEIVE, SEND, SEGMENT_CAUSE, SEGMENT, SEGMENT_COPY, CALLS };
 
 static const struct call calls[CALLS] = {
     {"check", false, 3, {"kind", "transport", "packet length"},
@@ -37,6 +37,7 @@ static const struct call calls[CALLS] = {
     {"segment_cause", false, 4, {"kind", "transport", "packet length", "k"},
      1, {"code"}, 12, {0, 2, 3, 4, 6, 7, 9, 10, 11, 14, 15, 24}},
     {"segment", false, 4, {"kind", "transport", "packet length", "k"}, 2, {"place", "length"}, 0, {0}},
+    {"segment_copy", false, 5, {"kind", "transport", "packet length", "k", "output length"}, 1, {"length"}, 0, {0}},
 };
 
 static void make_call(unsigned call, const uint64_t *in, uint64_t *out)
@@ -92,6 +93,10 @@ static void make_call(unsigned call, const uint64_t *in, uint64_t *out)
         out[1] = stretch.length;
         break;
     }
+    case SEGMENT_COPY:
+        out[0] = PAINTED(sklyapina_segment_copy)((uint32_t)in[0], (uint32_t)in[1], lend(PACKET, in[2]), in[2], in[3],
+                                                 lend(OUTPUT, in[4]), in[4]);
+        break;
     }
 }
 

@@ -5,13 +5,15 @@ use crate::aimed;
 use crate::calls::{Array, Arrival, Lent, Sending, HOLDING_BYTES, MOST_BYTES};
 use crate::capture::{Capture, Entry};
 use crate::card::{FLOWS, LONGEST_FRAME, ROWS};
-use crate::craft::{carried, dmpt, header, over_udp, psp, BEGIN, END, MIDDLE, S, SOUND_LEADS, WHOLE, WRONG_LEADS};
+use crate::craft::{
+    carried, dmpt, header, over_udp, psp, without_number, BEGIN, END, MIDDLE, S, SOUND_LEADS, WHOLE, WRONG_LEADS,
+};
 use crate::dice::Dice;
 use crate::directed;
 use crate::faults::Faults;
 use crate::generate::carry;
 use crate::packet::{Transport, HEADER_BYTES, LONGEST_PACKET, MPEG_BYTES};
-use crate::packets::{self, Question, OTHER_TRANSPORTS};
+use crate::packets::{self, Question, OTHER_KINDS, OTHER_TRANSPORTS};
 use crate::raw::{RawFlow, RawRow, RawTable, CLOSED, DMPT, PSP};
 use crate::records::{Recorded, Recorder};
 use crate::sender::MOST_FRAMES;
@@ -33,6 +35,7 @@ pub fn all(recorder: &mut Recorder) -> Recorded<()> {
     slices(recorder)?;
     opens(recorder)?;
     closes(recorder)?;
+    copies(recorder)?;
     sends(recorder)?;
     null_packets(recorder)?;
     numbers(recorder)?;
@@ -71,6 +74,10 @@ fn first(recorder: &mut Recorder) -> Recorded<()> {
         recorder.check(case, PSP, &arrival)?;
         recorder.segment(case, PSP, &arrival, 1)?;
         recorder.segment(case, PSP, &arrival, 2)?;
+        recorder.segment_copy(case, PSP, &arrival, 0, 6)?;
+        recorder.segment_copy(case, PSP, &arrival, 0, 5)?;
+        recorder.segment_copy(case, PSP, &arrival, 1, 20)?;
+        recorder.segment_copy(case, PSP, &arrival, 2, 20)?;
     }
     let sending = sending(&[6, 9]);
     recorder.send(case, &sending)?;
@@ -130,6 +137,65 @@ fn segments(recorder: &mut Recorder) -> Recorded<()> {
         for k in [MOST_SEGMENTS as u64].iter().chain(&FAR) {
             recorder.segment("segments beyond the count", PSP, &most, *k)?;
             recorder.segment("segments beyond the count", PSP, &one, *k)?;
+        }
+    }
+    Ok(())
+}
+
+/// Segments copied: each of some packets and the one behind the last, S set and clear, into outputs of no byte, of one,
+/// around the segment's length, and of all that there is.
+fn copies(recorder: &mut Recorder) -> Recorded<()> {
+    let sorts: [&[(u16, usize)]; 5] = [
+        &[(END, 4), (WHOLE, 300), (BEGIN, 1)],
+        &[(WHOLE, 2_048), (WHOLE, 2_000)],
+        &[(MIDDLE, 4_000)],
+        &[(END, 63), (WHOLE, 64), (WHOLE, 65)],
+        &[(WHOLE, 1), (WHOLE, 127), (WHOLE, 128), (BEGIN, 129)],
+    ];
+    for (turn, segments) in sorts.into_iter().enumerate() {
+        let bytes = psp(PSP_ID, 1, 100, segments);
+        for (transport, bytes) in Transport::ALL
+            .into_iter()
+            .flat_map(|transport| [(transport, bytes.clone()), (transport, without_number(bytes.clone()))])
+        {
+            let arrival = carried(transport, turn, &bytes).into();
+            for k in 0..=segments.len() {
+                let length = segments.get(k).map_or(0, |(_, length)| *length);
+                let around = [length / 2, length.saturating_sub(1), length, length + 1];
+                for room in [0, 1, Array::Output.capacity()].into_iter().chain(around) {
+                    recorder.segment_copy("segments copied into each room", PSP, &arrival, k as u64, room)?;
+                }
+            }
+            for (k, room) in FAR.into_iter().flat_map(|k| [(k, 0), (k, 1), (k, 5_000)]) {
+                recorder.segment_copy("segments copied into each room", PSP, &arrival, k, room)?;
+            }
+        }
+    }
+    copies_refused(recorder)
+}
+
+/// The same as every kind and by every transport, and of packets that the check refuses.
+fn copies_refused(recorder: &mut Recorder) -> Recorded<()> {
+    let sound = psp(PSP_ID, 1, 100, &[(END, 4), (BEGIN, 5)]);
+    let over_udp = carried(Transport::Udp, 1, &sound).bytes;
+    let mpeg = dmpt(DMPT_ID, S, 100, &[(1, 1)]);
+    let transports = Transport::ALL.map(Transport::number);
+    for bytes in [sound, over_udp, mpeg, Vec::new()] {
+        for kind in [PSP, DMPT].iter().chain(&OTHER_KINDS) {
+            for transport in transports.iter().chain(&OTHER_TRANSPORTS) {
+                let arrival = Arrival { transport: *transport, bytes: bytes.clone() };
+                for (k, room) in [(0, 4), (0, 3), (1, 9), (2, 9)] {
+                    let case = "segments copied as each kind and by each transport";
+                    recorder.segment_copy(case, *kind, &arrival, k, room)?;
+                }
+            }
+        }
+    }
+    for (turn, packet) in packets::all().into_iter().enumerate() {
+        let arrival = Arrival::from(packet);
+        if turn % 7 == 0 && crate::calls::check(PSP, &arrival, Faults::NONE).code() != 0 {
+            let case = "segments copied of packets that are refused";
+            recorder.segment_copy(case, PSP, &arrival, [0, 1, u64::MAX][turn % 3], [40, 0, 4_096][turn / 7 % 3])?;
         }
     }
     Ok(())
@@ -808,8 +874,8 @@ mod tests {
                 _ if case.starts_with("S clear") => assert_eq!(code, 0, "{case}"),
                 _ => {}
             }
-            // Where a segment's place stands first, that is 0 or at least 10.
-            assert_ne!(code, 8, "{case}");
+            // Where a segment's place stands first, that is 0 or at least 10; where its length does, it may be any.
+            assert!(code != 8 || case.starts_with("segments copied"), "{case}");
             let unknown = case.starts_with("packets checked ") || case == "data by a transport that there is not";
             if unknown || case == "open as a kind that there is not" {
                 assert_eq!(code, 24);

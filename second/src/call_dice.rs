@@ -129,6 +129,9 @@ fn packets_by_dice(recorder: &mut Recorder, seed: u64, round: u64) -> Recorded<(
                 let other = dice.pick(&OTHER_KINDS);
                 let kind = if dice.percent(4) { dice.pick(&[DMPT, other]) } else { PSP };
                 recorder.segment("segments of random packets", kind, &question.arrival, k)?;
+                let any = dice.below(Array::Output.capacity() + 1);
+                let room = dice.pick(&[0, 1, 2, 20, 200, 2_048, any]);
+                recorder.segment_copy("segments copied of random packets", kind, &question.arrival, k, room)?;
             }
         }
     }

@@ -103,6 +103,25 @@ pub fn segment(kind: u32, arrival: &Arrival, k: u64, faults: Faults) -> Answer {
     Answer::of(&[place as u64, length as u64])
 }
 
+/// How long segment k is, 0 where it is refused; and its bytes at the front of an output, as many as there is room for.
+pub fn segment_copy(kind: u32, arrival: &Arrival, k: u64, output: usize, faults: Faults) -> Answer {
+    let (place, length) = find_segment(kind, arrival, k, faults).unwrap_or((0, 0));
+    let left_out = faults.has(Fault::PartialCopyLeftOut) && length > output;
+    let copied = if left_out { 0 } else { length.min(output) };
+    // Only a fault places a segment outside its packet.
+    let mut bytes = arrival.bytes.get(place..place + copied).unwrap_or_default().to_vec();
+    if faults.has(Fault::CopyOneByteShort) {
+        bytes.pop();
+    }
+    if faults.has(Fault::ByteBehindCopyCleared) && bytes.len() < output {
+        bytes.push(0);
+    }
+    let answered = if faults.has(Fault::CopiedBytesAnswered) { copied } else { length };
+    let changes = [Change { array: Array::Output, place: 0, bytes }];
+    let changes = changes.into_iter().filter(|change| !change.bytes.is_empty()).collect();
+    Answer { changes, ..Answer::of(&[answered as u64]) }
+}
+
 fn find_segment(kind: u32, arrival: &Arrival, k: u64, faults: Faults) -> Result<(usize, usize), Refusal> {
     packet::segment(u64::from(kind), u64::from(arrival.transport), &arrival.bytes, k, faults)
 }
@@ -372,7 +391,16 @@ pub fn mpeg_write(writing: &MpegWriting, frames: &[u8], faults: Faults) -> Answe
 
 /// The null packet, with its length.
 pub fn mpeg_null(faults: Faults) -> Answer {
-    let bytes = mpeg::next_packet(&[], &[0], 0, 0, faults).packet;
+    whole_packet(mpeg::next_packet(&[], &[0], 0, 0, faults).packet)
+}
+
+/// The packet that a queue hands out, with its length.
+pub fn mpeg_hand_out(queue: &[u8], faults: Faults) -> Answer {
+    whole_packet(mpeg::hand_out(queue, faults))
+}
+
+/// A packet that is given back by value, as a change to the output.
+fn whole_packet(bytes: Vec<u8>) -> Answer {
     let length = bytes.len() as u64;
     Answer { changes: vec![Change { array: Array::Output, place: 0, bytes }], ..Answer::of(&[length]) }
 }
@@ -413,6 +441,20 @@ mod tests {
 
     fn holding() -> Vec<u8> {
         (0..HOLDING_BYTES).map(|place| (place % 249) as u8).collect()
+    }
+
+    #[test]
+    fn a_segment_is_copied_as_far_as_there_is_room() {
+        let arrival = Arrival { transport: 1, bytes: A.to_vec() };
+        for (k, output, length, copied) in
+            [(0, 0, 6, 0), (0, 1, 6, 1), (0, 5, 6, 5), (0, 6, 6, 6), (0, 9, 6, 6), (1, 9, 2, 2), (2, 9, 0, 0)]
+        {
+            let answer = segment_copy(PSP, &arrival, k, output, Faults::NONE);
+            let bytes: Vec<u8> = answer.changes.iter().flat_map(|change| change.bytes.clone()).collect();
+            assert_eq!(answer.numbers, [length]);
+            assert_eq!(bytes, A[12 + 6 * (k as usize).min(1)..][..copied]);
+        }
+        assert_eq!(segment_copy(DMPT, &arrival, 0, 9, Faults::NONE), Answer::of(&[0]));
     }
 
     /// M1 over IP and M2 over UDP, in row 1: what is held is written to the place of row 1, flow 1, and nowhere else.

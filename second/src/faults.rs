@@ -130,6 +130,10 @@ pub enum Fault {
     SegmentAtCountGiven,
     SegmentPlacedInBodies,
     SegmentPlacedWithoutLead,
+    CopyOneByteShort,
+    CopiedBytesAnswered,
+    PartialCopyLeftOut,
+    ByteBehindCopyCleared,
     LeftoverFrameBytesSent,
     OffsetAtEndIsEnd,
     ShortOutputSent,
@@ -185,6 +189,10 @@ pub enum Fault {
     MpegRefusedReadWrites,
     MpegLengthBehindLastCleared,
     MpegByteBehindFramesCleared,
+    MpegQueuePassedOver,
+    MpegQueueFromItsEnd,
+    MpegLastOfQueueKept,
+    MpegPartOfPacketHandedOut,
 }
 
 /// A fault with its name and a sentence on what it does.
@@ -327,7 +335,7 @@ pub const FILES: [Listed; 80] = [
 ];
 
 /// The faults that only calls can show, with tables, slices and positions of the caller's.
-pub const CALLS: [Listed; 36] = [
+pub const CALLS: [Listed; 40] = [
     (Fault::ForeignKindTrusted, "foreign-kind-trusted", "A row of a kind above 2 is taken for an open PSP row."),
     (Fault::KindOfSixteenBits, "kind-of-16-bits", "A row's kind is judged by its lower 16 bits."),
     (Fault::ForeignMarkTrusted, "foreign-mark-trusted", "A flow's mark above 1 is taken for 1."),
@@ -384,6 +392,14 @@ pub const CALLS: [Listed; 36] = [
         "segment-placed-without-lead",
         "Over UDP a segment's place is counted from the session ID.",
     ),
+    (Fault::CopyOneByteShort, "copy-one-byte-short", "A segment is copied without its last byte."),
+    (
+        Fault::CopiedBytesAnswered,
+        "copied-bytes-answered",
+        "A copy answers how many bytes it has, not how long the segment is.",
+    ),
+    (Fault::PartialCopyLeftOut, "partial-copy-left-out", "A segment for which there is too little room is not copied."),
+    (Fault::ByteBehindCopyCleared, "byte-behind-copy-cleared", "The byte behind a copied segment is set to 0."),
     (Fault::LeftoverFrameBytesSent, "leftover-frame-bytes-sent", "Frames are sent though bytes are left over."),
     (Fault::OffsetAtEndIsEnd, "offset-at-end-is-end", "A position after all frames may have any offset."),
     (Fault::ShortOutputSent, "short-output-sent", "An output that the packet fits into is enough, whatever L is."),
@@ -391,7 +407,7 @@ pub const CALLS: [Listed; 36] = [
 ];
 
 /// The faults that writing and reading frames in MPEG packets shows.
-pub const MPEG: [Listed; 50] = [
+pub const MPEG: [Listed; 54] = [
     (Fault::MpegPointerOneOff, "mpeg-pointer-one-off", "A pointer is one more than what is left of the frame."),
     (
         Fault::Mpeg183WithoutPointer,
@@ -489,6 +505,14 @@ pub const MPEG: [Listed; 50] = [
         Fault::MpegByteBehindFramesCleared,
         "mpeg-byte-behind-frames-cleared",
         "The byte behind the frames read is set to 0.",
+    ),
+    (Fault::MpegQueuePassedOver, "mpeg-queue-passed-over", "The null packet is handed out whatever the queue has."),
+    (Fault::MpegQueueFromItsEnd, "mpeg-queue-from-its-end", "The last packet of a queue is handed out, not the first."),
+    (Fault::MpegLastOfQueueKept, "mpeg-last-of-queue-kept", "A queue of 188 bytes has no packet."),
+    (
+        Fault::MpegPartOfPacketHandedOut,
+        "mpeg-part-of-packet-handed-out",
+        "Less than a packet is handed out, filled up.",
     ),
 ];
 

@@ -167,6 +167,21 @@ fn null_packet(bytes: &[u8], place: usize, count: u8, faults: Faults) -> Written
     Written { packet, place, count, null: true }
 }
 
+/// The packet that a channel sends next: the first of its queue, packets back to back, or the null packet where there is
+/// none.
+pub fn hand_out(queue: &[u8], faults: Faults) -> Vec<u8> {
+    let asked = MPEG_BYTES + usize::from(faults.has(Fault::MpegLastOfQueueKept));
+    if queue.len() >= asked && !faults.has(Fault::MpegQueuePassedOver) {
+        let first = if faults.has(Fault::MpegQueueFromItsEnd) { queue.len() - MPEG_BYTES } else { 0 };
+        return queue[first..first + MPEG_BYTES].to_vec();
+    }
+    let mut packet = null_packet(&[], 0, 0, faults).packet;
+    if faults.has(Fault::MpegPartOfPacketHandedOut) && queue.len() < MPEG_BYTES {
+        packet[..queue.len()].copy_from_slice(queue);
+    }
+    packet
+}
+
 /// A frame picked out of the payloads.
 struct Found {
     /// The frame, or as much of it as there is.
@@ -416,6 +431,18 @@ mod tests {
         for (frames, place) in [(vec![], 0), (vec![], 9), (frames(&[6]), 6), (frames(&[6]), usize::MAX)] {
             let written = write_at(&frames, place, 0xFF).unwrap();
             assert_eq!(written, Written { packet: null(), place, count: 0xFF, null: true });
+        }
+    }
+
+    #[test]
+    fn the_first_packet_of_a_queue_is_handed_out_or_the_null_packet() {
+        let queue = [stream(&frames(&[300]), 3), null(), vec![7; 188]].concat();
+        for length in (188..=queue.len()).step_by(47) {
+            assert_eq!(hand_out(&queue[..length], Faults::NONE), queue[..188]);
+        }
+        assert_eq!(hand_out(&queue[564..], Faults::NONE), [7; 188]);
+        for length in [0, 1, 187] {
+            assert_eq!(hand_out(&queue[..length], Faults::NONE), null());
         }
     }
 

@@ -14,9 +14,10 @@ use crate::packet::{MPEG_BYTES, MPEG_SYNC};
 use crate::records::{Recorded, Recorder};
 
 /// What the calls are there for. Each case has to come up.
-pub const CASES: [&str; 39] = [
+pub const CASES: [&str; 41] = [
     "first calls",
     "the null packet alone",
+    "handed out of queues of each length",
     "two frames of each length, written",
     "two frames of each length, read",
     "frames that begin at each place, written",
@@ -52,6 +53,7 @@ pub const CASES: [&str; 39] = [
     "random writes",
     "random runs, written",
     "random runs, read",
+    "random queues, handed out",
     "random streams, damaged",
     "random streams, damaged, with counts set right",
 ];
@@ -218,6 +220,24 @@ fn first(recorder: &mut Recorder) -> Recorded<()> {
     recorder.mpeg_null("the null packet alone")?;
     for packets in 0..4 {
         recorder.mpeg_read("streams of no frames", &null_packet().repeat(packets), (0, 0))?;
+    }
+    queues(recorder)
+}
+
+/// Queues of no byte, of less than a packet, of one packet, of two and of many, whole and not: of packets with frames, of
+/// null packets, and of bytes that are no packets, since a queue is not judged.
+fn queues(recorder: &mut Recorder) -> Recorded<()> {
+    let mut dice = Dice::new(0x188);
+    let run = Run::of_lengths(&mut dice, &[500, 20, 2_048], &[1, 0, 0, 0, 0, 1, 1]);
+    let null_first = [null_packet(), run.stream()].concat();
+    let (zeros, full) = (vec![0; 600], vec![STUFFING; 600]);
+    for bytes in [run.stream(), null_first, zeros, full, dice.bytes(Array::Packet.capacity())] {
+        for length in [0, 1, 4, 5, 94, 186, 187, 188, 189, 190, 256, 375, 376, 377, 564, 65_536, bytes.len()] {
+            let Some(queue) = bytes.get(..length) else {
+                continue;
+            };
+            recorder.mpeg_hand_out("handed out of queues of each length", queue)?;
+        }
     }
     Ok(())
 }
@@ -687,6 +707,10 @@ pub fn endless(recorder: &mut Recorder, seed: u64) -> Recorded<()> {
         run.read(recorder, "random runs, read")?;
         let cut = dice.below(run.packets.len() + 1);
         recorder.mpeg_read("random runs, read", &run.packets[..cut].concat(), some_room(&mut dice, &run))?;
+        let (first, any) = (dice.below(run.packets.len() + 1), dice.below(3 * MPEG_BYTES));
+        let queue = run.packets[first..].concat();
+        recorder.mpeg_hand_out("random queues, handed out", &queue)?;
+        recorder.mpeg_hand_out("random queues, handed out", &queue[..any.min(queue.len())])?;
         for _ in 0..8 {
             let mut packets = run.packets.clone();
             for _ in 0..dice.pick(&[1, 1, 1, 2, 3]) {

@@ -31,7 +31,7 @@ use crate::packet::MPEG_BYTES;
 use crate::raw::RawTable;
 
 /// What the calls of `tests/calls` are there for. Each case has to come up.
-pub const CASES: [&str; 87] = [
+pub const CASES: [&str; 91] = [
     "first calls",
     "packets checked",
     "packets checked as kinds that there are not",
@@ -54,6 +54,9 @@ pub const CASES: [&str; 87] = [
     "segments of packets that are refused",
     "each of 127 segments",
     "segments beyond the count",
+    "segments copied into each room",
+    "segments copied as each kind and by each transport",
+    "segments copied of packets that are refused",
     "open with each set of rows open",
     "open as a kind that there is not",
     "close each row",
@@ -111,6 +114,7 @@ pub const CASES: [&str; 87] = [
     "random opens and closes",
     "random packets checked",
     "segments of random packets",
+    "segments copied of random packets",
     "sends: session and flow",
     "sends: limits",
     "sends: frames",
@@ -131,9 +135,11 @@ enum Call {
     Send = 4,
     SegmentCause = 5,
     Segment = 6,
-    MpegWrite = 7,
-    MpegRead = 8,
-    MpegNull = 9,
+    SegmentCopy = 7,
+    MpegWrite = 8,
+    MpegRead = 9,
+    MpegNull = 10,
+    MpegHandOut = 11,
 }
 
 impl Change {
@@ -507,6 +513,22 @@ impl<'a> Recorder<'a> {
         Ok(())
     }
 
+    /// Segment k copied into an output of so many bytes.
+    pub fn segment_copy(
+        &mut self,
+        case: &'static str,
+        kind: u32,
+        arrival: &Arrival,
+        k: u64,
+        output: usize,
+    ) -> Recorded<Answer> {
+        self.put(Array::Packet, &arrival.bytes)?;
+        let packet = arrival.bytes.len() as u64;
+        let inputs = [u64::from(kind), u64::from(arrival.transport), packet, k, output as u64];
+        let asked = Asked { case, call: Call::SegmentCopy, table: None, inputs: &inputs };
+        self.ask(asked, &[Array::Output], &|_, faults| calls::segment_copy(kind, arrival, k, output, faults))
+    }
+
     /// Writes the next MPEG packet of frames; they are put at the start of the array of frames.
     pub fn mpeg_write(&mut self, case: &'static str, frames: &[u8], writing: &MpegWriting) -> Recorded<Answer> {
         let lengths: Vec<u8> = writing.lengths.iter().flat_map(|length| length.to_be_bytes()).collect();
@@ -540,5 +562,13 @@ impl<'a> Recorder<'a> {
     pub fn mpeg_null(&mut self, case: &'static str) -> Recorded<Answer> {
         let asked = Asked { case, call: Call::MpegNull, table: None, inputs: &[MPEG_BYTES as u64] };
         self.ask(asked, &[Array::Output], &|_, faults| calls::mpeg_null(faults))
+    }
+
+    /// Asks for the packet that a queue hands out; who makes the call puts it into an output of its length.
+    pub fn mpeg_hand_out(&mut self, case: &'static str, queue: &[u8]) -> Recorded<Answer> {
+        self.put(Array::Packet, queue)?;
+        let inputs = [queue.len(), MPEG_BYTES].map(|number| number as u64);
+        let asked = Asked { case, call: Call::MpegHandOut, table: None, inputs: &inputs };
+        self.ask(asked, &[Array::Output], &|_, faults| calls::mpeg_hand_out(queue, faults))
     }
 }
