@@ -1,8 +1,9 @@
 /* Asks the library, from C, for its verdict on packet A of document 01: as PSP, as D-MPT, as a kind that there is not,
  * as PSP with the last byte cut off, and as PSP with S clear, so without a number (document 02, W2); then on the same
- * packet over UDP, by a transport that there is not, and by the wrong one of the two. Prints the answers, and where
- * the packet's second segment stands by either transport, and ends with status 0 only where they are the right ones.
- * host/run builds and runs it. */
+ * packet over UDP, by a transport that there is not, and by the wrong one of the two. Prints the answers, where the
+ * packet's second segment stands by either transport, and what comes of its first segment in an array that is long
+ * enough and in one that is not; and ends with status 0 only where they are the right ones. host/run builds and runs
+ * it. */
 #include "sklyapina.h"
 #include "standard.h"
 
@@ -59,9 +60,23 @@ static bool places_are_told(void)
     return ip_packet + ip.place == udp_packet + udp.place && ip.length == 2 && udp.length == 2;
 }
 
+/* The first segment, 11 12 13 14 15 16, copied over 0x00: into eight bytes whole, and into five without its end. */
+static bool copies_are_made(void)
+{
+    uint8_t output[8] = { 0 }, few[5] = { 0 };
+    size_t length = sklyapina_segment_copy(SKLYAPINA_KIND_PSP, SKLYAPINA_UDP, udp_packet, OVER_UDP, 0, output, 8);
+    size_t cut = sklyapina_segment_copy(SKLYAPINA_KIND_PSP, SKLYAPINA_IP, ip_packet, OVER_IP, 0, few, 5);
+
+    printf("segment 0 has %zu bytes, ending %02x %02x; cut %zu, ending %02x\n",
+           length, output[5], output[6], cut, few[4]);
+    return length == 6 && output[0] == 0x11 && output[5] == 0x16 && output[6] == 0
+        && cut == 6 && few[0] == 0x11 && few[4] == 0x15;
+}
+
 int main(void)
 {
     bool kinds = kinds_are_told(), transports = transports_are_told(), places = places_are_told();
+    bool copies = copies_are_made();
 
-    return kinds && transports && places ? 0 : 1;
+    return kinds && transports && places && copies ? 0 : 1;
 }

@@ -1,6 +1,6 @@
-/* Writes two frames as MPEG packets, then the null packet behind them, and reads the frames back (W3); and makes the
- * calls that are refused, by 51, 52 and 53, and looks whether anything has changed. Prints what came out, and ends
- * with status 0 only where each byte is the right one. host/run builds and runs it. */
+/* Writes two frames as MPEG packets, then the null packet behind them, hands them out, and reads the frames back (W3);
+ * and makes the calls that are refused, by 51, 52 and 53, and looks whether anything has changed. Prints what came out,
+ * and ends with status 0 only where each byte is the right one. host/run builds and runs it. */
 #include "sklyapina.h"
 #include "standard.h"
 
@@ -121,6 +121,16 @@ static bool null_is_right(void)
     return is_expected(null.bytes, &expected[PACKETS - 1], FRAMES_LENGTH);
 }
 
+/* Hands out of a queue of so many bytes, from this packet on; true where it is that packet, or the null packet where the
+ * queue is too short to have one. */
+static bool hands_out(size_t packet, size_t queue_length)
+{
+    const uint8_t *queue = packets + packet * SKLYAPINA_MPEG_LENGTH;
+    struct sklyapina_mpeg_packet null = sklyapina_mpeg_null(), next = sklyapina_mpeg_hand_out(queue, queue_length);
+
+    return same(next.bytes, queue_length < SKLYAPINA_MPEG_LENGTH ? null.bytes : queue, SKLYAPINA_MPEG_LENGTH);
+}
+
 /* Reads so many of the packets; true where so many frames come back as they were. */
 static bool comes_back(size_t packet_count, size_t frame_count)
 {
@@ -182,11 +192,13 @@ static unsigned read_refused_with(size_t place, uint8_t byte)
 int main(void)
 {
     unsigned right, refused;
-    bool null, back;
+    bool null, handed_out, back;
 
     make_frames();
     right = write_all();
     null = null_is_right();
+    handed_out = hands_out(0, PACKETS_LENGTH) && hands_out(1, SKLYAPINA_MPEG_LENGTH)
+        && hands_out(2, SKLYAPINA_MPEG_LENGTH - 1) && hands_out(0, 0);
     back = comes_back(PACKETS, FRAMES) && comes_back(2, 1) && comes_back(0, 0);
     refused = (write_refused(FRAMES_LENGTH, FRAMES, SKLYAPINA_MPEG_LENGTH - 1) == SKLYAPINA_MPEG_OUTPUT_TOO_SMALL)
         + (read_refused(PACKETS_LENGTH, FRAMES_LENGTH - 1, FRAMES) == SKLYAPINA_MPEG_OUTPUT_TOO_SMALL)
@@ -201,6 +213,7 @@ int main(void)
         + (read_refused_with(SKLYAPINA_MPEG_LENGTH + 3, 0x12) == SKLYAPINA_NO_RUN_GIVES_IT)
         + (read_refused_with(2 * SKLYAPINA_MPEG_LENGTH + 4, 42) == SKLYAPINA_NO_RUN_GIVES_IT)
         + (read_refused_with(PACKETS_LENGTH - 1, 0) == SKLYAPINA_NO_RUN_GIVES_IT);
-    printf("packets %u, null packet %d, frames back %d, refused %u\n", right, null, back, refused);
-    return right == PACKETS && null && back && refused == 11 ? 0 : 1;
+    printf("packets %u, null packet %d, handed out %d, frames back %d, refused %u\n",
+           right, null, handed_out, back, refused);
+    return right == PACKETS && null && handed_out && back && refused == 11 ? 0 : 1;
 }
