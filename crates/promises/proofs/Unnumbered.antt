@@ -5,6 +5,7 @@ use Prim.Native.Nat.{ℕ, _+_}
 use mathlib.Core.Path.{_≡_, refl, sym, ap, _∙_}
 use mathlib.Core.Bool.{Bool, true, false, cond, not}
 use mathlib.Core.List.{List, [], _∷_, _++_}
+use native.Mathlib.Omega.{arith}
 use lib.Dec.{eqb, leb}
 use lib.ListN.{length, length-append}
 use Rattle.refusal.specs.Refusal.{Refusal, _when_, first}
@@ -15,11 +16,12 @@ use Rattle.packet.specs.Header.{Packet, sub, sSet, sessionId, beforeSession, se
 use Rattle.packet.specs.Segments.{entryWidth, segments}
 use Rattle.packet.specs.Psp.{pspRefusals}
 use Rattle.packet.specs.Dmpt.{dmptRefusals}
-use Rattle.packet.specs.Check.{kindPsp, checkRefusals, check, causeRefusals, segmentCause}
+use Rattle.packet.specs.Check.{kindPsp, kindUnknown, checkRefusals, check, causeRefusals, segmentCause}
+use Rattle.table.specs.declared.Request.{Request}
 use Rattle.table.specs.declared.Table.{Table}
-use Rattle.table.specs.Rows.{isDmpt, termsAt}
+use Rattle.table.specs.Rows.{kindIn, isDmpt, termsAt}
 use Rattle.table.specs.Broken.{broken}
-use Rattle.table.specs.Calls.{isOpen, openRefusals, closeRefusals}
+use Rattle.table.specs.Calls.{isOpen, asking, openRefusals, opened, openedByNumber, closeRefusals}
 use Rattle.table.proofs.Keeping.{opened-code, closed-code}
 use Rattle.join.specs.Join.{Fate}
 use Rattle.join.specs.Slices.{Slices}
@@ -78,29 +80,32 @@ unnumbered-delivers c a d clear z =
     }
 
 -- No order has 8: by the kind of the session first, and then the whole.
-lacks-by : (d : Bool) (n width : ℕ) (sub : List ℕ) → lacks n (dmptRefusals sub) ≡ true → lacks n (pspRefusals width sub) ≡ true →
-    lacks n (cond d (dmptRefusals sub) (pspRefusals width sub)) ≡ true
-lacks-by true n width sub a b = a
-lacks-by false n width sub a b = b
-
-lacks-either : (psp : Bool) (n width : ℕ) (sub : List ℕ) → lacks n (pspRefusals width sub) ≡ true → lacks n (dmptRefusals sub) ≡ true →
-    lacks n (cond psp (pspRefusals width sub) (dmptRefusals sub)) ≡ true
-lacks-either true n width sub a b = a
-lacks-either false n width sub a b = b
+lacks-by : (which : Bool) (n : ℕ) (one other : List Refusal) → lacks n one ≡ true → lacks n other ≡ true →
+    lacks n (cond which one other) ≡ true
+lacks-by true n one other l m = l
+lacks-by false n one other l m = m
 
 check-lacks : (kind : ℕ) (p : Packet) → lacks 8 (checkRefusals kind p) ≡ true
 unfolding checkRefusals
-check-lacks kind p = lacks-either (eqb kind kindPsp) 8 entryWidth (sub p) refl refl
+check-lacks kind p = lacks-by (eqb kind kindPsp) 8 (pspRefusals entryWidth (sub p)) (dmptRefusals (sub p)) refl refl
 
 -- what comes before the session's row, the row's, and 12
 data-lacks : (t : Table) (p : Packet) (s : Slices) → lacks 8 (dataRefusals t p s) ≡ true
 data-lacks t p s =
     lacks-both 8 (packetRefusals (termsAt t (rowOf t p)) (sub p)) (12 when judgedOf (flowOf t (rowOf t p) (sub p)) (sub p) .late ∷ [])
-    (lacks-by (isDmpt (termsAt t (rowOf t p) .kind)) 8 entryWidth (sub p) refl refl) refl
+    (lacks-by (isDmpt (termsAt t (rowOf t p) .kind)) 8 (dmptRefusals (sub p)) (pspRefusals entryWidth (sub p)) refl refl) refl
+
+opens-lack : (t : Table) (q : Request) → (opened t q) .code ≡ 8 → ⊥
+opens-lack t q e = first-lacks 8 (openRefusals t q) refl refl (sym (opened-code t q) ∙ e)
+
+-- by the number of a kind: 24, or as an open is answered
+by-number-lacks : (unknown : Bool) (t : Table) (q : Request) → (cond unknown (record { code = 24; table = t }) (opened t q)) .code ≡ 8 → ⊥
+by-number-lacks true t q e = omega (arith, e)
+by-number-lacks false t q e = opens-lack t q e
 
 no-eight : (c : Card) (x : Call) → (answer c x) .code ≡ 8 → ⊥
 unfolding answer
-no-eight c (opens q) e = first-lacks 8 (openRefusals (c .table) q) refl refl (sym (opened-code (c .table) q) ∙ e)
+no-eight c (opens q) e = opens-lack (c .table) q e
 no-eight c (closes id) e = first-lacks 8 (closeRefusals (c .table) id) refl refl (sym (closed-code (c .table) id) ∙ e)
 no-eight c (hands a) e =
     let s = lentWith c a in
@@ -117,7 +122,7 @@ module _ (t : Table) (p : Packet) (s : Slices) (clear : sSet (sub p) ≡ false) 
       ++ packetRefusals (termsAt t (rowOf t p)) (sub p)
 
   before-lacks : lacks 12 before-12 ≡ true
-  before-lacks = lacks-by (isDmpt (termsAt t (rowOf t p) .kind)) 12 entryWidth (sub p) refl refl
+  before-lacks = lacks-by (isDmpt (termsAt t (rowOf t p) .kind)) 12 (dmptRefusals (sub p)) (pspRefusals entryWidth (sub p)) refl refl
 
   its-order : first (dataRefusals t p s) ≡ first before-12
   its-order = rw clear (first-idle 12 before-12)
@@ -143,10 +148,11 @@ unfolding answer
 unnumbered-accepted c a large whole live d clear = as-checked (c .table) (a .packet) (lentWith c a) clear large whole live d
 
 pub never-given : NeverGiven
-unfolding answer check segmentCause causeRefusals
+unfolding answer openedByNumber check segmentCause causeRefusals
 never-given =
     record {
       eight-by-call = no-eight;
+      eight-by-number = λ t id kind e. by-number-lacks (kindUnknown kind) t (asking (kindIn kind) id) e;
       eight-by-check = λ kind p e. first-lacks 8 (checkRefusals kind p) refl (check-lacks kind p) e;
       eight-by-request = λ kind p k e.
           first-lacks 8 (causeRefusals kind p k) refl

@@ -2,7 +2,7 @@
 -- session open as PSP, the data call answers what the packet check answers. What an accepted one delivers is exactly its whole segments,
 -- those with B and E, of at most 2,048 bytes, in order, whatever its flow held; that and every other segment is dropped. The flow holds
 -- nothing afterwards, and expects what it expected before: a fresh flow stays fresh. No byte of any place changes. And two numbers that
--- are not given: 8 by none of the card's calls, and 12 to no packet without a number.
+-- are not given: 8 by none of the card's calls, an open by the number of a kind among them, and 12 to no packet without a number.
 use Prim.Native.Nat.{ℕ, _+_}
 use mathlib.Core.Path.{_≡_}
 use mathlib.Core.Bool.{Bool, true, false, not, _&&_}
@@ -14,9 +14,10 @@ use Rattle.flow.specs.Flow.{longest, emptied}
 use Rattle.packet.specs.Header.{Packet, sub, sSet, sessionId}
 use Rattle.packet.specs.Segments.{Segment, entryWidth, segments}
 use Rattle.packet.specs.Check.{kindPsp, check, segmentCause}
+use Rattle.table.specs.declared.Table.{Table}
 use Rattle.table.specs.Rows.{isDmpt, termsAt, withFlow}
 use Rattle.table.specs.Broken.{broken}
-use Rattle.table.specs.Calls.{isOpen}
+use Rattle.table.specs.Calls.{isOpen, openedByNumber}
 use Rattle.card.specs.Receive.{tooSmall, rowOf, flowTo, flowOf}
 use Rattle.card.specs.History.{Card, Arrival, Call, hands, lentWith, framesOf, answer, after}
 use Rattle.promises.specs.Words.{chosen}
@@ -63,6 +64,7 @@ UnnumberedDelivers =
 -- `never-given`
 pub record NeverGiven : Type 0 where
   pub eight-by-call : (c : Card) (x : Call) → (answer c x) .code ≡ 8 → ⊥
+  pub eight-by-number : (t : Table) (id kind : ℕ) → (openedByNumber t id kind) .code ≡ 8 → ⊥
   pub eight-by-check : (kind : ℕ) (p : Packet) → check kind p ≡ 8 → ⊥
   pub eight-by-request : (kind : ℕ) (p : Packet) (k : ℕ) → segmentCause kind p k ≡ 8 → ⊥
   pub twelve-unnumbered : (c : Card) (a : Arrival) → sSet (sub (a .packet)) ≡ false → (answer c (hands a)) .code ≡ 12 → ⊥
