@@ -13,3 +13,4 @@ pub mod IsolationInstance
 pub mod EdgeInstance
 pub mod LimitsInstance
 pub mod CaptureInstance
+pub mod UniqueInstance
