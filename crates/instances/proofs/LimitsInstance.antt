@@ -99,12 +99,15 @@ holds-2047 = card (record { heard = 1; expected = 1; held = 2047 }) (replicate 2
 abbrev holds-2 : Card
 holds-2 = card (record { heard = 1; expected = 0; held = 2 }) (0x21 ∷ 0x22 ∷ replicate 47102 0)
 
+abbrev Sized : List ℕ → Type 0
+Sized frame = (1 ≤ length frame) × (length frame ≤ 2048)
+
 abbrev pub WithinLimitsHere : Type 0
 WithinLimitsHere =
     ((answer just-open (hand as-many)) .frames ≤ 127)
     × ((answer holds-2047 (hand as-long)) .bytes ≤ 6144)
     × ((answer holds-2 (hand (whole3 0x7FFF))) .gap < 32768)
-    × Each (λ frame. (1 ≤ length frame) × (length frame ≤ 2048)) (framesOf (answer holds-2047 (hand as-long)))
+    × Each Sized (framesOf (answer holds-2047 (hand as-long)))
 
 pub within-limits-applied : WithinLimits → WithinLimitsHere
 within-limits-applied theorem = (
@@ -114,6 +117,16 @@ within-limits-applied theorem = (
   theorem holds-2047 (hand as-long) .frames-sized,
 )
 
+-- What it excludes: an empty frame, and one of 2,049 bytes behind another one.
+not-empty : Sized [] → ⊥
+not-empty sized = omega (arith, sized .0)
+
+not-2049 : Sized (replicate 2049 0) → ⊥
+not-2049 sized = omega (arith, sized .1)
+
+sized-excludes : (Each Sized ([] ∷ []) → ⊥) × (Each Sized (of6 ∷ replicate 2049 0 ∷ []) → ⊥)
+sized-excludes = ((λ each. not-empty (each .0)), (λ each. not-2049 (each .1 .0)))
+
 -- They are as many, as long and as far as that: the limits are no higher than they must be.
 limits-reached : ((answer just-open (hand as-many)) .frames ≡ 127)
     × ((answer holds-2047 (hand as-long)) .bytes ≡ 6133)
@@ -122,8 +135,8 @@ unfolding part rest put joined lengthsOf any least sumTo upTo ahead next bodyAt 
     fate atGap inOrder pspFate hear carriedOut refused receivedBy received answer
 limits-reached = (refl, refl, refl)
 
--- `refusals-change-nothing`, applied: a packet that is late (12), an open of the session that is open (22), a close of one that is not (25),
--- and a send with a limit of 15 (32).
+-- `refusals-change-nothing`, applied: a packet that is late (12), an open of the session that is open (22), a close of one that is not
+-- (25), and a send with a limit of 15 (32).
 abbrev late : Arrival
 late = record { packet = ip (whole3 0x8000); output = replicate 6144 6; lengths = replicate 127 7 }
 
