@@ -14,3 +14,4 @@ pub mod EdgeInstance
 pub mod LimitsInstance
 pub mod CaptureInstance
 pub mod UniqueInstance
+pub mod Applied
