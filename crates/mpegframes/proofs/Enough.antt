@@ -20,7 +20,8 @@ use Rattle.mpeg.specs.Read.{reading, AskedRead, ReadOutcome, notRead, readBy, r
 use Rattle.mpeg.specs.Read.{gotBack as got-back}
 use Rattle.frames.specs.Frames.{lengthBytes, framesFile, PermitsPack}
 use Rattle.frames.proofs.Laws.{length-pack}
-use Rattle.mpegframes.specs.Back.{gotBack, mostRead, textRoom}
+use Rattle.outputs.specs.Back.{gotBack}
+use Rattle.mpegframes.specs.Rooms.{mostRead, textRoom}
 use Rattle.mpeg.proofs.Passes.{reading-fits}
 
 -- A call of the reader, with rooms for as much as is read: what it was given, and what it answered and left.

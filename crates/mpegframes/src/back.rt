@@ -3,7 +3,8 @@ ghost use mathlib.Core.Path.{_≡_};
 ghost use Prim.Native.Nat.{_≤_};
 ghost use lib.ListN.{length};
 ghost use Rattle.text.specs.Text.{Wrote};
-ghost use Rattle.mpegframes.specs.Back.{gotBack, mostRead, textRoom};
+ghost use Rattle.outputs.specs.Back.{gotBack};
+ghost use Rattle.mpegframes.specs.Rooms.{mostRead, textRoom};
 use mpeg::reader;
 
 // The most bytes that are read.

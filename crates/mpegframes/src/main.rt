@@ -10,7 +10,7 @@ mod back;
 ghost use mathlib.Core.Path.{_≡_};
 ghost use Prim.Native.Nat.{_+_};
 ghost use lib.ListN.{length};
-ghost use Rattle.mpegframes.specs.Back.{mostRead, textRoom};
+ghost use Rattle.mpegframes.specs.Rooms.{mostRead, textRoom};
 
 fn too_long() {
     tool::write_error(

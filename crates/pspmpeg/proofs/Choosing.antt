@@ -13,7 +13,7 @@ use Rattle.table.specs.declared.Terms.{Terms}
 use Rattle.table.specs.Rows.{rows, isDmpt, termsAt, find}
 use Rattle.capture.specs.File.{Entry, dataEntry, dataOverUdp}
 use Rattle.replay.specs.Run.{transportOf, packetOf}
-use Rattle.pspmpeg.specs.Stream.{openAsPsp, isFor}
+use Rattle.outputs.specs.Stream.{openAsPsp, isFor}
 
 module _ (session : ℕ) (t : Table) (kind : ℕ) (body : List ℕ) where
   abbrev entry : Entry

@@ -26,7 +26,7 @@ use Rattle.mpeg.specs.Packet.{pointedLength, framesPid, filledTo}
 use Rattle.mpeg.specs.Frame.{good}
 use Rattle.mpeg.specs.Write.{Asked, WriteOutcome, badFrames, leftAt, packetOf, carried, countAfter, wrote, refused, writtenBy, written}
 use Rattle.mpeg.specs.Run.{packetNext, afterNext}
-use Rattle.pspmpeg.specs.Stream.{drain, packetsOf, allGood, streamOf}
+use Rattle.outputs.specs.Stream.{drain, packetsOf, allGood, streamOf}
 use Rattle.pspmpeg.specs.Inside.{streamRoom, packetsFrom, streamFrom}
 use Rattle.mpeg.proofs.Surveying.{left-there}
 

@@ -23,7 +23,7 @@ use Rattle.replay.specs.Inside.{Stands, GoesOn, Steps, Findable}
 use Rattle.replay.proofs.Standing.{frames-found, frames-findable}
 use Rattle.pspmpeg.specs.declared.gather.Gathered.{Gathered}
 use Rattle.pspmpeg.specs.declared.gather.Stage.{Stage}
-use Rattle.pspmpeg.specs.Stream.{isFor, framesAt, deliveredBefore, delivered}
+use Rattle.outputs.specs.Stream.{isFor, framesAt, deliveredBefore, delivered}
 use Rattle.pspmpeg.specs.Inside.{mostGathered, Adds, Fits, FitsFound, Gathers}
 use Rattle.pspmpeg.proofs.Cutting.{found-many, found-long}
 use Rattle.pspmpeg.proofs.Rooms.{few-bytes, few-frames}

@@ -40,7 +40,7 @@ use Rattle.promises.proofs.Holdings.{inTable, keptInAll, table-keeps, empty-kee
 use Rattle.promises.proofs.Fates.{heard-tells}
 use Rattle.refusal.proofs.Laws.{when-accepted, when-refused}
 use Rattle.promises.proofs.OneCall.{call-balances}
-use Rattle.pspmpeg.specs.Stream.{isFor, framesAt, deliveredBefore}
+use Rattle.outputs.specs.Stream.{isFor, framesAt, deliveredBefore}
 
 -- a packet brings no more bytes than it has
 few-by : (d : Bool) (width : ℕ) (sub : List ℕ) → first (cond d (dmptRefusals sub) (pspRefusals width sub)) ≡ 0 →

@@ -10,7 +10,7 @@ use Rattle.text.proofs.Writing.{wrote-as}
 use Rattle.capture.specs.File.{fileRefusal}
 use Rattle.tool.specs.Refused.{refusedLine}
 use Rattle.pspmpeg.specs.declared.gather.Gathered.{Gathered}
-use Rattle.pspmpeg.specs.Stream.{delivered, streamBy, stream}
+use Rattle.outputs.specs.Stream.{delivered, streamBy, stream}
 use Rattle.pspmpeg.specs.Inside.{Gathers, streamFrom}
 use Rattle.pspmpeg.proofs.Draining.{stream-is}
 

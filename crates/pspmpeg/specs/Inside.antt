@@ -1,5 +1,6 @@
 -- Inside: what functions promise each other on the way to a result. Nobody has to believe this file: the result is said without it.
--- Here: the frames that are gathered, the packets that are written, and their rooms. What is written is specs/Stream.antt's.
+-- Here: the frames that are gathered, the packets that are written, and their rooms. What is written is specs/Stream.antt's, in crate
+-- outputs.
 use Prim.Native.Nat.{ℕ, zero, suc, _+_, _*_, _/_, _≤_}
 use mathlib.Core.Path.{_≡_}
 use mathlib.Core.Bool.{cond}

@@ -7,7 +7,7 @@ ghost use Rattle.table.specs.Broken.{broken};
 ghost use Rattle.card.specs.Receive.{framesFound};
 ghost use Rattle.capture.specs.File.{headLength, entryCount, longestFile};
 ghost use Rattle.replay.specs.Inside.{Stands, GoesOn, Unused};
-ghost use Rattle.pspmpeg.specs.Stream.{isFor, framesAt, delivered};
+ghost use Rattle.outputs.specs.Stream.{isFor, framesAt, delivered};
 ghost use Rattle.pspmpeg.specs.Inside.{mostGathered, Fits, FitsFound, Adds, Gathers};
 use capture::reader;
 use packet::header;

@@ -14,7 +14,7 @@ ghost use Prim.Native.Nat.{_≤_};
 ghost use lib.ListN.{length};
 ghost use Rattle.text.specs.Text.{Wrote};
 ghost use Rattle.capture.specs.File.{longestFile};
-ghost use Rattle.pspmpeg.specs.Stream.{stream};
+ghost use Rattle.outputs.specs.Stream.{stream};
 ghost use Rattle.pspmpeg.specs.Inside.{mostGathered, streamRoom};
 use capture::reader;
 

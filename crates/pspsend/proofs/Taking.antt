@@ -13,7 +13,8 @@ use Rattle.octets.proofs.Stretches.{part-put, length-lengthsOf}
 use Rattle.frames.specs.declared.Unpacked.{Unpacked}
 use Rattle.frames.specs.Frames.{framesFile, wholeFrames, leftBehind, PermitsUnpack}
 use Rattle.frames.proofs.Laws.{Sayable, unpack-pack, length-unpack, unpack-few}
-use Rattle.pspsend.specs.Input.{most, framesIn, spoilt, Takes}
+use Rattle.outputs.specs.Sent.{most, framesIn, spoilt}
+use Rattle.pspsend.specs.Input.{Takes}
 
 module _ (file bytes₀ lengths₀ bytes lengths : List ℕ) (r : Unpacked) (bytes-long : length file ≤ length bytes₀)
     (as-many : most ≡ length lengths₀) (unpacked : PermitsUnpack file bytes₀ lengths₀ r bytes lengths) where

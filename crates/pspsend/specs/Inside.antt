@@ -1,5 +1,5 @@
 -- Inside: what functions promise each other on the way to a result. Nobody has to believe this file: the result is said without it.
--- Here: how sends one after another stand for the entries of a capture. The capture itself is specs/Capture.antt's.
+-- Here: how sends one after another stand for the entries of a capture. The capture itself is specs/Sent.antt's of crate outputs.
 use Prim.Native.Nat.{ℕ, _+_, _*_, _≤_}
 use mathlib.Core.Path.{_≡_}
 use mathlib.Core.Bool.{true, cond}
@@ -10,8 +10,8 @@ use Rattle.octets.specs.Stretch.{joined}
 use Rattle.packet.specs.Header.{idLength, longestPacket}
 use Rattle.sender.specs.Series.{Job, packetLeft}
 use Rattle.capture.specs.Write.{added, within, Roomy, contentsAfter, bodiesAfter, Holds}
+use Rattle.outputs.specs.Sent.{opening, dataOf, sentFrom, packetsFor, firstAnswer}
 use Rattle.pspsend.specs.declared.series.Series.{Series}
-use Rattle.pspsend.specs.Capture.{opening, dataOf, sentFrom, packetsFor, firstAnswer}
 
 -- room for any packet; and how many bytes of frames there can be: the program's own room for them
 abbrev pub packetRoom : ℕ

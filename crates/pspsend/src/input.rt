@@ -3,7 +3,8 @@
 ghost use mathlib.Core.Path.{_≡_};
 ghost use Prim.Native.Nat.{_≤_};
 ghost use lib.ListN.{length};
-ghost use Rattle.pspsend.specs.Input.{most, Takes};
+ghost use Rattle.outputs.specs.Sent.{most};
+ghost use Rattle.pspsend.specs.Input.{Takes};
 
 // One frame more than a send takes, so that too many are seen to be too many.
 pub const MOST: usize = sender::MOST_FRAMES + 1;

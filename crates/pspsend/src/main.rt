@@ -15,7 +15,7 @@ ghost use mathlib.Core.Path.{_≡_};
 ghost use Prim.Native.Nat.{_+_, _*_, _≤_};
 ghost use lib.ListN.{length};
 ghost use Rattle.capture.specs.File.{headLength, entryLength, longestFile, mostEntries};
-ghost use Rattle.pspsend.specs.Input.{most};
+ghost use Rattle.outputs.specs.Sent.{most};
 ghost use Rattle.pspsend.specs.Inside.{mostBytes};
 
 // Room for the longest frames file that is not refused, 127 frames of 2,048 bytes with their lengths, and more: a longer one is refused.

@@ -9,7 +9,7 @@ use Rattle.card.specs.History.{framesOf}
 use Rattle.replay.specs.Run.{answerAt}
 use Rattle.replay.proofs.Walking.{stands-at}
 use Rattle.replay.proofs.Standing.{table-whole}
-use Rattle.pspmpeg.specs.Stream.{framesAt}
+use Rattle.outputs.specs.Stream.{framesAt}
 use Rattle.pspmpeg.proofs.Gathering.{chosen, not-chosen, fits-found, adds-found}
 use borrow.Author.Needs.{needs}
 use Rattle.pspmpeg.proofs.gather.gather_entry.Statement.{statement}

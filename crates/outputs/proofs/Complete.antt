@@ -21,7 +21,7 @@ use Rattle.sender.proofs.Series.{line, code-is, sends-all}
 use Rattle.capture.specs.File.{longestFile, mostEntries, fileRefusal, entries, fileOf}
 use Rattle.capture.specs.Write.{Right, Writable}
 use Rattle.capture.proofs.ReadsBack.{written-sound, written-reads}
-use Rattle.pspsend.specs.Capture.{dataOf, turnFor, atFirst, packetsFor, entriesFor, captureRefusals, firstAnswer, makeRefusal}
+use Rattle.outputs.specs.Sent.{dataOf, turnFor, atFirst, packetsFor, entriesFor, captureRefusals, firstAnswer, makeRefusal}
 
 each-same : (P : Turn → Type 0) (t : Turn) (n : ℕ) → P t → Each P (replicate n t)
 each-same P t zero p = tt

@@ -1,0 +1,3 @@
+pub mod Sent
+pub mod Stream
+pub mod Back
