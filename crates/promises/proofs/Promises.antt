@@ -19,6 +19,7 @@ use Rattle.promises.specs.Ignored.{IgnoredBits}
 use Rattle.promises.specs.RoundTrip.{SenderKeepsRules, SendingsGoOn, KeepsLimit, RoundTrip}
 use Rattle.promises.specs.Modulator.{CoreToModulator, SentMayTravel, UniqueMpeg}
 use Rattle.promises.specs.Captures.{ReadsBack}
+use Rattle.promises.specs.Programs.{StreamComesBack, ProgramsInARow}
 use Rattle.mpeg.specs.Run.{RunsAreRead, ReadIsRun, AllComeBack, DrainedIsEmpty, CallsMakeRuns, JudgedByFrames, SentMayGo, NullsBetween}
 use Rattle.mpeg.specs.HandOut.{HandsOutPackets}
 use Rattle.mpeg.specs.Channel.{ChannelIsRead}
@@ -41,6 +42,7 @@ use Rattle.promises.proofs.Transports as transports
 use Rattle.promises.proofs.Ignored as ignored
 use Rattle.promises.proofs.RoundTrip as trip
 use Rattle.promises.proofs.Modulator as modulator
+use Rattle.promises.proofs.Programs as programs
 use Rattle.capture.proofs.ReadsBack as capture
 
 -- Demand 3, and what goes with it: specs/Demand.antt, with specs/Arrivals.antt for what the network does, and specs/Gaps.antt.
@@ -186,3 +188,10 @@ unique-mpeg = modulator.unique-mpeg
 pub reads-back : ReadsBack
 reads-back =
     record { read-then-written = capture.reads-back; written-passes = capture.written-sound; written-then-read = capture.written-reads }
+
+-- The programs one behind the other: specs/Programs.antt.
+pub stream-comes-back : StreamComesBack
+stream-comes-back = programs.stream-comes-back
+
+pub programs-in-a-row : ProgramsInARow
+programs-in-a-row = programs.programs-in-a-row

@@ -44,11 +44,11 @@ of-session kind session flow p e =
     )
 
 -- a packet that is not refused without its session is readable
-passed-readable : (p : Packet) → EarlyPassed p → readable p ≡ true
+pub passed-readable : (p : Packet) → EarlyPassed p → readable p ≡ true
 passed-readable p passed =
     rw (passed .known, le-ltb (length (p .bytes)) (lead p + shortestPacket) (passed .not-short), passed .right-version) refl
 
-is-of : (kind : Kind) (session flow : ℕ) (p : Packet) → readable p ≡ true → sessionId p ≡ session → flowIn kind (sub p) ≡ flow →
+pub is-of : (kind : Kind) (session flow : ℕ) (p : Packet) → readable p ≡ true → sessionId p ≡ session → flowIn kind (sub p) ≡ flow →
     ofFlow kind session flow p ≡ true
 is-of kind session flow p read id k =
     rw (read, eq-eqb (sessionId p) session id, eq-eqb (flowIn kind (sub p)) flow k) refl

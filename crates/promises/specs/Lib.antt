@@ -14,4 +14,5 @@ pub mod Ignored
 pub mod RoundTrip
 pub mod Modulator
 pub mod Captures
+pub mod Programs
 pub mod Marked
