@@ -22,7 +22,8 @@ whole : (segment output : List ℕ) → length segment ≤ length output → par
 whole segment output room = part-all segment ∙ sym (part-past segment (length output) room)
 
 copied : (kind : ℕ) (p : Packet) (k : ℕ) (segment output left : List ℕ) → segment ≡ segmentGiven kind p k →
-    left ≡ put output 0 (part segment 0 (length output)) → PermitsSegmentCopy kind p k output (record { answer = length segment; output = left })
+    left ≡ put output 0 (part segment 0 (length output)) →
+    PermitsSegmentCopy kind p k output (record { answer = length segment; output = left })
 unfolding segmentCopied
 copied kind p k segment output left given is-left = rw (is-left, given) refl
 
