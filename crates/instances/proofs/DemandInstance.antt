@@ -27,7 +27,7 @@ use Rattle.sender.specs.Rules.{Pieces, packetAt, wholeFrame, begunFrame, inTurn
 use Rattle.promises.specs.Words.{handsTo, packetsTo, framesOut, Room, LongEnough}
 use Rattle.promises.specs.Arrivals.{InTime, inTime, InTimeIsMeant, placesFrom, carriers, Kept, no-more, kept, lost}
 use Rattle.promises.specs.Demand.{Sending, Run, openedCard, comesOut, WholeIn, Demand3, Rising, ComeOut, FewerLost}
-use Rattle.promises.specs.Gaps.{Verdict, verdictsOut, verdictsFrom, verdictsOf, GapsAreTold}
+use Rattle.promises.specs.Gaps.{Verdict, verdictsOut, verdictsFrom, verdictsOf, NumberedUp, GapsAreTold}
 
 -- Demand 3. Four frames, cut into pieces: the first is cut in two, the third too, and a fifth is begun. They go in four packets that are
 -- numbered from 0xFFFE on, so that the third has number 0; over IP and over UDP in turn, so that both frames that are cut are cut over the
@@ -291,12 +291,15 @@ pub gaps-expected : verdictsOf (overtaken .arrivals) ≡ overtaken-verdicts
 unfolding verdictsOf verdictsFrom
 gaps-expected = refl
 
--- `gaps-are-told`, applied
+-- `gaps-are-told`, applied to PSP (to D-MPT: GapsInstance.antt)
+numbered-up : NumberedUp kind.Psp (sending .line) packets
+numbered-up = record { passing = keeps .passing; numbered = keeps .numbered }
+
 abbrev pub GapsAreToldHere : Type 0
 GapsAreToldHere = verdictsOut kind.Psp 0x101 1 (openedCard sending overtaken) overtaken-calls ≡ overtaken-verdicts
 
 pub gaps-are-told-applied : GapsAreTold → GapsAreToldHere
-gaps-are-told-applied theorem = theorem sending overtaken ∙ gaps-expected
+gaps-are-told-applied theorem = theorem kind.Psp (sending .line) packets numbered-up overtaken ∙ gaps-expected
 
 -- One lost fewer: in the worse run the third packet is lost, in the better one nothing is. The frame that it carries an end of comes out of
 -- the second only, and the others come out of both.
