@@ -293,6 +293,10 @@ first-alone w n (kept v (kept u no-more)) = absurd (n u)
 first-alone w n (kept v (lost m no-more)) = refl
 first-alone w n (lost m more) = absurd (m w)
 
+pub six-bytes-alone : (out : List (List ℕ)) → Kept (WholeIn sending-m12 B-lost) 0 pieces-m12 out → out ≡ of6 ∷ []
+unfolding joined
+six-bytes-alone out k = first-alone first-is-whole second-is-not k
+
 abbrev pub RoundTripHere : Type 0
 RoundTripHere =
     (framesOut kind.Psp 0x101 1
@@ -301,8 +305,7 @@ RoundTripHere =
     × (comesOut sending-m12 B-lost ≡ of6 ∷ [])
 
 pub round-trip-applied : RoundTrip → RoundTripHere
-unfolding joined
 round-trip-applied theorem = (
   theorem .in-order given-m12 in-order-m12 ∙ round-trip-instance .1,
-  first-alone first-is-whole second-is-not (theorem .over-a-network given-m12 pieces-m12 is-sent-m12 B-lost),
+  six-bytes-alone (comesOut sending-m12 B-lost) (theorem .over-a-network given-m12 pieces-m12 is-sent-m12 B-lost),
 )
