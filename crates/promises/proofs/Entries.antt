@@ -68,7 +68,8 @@ standing-is : (file : List ℕ) (k : ℕ) → standing file k ≡ behindAll begi
 unfolding standing upTo
 standing-is file zero = refl
 standing-is file (suc k) =
-    ap (λ (r : Running). runOne r (nthEntry file k)) (standing-is file k) ∙ sym (behind-more begin (upTo (nthEntry file) k) (nthEntry file k))
+    ap (λ (r : Running). runOne r (nthEntry file k)) (standing-is file k)
+    ∙ sym (behind-more begin (upTo (nthEntry file) k) (nthEntry file k))
 
 before-is : (session : ℕ) (file : List ℕ) (k : ℕ) → deliveredBefore session file k ≡ allDeliver session begin (upTo (nthEntry file) k)
 unfolding deliveredBefore framesAt answerAt upTo
@@ -138,7 +139,7 @@ module _ (session flow : ℕ) where
   stays-open (p ∷ ps) r = (refl, stays-open ps (runOne r (dataOf p)))
 
   module _ (inside : flow < flows) where
-    -- .. and it stays so
+    -- the session stays open
     module _ (r : Running) (p : List ℕ) (h : Ready r) (i : Its p) where
       abbrev x : Call
       x = hands (lent r p)
@@ -172,7 +173,8 @@ module _ (session flow : ℕ) where
             its-record = recordAfter heard;
             held = heard .fate .held;
             stands =
-                stands-heard (r .card) (lent r p) session flow terms (h .its-record) (h .held) (h .good) inside (h .stands) (is-its p i) z .0;
+                stands-heard (r .card) (lent r p) session flow terms (h .its-record) (h .held) (h .good) inside (h .stands)
+                (is-its p i) z .0;
             room = (omega (arith, long .0, h .room .0), omega (arith, long .1, h .room .1));
           }
 

@@ -314,7 +314,8 @@ programs-in-a-row session flow limit number file four-bytes two-bytes bytes whol
     let frames = framesIn file in
     let cut : cutBy (lengthsOf frames) (joined frames) ≡ frames =
     ap (cutBy (lengthsOf frames)) (sym (append-nil (joined frames))) ∙ cut-joined frames [] in
-    let same : delivered session (captureFor job limit number) ≡ frames = capture-delivers job limit number four-bytes two-bytes made ∙ cut in
+    let same : delivered session (captureFor job limit number) ≡ frames =
+    capture-delivers job limit number four-bytes two-bytes made ∙ cut in
     let left = none-left file whole (sound job limit number made four-bytes .frames-sound) in
     stream-comes-back session (captureFor job limit number) (made-reads job limit number made .0) (subst (Each Good) (sym same) goods)
     ∙ ap framesFile same
