@@ -14,4 +14,5 @@ pub mod EdgeInstance
 pub mod LimitsInstance
 pub mod CaptureInstance
 pub mod UniqueInstance
+pub mod ProgramsInstance
 pub mod Applied
