@@ -153,10 +153,16 @@ unfolding part rest put joined lengthsOf cutBy any least sumTo upTo ahead next b
 programs-in-a-row-instance = refl
 
 -- `stream-comes-back`, applied
-stream-comes-back-applied : StreamComesBack → gotBack (stream 0x101 capture) ≡ frames-file
+abbrev pub StreamComesBackHere : Type 0
+StreamComesBackHere = gotBack (stream 0x101 capture) ≡ frames-file
+
+pub stream-comes-back-applied : StreamComesBack → StreamComesBackHere
 stream-comes-back-applied theorem = theorem 0x101 capture capture-sound delivered-good ∙ delivered-file
 
 -- `programs-in-a-row`, applied
-programs-in-a-row-applied : ProgramsInARow → gotBack (stream 0x101 (captureFor (jobFor 0x101 1 frames-file) 16 0xFFFF)) ≡ frames-file
+abbrev pub ProgramsInARowHere : Type 0
+ProgramsInARowHere = gotBack (stream 0x101 (captureFor (jobFor 0x101 1 frames-file) 16 0xFFFF)) ≡ frames-file
+
+pub programs-in-a-row-applied : ProgramsInARow → ProgramsInARowHere
 programs-in-a-row-applied theorem =
     theorem 0x101 1 16 0xFFFF frames-file (omega arith) (omega arith) file-bytes file-whole frames-good not-refused

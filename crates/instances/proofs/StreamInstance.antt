@@ -15,13 +15,14 @@ use Rattle.octets.specs.Each.{Each}
 use Rattle.octets.specs.Stretch.{part, rest, put, joined, lengthsOf, cutBy}
 use Rattle.octets.specs.Count.{upTo}
 use Rattle.octets.specs.Tests.{none, same}
+use Rattle.ts.specs.declared.MpegPacket.{MpegPacket}
 use Rattle.ts.specs.Packet.{allFill, nullPacket}
 use Rattle.mpeg.specs.Frame.{good, mayBegin, Good}
 use Rattle.mpeg.specs.Write.{Asked, WriteOutcome, badFrames, leftAt, packetOf, carried, countAfter, wrote, writtenBy, written}
 use Rattle.mpeg.specs.Write.{PermitsWrite}
 use Rattle.mpeg.specs.Read.{AskedRead, ReadOutcome, Reading, atStart, found, withoutFlag, withFlag, readPacket, readFrom, packetsIn}
 use Rattle.mpeg.specs.Read.{reading, gotBack, readBy, read, PermitsRead}
-use Rattle.mpeg.specs.HandOut.{source, handedLength, PermitsHandOut, handedOut, HandsOutPackets}
+use Rattle.mpeg.specs.HandOut.{source, handedLength, PermitsHandOut, handedOut, HandsOutPackets, PermitsHandedOut}
 use Rattle.mpeg.specs.Run.{Backlog, Burst, noBacklog, waitingIn, packetNext, afterNext, runPackets, runEnd, GoodBursts, allFrames}
 use Rattle.mpeg.specs.Run.{sentWhole, RunsAreRead, ReadIsRun, AllComeBack, DrainedIsEmpty, askedFor, CallsMakeRuns, JudgedByFrames}
 use Rattle.mpeg.specs.Run.{behindSent, SentMayGo, NullsBetween}
@@ -426,15 +427,21 @@ hands-first : PermitsHandOut queue (at 8 null) (at 7 p1)
 unfolding source handedLength part
 hands-first = record { in-its-source = refl; at-its-front = refl; its-bytes = refl }
 
+hands-copy : PermitsHandedOut (queue .now) p1
+unfolding part handedOut
+hands-copy = refl
+
 abbrev pub UniqueMpegHere : Type 0
 UniqueMpegHere =
     ((o : WriteOutcome) → PermitsWrite asked o → o ≡ wrote-six)
     × ((o : ReadOutcome) → PermitsRead asked-read o → o ≡ read-six)
     × ((o : RefT (List ℕ)) → PermitsHandOut queue (at 8 null) o → (o .ptr .0 ≡ 7) × (o .ptr .1 ≡ 5) × (o .now ≡ p1))
+    × ((o : MpegPacket) → PermitsHandedOut (queue .now) (o .bytes) → o ≡ record { bytes = p1 })
 
 pub unique-mpeg-applied : UniqueMpeg → UniqueMpegHere
 unique-mpeg-applied theorem = (
   λ o permitted. theorem .0 asked .only-one o wrote-six permitted writes-six,
   λ o permitted. theorem .1 asked-read .only-one o read-six permitted reads-six,
   λ o permitted. theorem .2 queue (at 8 null) .only-one o (at 7 p1) permitted hands-first,
+  λ o permitted. theorem .3 (queue .now) .only-one o (record { bytes = p1 }) permitted hands-copy,
 )

@@ -12,6 +12,8 @@ use Rattle.flow.specs.declared.Flow.{Flow}
 use Rattle.flow.specs.declared.Judged.{Judged}
 use Rattle.flow.specs.Numbers.{ahead, next}
 use Rattle.flow.specs.Flow.{PermitsFresh, PermitsJudge}
+use Rattle.ts.specs.declared.MpegPacket.{MpegPacket}
+use Rattle.ts.specs.Packet.{nullPacket, PermitsNullPacket}
 use Rattle.packet.specs.declared.Extent.{Extent}
 use Rattle.packet.specs.Header.{ip, udp}
 use Rattle.packet.specs.Segments.{bodyAt, segmentAt, segments}
@@ -34,7 +36,7 @@ use Rattle.sender.specs.Packet.{packetOf}
 use Rattle.sender.specs.Send as sender
 use Rattle.capture.specs.File as capture
 use Rattle.promises.specs.Unique.{OneOutcome, UniqueOpen, UniqueClose, UniqueReceive, UniqueSend, UniqueCheck, UniqueSegment}
-use Rattle.promises.specs.Unique.{UniqueCapture, UniqueFlow}
+use Rattle.promises.specs.Unique.{UniqueCapture, UniqueFlow, UniqueNull}
 use Rattle.promises.specs.Marked.{A, B, of6, of9}
 
 -- There is a permitted outcome, it is the one that is told, and no other is permitted.
@@ -229,16 +231,27 @@ extent-so : packet.PermitsSegmentExtent 1 (udp (a-lies .now)) 1 extent
 unfolding packet.checkRefusals packet.causeRefusals packet.segmentCause packet.segmentExtent rest any sumTo bodyAt wanted
 extent-so = refl
 
+-- copied into an output of three bytes
+abbrev copied : packet.CopyOutcome
+copied = record { answer = 2; output = 0x21 ∷ 0x22 ∷ 0x63 ∷ [] }
+
+copied-so : packet.PermitsSegmentCopy 1 (udp (a-lies .now)) 1 (0x61 ∷ 0x62 ∷ 0x63 ∷ []) copied
+unfolding packet.checkRefusals packet.causeRefusals packet.segmentCause packet.segmentExtent packet.segmentGiven packet.segmentCopied part
+    rest put any sumTo bodyAt wanted
+copied-so = refl
+
 abbrev pub UniqueSegmentHere : Type 0
 UniqueSegmentHere =
     Told SameStretch (packet.PermitsSegment 1 2 a-lies 1) segment-lies
     × Equal (packet.PermitsSegmentCause 1 (udp (a-lies .now)) 1) 0
     × Equal (packet.PermitsSegmentExtent 1 (udp (a-lies .now)) 1) extent
+    × Equal (packet.PermitsSegmentCopy 1 (udp (a-lies .now)) 1 (0x61 ∷ 0x62 ∷ 0x63 ∷ [])) copied
 
 pub unique-segment-applied : UniqueSegment → UniqueSegmentHere
 unique-segment-applied theorem =
     let one = theorem 1 2 a-lies 1 in
-    (so-told segment-lies segment-so (one .0), so-told 0 cause-so (one .1), so-told extent extent-so (one .2))
+    let copy = one .3 (0x61 ∷ 0x62 ∷ 0x63 ∷ []) in
+    (so-told segment-lies segment-so (one .0), so-told 0 cause-so (one .1), so-told extent extent-so (one .2), so-told copied copied-so copy)
 
 -- `unique-capture`: a file that opens session 0x101 and has A; the body of its second entry starts at its byte 14
 abbrev file-lies : RefT (List ℕ)
@@ -289,3 +302,20 @@ unique-flow-applied theorem = (
   so-told judged judges-so (theorem .1 expects-last 4),
   so-told (record { rows = replicate 6 closed-row }) refl (theorem .2),
 )
+
+-- `unique-null`: PID 0x1FFF, the count 0, and then 0xFF
+abbrev the-null : List ℕ
+the-null = 0x47 ∷ 0x1F ∷ 0xFF ∷ 0x10 ∷ replicate 184 0xFF
+
+null-so : PermitsNullPacket the-null
+unfolding nullPacket
+null-so = refl
+
+abbrev null-struct : MpegPacket
+null-struct = record { bytes = the-null }
+
+abbrev pub UniqueNullHere : Type 0
+UniqueNullHere = Equal PermitsNullPacket the-null × Equal (λ (p : MpegPacket). PermitsNullPacket (p .bytes)) null-struct
+
+pub unique-null-applied : UniqueNull → UniqueNullHere
+unique-null-applied theorem = (so-told the-null null-so (theorem .0), so-told null-struct null-so (theorem .1))
