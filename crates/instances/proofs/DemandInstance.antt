@@ -1,5 +1,6 @@
--- A closed instance of demand 3, of what the gaps tell, and of one lost fewer: the premises are met, and the conclusion is computed. It
--- cites definitions alone, so that it can be held against wrong ones.
+-- A closed instance of demand 3, of what the gaps tell, and of one lost fewer: the premises are met, and the conclusion is computed. And
+-- each of the statements, applied to it with nothing but its premises, says the same. It cites definitions alone, so that it can be held
+-- against wrong ones, and against statements that say less.
 use Rattle.table.specs.declared.Kind.the-variants as kind
 use Prim.Native.Nat.{ℕ, zero, suc, _<_, _≤_}
 use mathlib.Core.Path.{_≡_, refl, sym, ap, subst, _∙_}
@@ -124,6 +125,9 @@ overtaken-calls =
     ∷ hand packet3
     ∷ []
 
+pub long-holding : 49152 ≤ length {A = ℕ} (replicate 49152 0)
+long-holding = omega (arith, length-replicate {A = ℕ} 49152 0)
+
 pub long-slices : (mine : Bool) → mine ≡ true → (6144 ≤ length {A = ℕ} (replicate 6144 0)) × (127 ≤ length {A = ℕ} (replicate 127 0))
 long-slices mine e = (omega (arith, length-replicate {A = ℕ} 6144 0), omega (arith, length-replicate {A = ℕ} 127 0))
 
@@ -138,7 +142,7 @@ opens-101 = refl
 pub overtaken-long : LongEnough kind.Psp 0x101 1 (replicate 49152 0) overtaken-calls
 unfolding rest
 overtaken-long = (
-  omega (arith, length-replicate {A = ℕ} 49152 0),
+  long-holding,
   (long-slices true, (long-slices false, (long-slices true, ((λ e. tt), ((λ e. tt), ((λ e. absurd (true≢false (sym e))), behind)))))),
 )
   where
@@ -185,8 +189,8 @@ pub their-packets : (carriers frames packets 0 ≡ 0 ∷ 1 ∷ []) × (carriers 
 unfolding part rest sumTo upTo bodyAt segmentAt segments placesFrom carriers
 their-packets = (refl, refl, refl, refl)
 
--- What `Kept` says of the frame that is next: its bytes are there where it is whole, and nothing of it where it is not. Behind the last frame
--- there is nothing.
+-- What `Kept` says of the frame that is next: its bytes are there where it is whole, and nothing of it where it is not. Behind the last
+-- frame there is nothing.
 pub there-if-whole : {whole : ℕ → Type 0} {i : ℕ} {f : Pieces} {fs : List Pieces} {out : List (List ℕ)} → whole i →
     Kept whole i (f ∷ fs) out → (more : List (List ℕ)) × (out ≡ joined f ∷ more) × Kept whole (suc i) fs more
 there-if-whole w (kept {out = more} v rest) = (more, refl, rest)
@@ -327,12 +331,12 @@ better-numbered = (refl, (refl, (refl, (refl, tt))))
 
 pub worse-long : LongEnough kind.Psp 0x101 1 (replicate 49152 0) worse-calls
 unfolding rest
-worse-long = (omega (arith, length-replicate {A = ℕ} 49152 0), (long-slices true, (long-slices true, (long-slices true, tt))))
+worse-long = (long-holding, (long-slices true, (long-slices true, (long-slices true, tt))))
 
 pub better-long : LongEnough kind.Psp 0x101 1 (replicate 49152 0) better-calls
 unfolding rest
 better-long =
-    (omega (arith, length-replicate {A = ℕ} 49152 0), (long-slices true, (long-slices true, (long-slices true, (long-slices true, tt)))))
+    (long-holding, (long-slices true, (long-slices true, (long-slices true, (long-slices true, tt)))))
 
 abbrev pub worse : Run sending
 worse =
@@ -492,7 +496,9 @@ all-four = (0x11 ∷ 0x12 ∷ 0x13 ∷ []) ∷ (0x21 ∷ []) ∷ (0x31 ∷ 0x32 
 
 abbrev pub FewerLostHere : Type 0
 FewerLostHere =
-    (comesOut sending worse ≡ first-second-fourth) × (comesOut sending better ≡ all-four) × Sublistᴰ {A = ℕ} (0 ∷ 1 ∷ 3 ∷ []) (0 ∷ 1 ∷ 2 ∷ 3 ∷ [])
+    (comesOut sending worse ≡ first-second-fourth)
+    × (comesOut sending better ≡ all-four)
+    × Sublistᴰ {A = ℕ} (0 ∷ 1 ∷ 3 ∷ []) (0 ∷ 1 ∷ 2 ∷ 3 ∷ [])
 
 pub fewer-lost-applied : FewerLost → FewerLostHere
 unfolding joined

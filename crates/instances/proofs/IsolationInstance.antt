@@ -1,5 +1,6 @@
 -- Closed instances of isolation and of open-by-ids: one session, told the same whether it is alone on the card or among others; and opens
--- on two tables with the same open IDs in other rows. It cites definitions alone, so that it can be held against wrong ones.
+-- on two tables with the same open IDs in other rows. The two statements are applied to them. It cites definitions alone, so that it can be
+-- held against wrong ones, and against statements that say less.
 use Rattle.packet.specs.Header.{Packet, ip, udp, inUdp}
 use Prim.Native.Nat.{ℕ}
 use mathlib.Core.Path.{_≡_, refl, sym, _∙_}
@@ -95,8 +96,8 @@ IsolationHere = told 0x101 (after (cardAfter (replicate 49152 0) one-before) (op
 pub isolation-applied : Isolation → IsolationHere
 unfolding rest own
 isolation-applied theorem =
-    let of-these = theorem (asking kind.Psp 0x101) (replicate 49152 0) (replicate 49152 5) one-before others-first alone-calls among-others in
-    of-these same-length (opens-both .0) (opens-both .1) same-own ∙ isolation-instance .1
+    let here = theorem (asking kind.Psp 0x101) (replicate 49152 0) (replicate 49152 5) one-before others-first alone-calls among-others in
+    here same-length (opens-both .0) (opens-both .1) same-own ∙ isolation-instance .1
 
 -- Session 2 is open in row 1 of the one table and in row 0 of the other, and no other session in either: opening 3 succeeds, opening 2
 -- again and opening 0 does not. With six open, a seventh is refused.

@@ -1,5 +1,5 @@
--- A closed instance of the round trip: premises met, both sides computed. It cites definitions alone, so that it can be held against wrong
--- ones.
+-- A closed instance of the round trip: premises met, both sides computed. The statements on our sender and on the round trip are applied to
+-- it. It cites definitions alone, so that it can be held against wrong ones, and against statements that say less.
 use Rattle.table.specs.declared.Kind.the-variants as kind
 use Prim.Native.Nat.{ℕ, zero, suc, _<_, _≤_}
 use mathlib.Core.Path.{_≡_, refl, sym, ap, subst, _∙_}
@@ -161,7 +161,13 @@ pub first-keeps : KeepsRules from-FFFF first-frame [] first-packet
 unfolding part rest joined any sumTo upTo bodyAt segmentAt segments wanted check checkRefusals numberAt wholeFrame begunFrame
     inTurn allSegments
 first-keeps =
-    record { sizes = ((omega arith, omega arith), tt); passing = (refl, tt); addressed = ((refl, refl), tt); numbered = counts; in-order = refl }
+    record {
+      sizes = ((omega arith, omega arith), tt);
+      passing = (refl, tt);
+      addressed = ((refl, refl), tt);
+      numbered = counts;
+      in-order = refl;
+    }
   where
     counts : (i : ℕ) → i < 1 → number (sub (packetAt first-packet i)) ≡ numberAt 0xFFFF i
     counts zero l = refl
@@ -171,7 +177,13 @@ pub next-keeps : KeepsRules (record { session = 0x101; flow = 1; start = numberA
 unfolding part rest joined any sumTo upTo bodyAt segmentAt segments wanted check checkRefusals numberAt wholeFrame begunFrame
     inTurn allSegments
 next-keeps =
-    record { sizes = ((omega arith, omega arith), tt); passing = (refl, tt); addressed = ((refl, refl), tt); numbered = counts; in-order = refl }
+    record {
+      sizes = ((omega arith, omega arith), tt);
+      passing = (refl, tt);
+      addressed = ((refl, refl), tt);
+      numbered = counts;
+      in-order = refl;
+    }
   where
     counts : (i : ℕ) → i < 1 → number (sub (packetAt next-packet i)) ≡ numberAt (numberAt 0xFFFF 1) i
     counts zero l = refl
@@ -206,7 +218,8 @@ KeepsLimitHere = (sender.sent asked-for-A) .answer .length ≤ 20
 pub keeps-limit-applied : KeepsLimit → KeepsLimitHere
 keeps-limit-applied theorem = theorem asked-for-A A-is-sent
 
--- `round-trip`, applied: in order, as above; and over a network that loses B. Then the frame of 6 bytes comes out, and the one of 9 does not.
+-- `round-trip`, applied: in order, as above; and over a network that loses B. Then the frame of 6 bytes comes out, and the one of 9 does
+-- not.
 abbrev pub pieces-m12 : List Pieces
 pieces-m12 = (of6 ∷ []) ∷ (held2 ∷ (0x23 ∷ 0x24 ∷ 0x25 ∷ 0x26 ∷ 0x27 ∷ 0x28 ∷ 0x29 ∷ []) ∷ []) ∷ []
 
@@ -266,7 +279,8 @@ B-lost =
       in-window = tt;
     }
 
-pub their-packets-m12 : (carriers pieces-m12 (packetsGiven given-m12) 0 ≡ 0 ∷ []) × (carriers pieces-m12 (packetsGiven given-m12) 1 ≡ 0 ∷ 1 ∷ [])
+pub their-packets-m12 : (carriers pieces-m12 (packetsGiven given-m12) 0 ≡ 0 ∷ [])
+    × (carriers pieces-m12 (packetsGiven given-m12) 1 ≡ 0 ∷ 1 ∷ [])
 unfolding part rest sumTo upTo bodyAt segmentAt segments placesFrom carriers
 their-packets-m12 =
     (ap (λ packets. carriers pieces-m12 packets 0) packets-given, ap (λ packets. carriers pieces-m12 packets 1) packets-given)
