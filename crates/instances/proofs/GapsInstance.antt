@@ -1,6 +1,6 @@
--- A closed instance of `gaps-are-told` for a D-MPT session: four packets with numbers from 0xFFFE on, over IP and over UDP in turn, of which
--- the fourth overtakes the third and then comes again. (That of a PSP flow stands in DemandInstance.antt.) It cites definitions alone, so
--- that it can be held against wrong ones.
+-- A closed instance of `gaps-are-told` for a D-MPT session: four packets with numbers from 0xFFFE on, over IP and over UDP in turn, of
+-- which the fourth overtakes the third and then comes again. (That of a PSP flow stands in DemandInstance.antt.) It cites definitions
+-- alone, so that it can be held against wrong ones.
 use Prim.Native.Nat.{ℕ, zero, suc, _<_, _≤_}
 use mathlib.Core.Path.{_≡_, refl, _∙_}
 use mathlib.Core.Bool.{true}

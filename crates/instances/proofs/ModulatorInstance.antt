@@ -267,8 +267,13 @@ ten-good : Good ten
 unfolding good
 ten-good = (
   refl,
-  all-bytes ten
-      (omega arith, (omega arith, (omega arith, (omega arith, (omega arith, (omega arith, (omega arith, (omega arith, (omega arith, (omega arith, tt)))))))))),
+  all-bytes ten (
+    omega arith,
+    (
+      omega arith,
+      (omega arith, (omega arith, (omega arith, (omega arith, (omega arith, (omega arith, (omega arith, (omega arith, tt)))))))),
+    ),
+  ),
 )
 
 pub may-travel : Each Good (sessionFrames kind.Psp 0x101 card calls)
@@ -293,7 +298,9 @@ core-to-modulator-applied theorem =
     record {
       taken = arrives .taken;
       got = arrives .these-frames ∙ sym comes-out;
-      on-flow-1 = subst (λ (out : List (List ℕ)). Kept (WholeIn sending run) 0 frames out) comes-out-on-1 (theorem .of-each-flow sending run);
+      on-flow-1 =
+          subst (λ (out : List (List ℕ)). Kept (WholeIn sending run) 0 frames out) comes-out-on-1
+          (theorem .of-each-flow sending run);
     }
 
 -- `sent-may-travel`, applied: every frame that was sent is a good one, that which is lost too

@@ -251,7 +251,8 @@ pub unique-segment-applied : UniqueSegment → UniqueSegmentHere
 unique-segment-applied theorem =
     let one = theorem 1 2 a-lies 1 in
     let copy = one .3 (0x61 ∷ 0x62 ∷ 0x63 ∷ []) in
-    (so-told segment-lies segment-so (one .0), so-told 0 cause-so (one .1), so-told extent extent-so (one .2), so-told copied copied-so copy)
+    let place = so-told extent extent-so (one .2) in
+    (so-told segment-lies segment-so (one .0), so-told 0 cause-so (one .1), place, so-told copied copied-so copy)
 
 -- `unique-capture`: a file that opens session 0x101 and has A; the body of its second entry starts at its byte 14
 abbrev file-lies : RefT (List ℕ)

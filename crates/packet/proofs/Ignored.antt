@@ -21,7 +21,8 @@ use Rattle.packet.specs.Header.{Packet, overIp, overUdp, leadOf, lead, i
 use Rattle.packet.specs.Header.{longestPacket, beforeSession}
 use Rattle.packet.specs.Ignored.{SameRead, SameCount}
 use Rattle.packet.specs.declared.Extent.{Extent}
-use Rattle.packet.specs.Check.{kindPsp, kindUnknown, segmentless, checkRefusals, check, causeRefusals, segmentCause, extentBy, segmentExtent, segmentGiven}
+use Rattle.packet.specs.Check.{kindPsp, kindUnknown, segmentless, checkRefusals, check, causeRefusals, segmentCause}
+use Rattle.packet.specs.Check.{extentBy, segmentExtent, segmentGiven}
 use Rattle.packet.proofs.Asked.{given-is-segment, given-none}
 use Rattle.packet.specs.Segments.{Segment, entryWidth, entryAt, lengthAt, beginsIn, endsIn, bodyAt, segmentAt, segments}
 use Rattle.packet.specs.Psp.{wanted, badEntry, badAt, segmentRefusals, pspRefusals}

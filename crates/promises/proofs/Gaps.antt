@@ -88,7 +88,8 @@ module _ (terms : Terms) (start : ℕ) (packets : List Packet)
   unfolding readAlone verdictsOf
   window-verdicts [] sent window = refl
   window-verdicts (x ∷ xs) sent window =
-      alone-heard verdictsRead terms fresh [] (packetAt packets x) (map (packetAt packets) xs) (numberAt start x) 0 (by-place fresh x (sent .0))
+      alone-heard verdictsRead terms fresh [] (packetAt packets x) (map (packetAt packets) xs) (numberAt start x) 0
+      (by-place fresh x (sent .0))
       ∙ ap (λ (r : List Verdict). record { code = 0; gap = 0 } ∷ r)
       (verdicts-along _ (suc x) _ xs refl (next-place start x) (sent .1) window)
 

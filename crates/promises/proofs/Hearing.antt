@@ -32,7 +32,8 @@ module _ {A : Type 0} (w : Reading A) (terms : Terms) (f : Flow) (held : List �
       let h = heardAs terms held packet j in
       cond (j .late) (w .of-late ++ readAlone w terms f held more) (w .of-heard h ++ readAlone w terms (recordAfter h) (h .fate .held) more)
 
-  pub alone-late : judgedOf f (sub packet) ≡ tooLate f → readAlone w terms f held (packet ∷ more) ≡ w .of-late ++ readAlone w terms f held more
+  pub alone-late : judgedOf f (sub packet) ≡ tooLate f →
+      readAlone w terms f held (packet ∷ more) ≡ w .of-late ++ readAlone w terms f held more
   unfolding readAlone hear
   alone-late e = ap by e
 

@@ -145,8 +145,8 @@ module _ (kind : Kind) (session flow : ℕ) (inside : flow < flows) where
         judged false late =
             let heard = read-heard c a f held h e (room e) (passing .0) w late in
             rw (heard .1) (ap (λ (l : List A). w .of-heard (heardAlone terms f held (a .packet)) ++ l)
-            (goes (after c (hands a)) (recordAfter (heardAlone terms f held (a .packet))) ((heardAlone terms f held (a .packet)) .fate .held)
-            (heard .0)))
+            (goes (after c (hands a)) (recordAfter (heardAlone terms f held (a .packet)))
+            ((heardAlone terms f held (a .packet)) .fate .held) (heard .0)))
 
     goes-all : (calls : List Call) → StaysOpen session calls → Each (λ x. handsTo kind session flow x ≡ true → Room x) calls →
         Each (λ p. check (numberOf kind) p ≡ 0) (packetsTo kind session flow calls) → Goes calls

@@ -65,7 +65,8 @@ on-its-flow flow k false e (f ∷ frames) = rw e (on-its-flow flow k false e fra
 
 on-flow-joined : (flow : ℕ) (a b : List Delivery) → framesIn (onFlow flow (a ++ b)) ≡ framesIn (onFlow flow a) ++ framesIn (onFlow flow b)
 on-flow-joined flow a b =
-    ap framesIn (chosen-joined (λ (d : Delivery). eqb (d .flow) flow) a b) ∙ map-append (λ (d : Delivery). d .frame) (onFlow flow a) (onFlow flow b)
+    ap framesIn (chosen-joined (λ (d : Delivery). eqb (d .flow) flow) a b)
+    ∙ map-append (λ (d : Delivery). d .frame) (onFlow flow a) (onFlow flow b)
 
 of-one-call : (kind : Kind) (session flow : ℕ) (c : Card) (x : Call) →
     framesIn (onFlow flow (deliversTo kind session c x)) ≡ cond (handsTo kind session flow x) (framesOf (answer c x)) []

@@ -1,5 +1,5 @@
--- Runs, of a flow of either kind: what is read off the flow's calls is what it makes of the arrivals by itself; and each packet that arrives
--- was sent and has a number.
+-- Runs, of a flow of either kind: what is read off the flow's calls is what it makes of the arrivals by itself; and each packet that
+-- arrives was sent and has a number.
 use Prim.Native.Nat.{ℕ, zero, suc, _<_, _≤_}
 use mathlib.Core.Path.{_≡_, refl, sym, ap, subst, _∙_}
 use mathlib.Core.Bool.{Bool, true, false, cond, true≢false}
@@ -34,8 +34,8 @@ not-empty : {x : Packet} {l : List Packet} → _≡_ {A = List Packet} (x ∷ l)
 not-empty e = let z = ap length e in omega arith
 
 -- nothing is read off a flow that gets no packet
-none-out : {A : Type 0} (w : Reading A) (kind : Kind) (session flow : ℕ) (c : Card) (calls : List Call) → packetsTo kind session flow calls ≡ [] →
-    readOut w kind session flow c calls ≡ []
+none-out : {A : Type 0} (w : Reading A) (kind : Kind) (session flow : ℕ) (c : Card) (calls : List Call) →
+    packetsTo kind session flow calls ≡ [] → readOut w kind session flow c calls ≡ []
 unfolding packetsTo readOut
 none-out w kind session flow c [] e = refl
 none-out w kind session flow c (opens q ∷ more) e = none-out w kind session flow (after c (opens q)) more e
@@ -75,7 +75,8 @@ were-sent : (kind : Kind) (session flow : ℕ) (packets : List Packet) (arrivals
     Each (λ p. ofFlow kind session flow p ≡ true) (map (packetAt packets) arrivals) →
     Each (λ x. x < length packets) arrivals
 were-sent kind session flow packets [] own = tt
-were-sent kind session flow packets (x ∷ more) own = (sent-there kind session flow packets x (own .0), were-sent kind session flow packets more (own .1))
+were-sent kind session flow packets (x ∷ more) own =
+    (sent-there kind session flow packets x (own .0), were-sent kind session flow packets more (own .1))
 
 -- .. and what arrives has a number
 counted : (packets : List Packet) (arrivals : List ℕ) → Each (λ x. x < length packets) arrivals →
