@@ -353,7 +353,7 @@ all-come-back count bursts g nothing =
     ∙ are
 
 -- Calls enough: each sends a byte at least as long as any wait.
-some-carried : (r : ℕ) (waiting : List ℕ) → 0 < length waiting → 0 < carried r waiting
+pub some-carried : (r : ℕ) (waiting : List ℕ) → 0 < length waiting → 0 < carried r waiting
 some-carried r waiting some =
     ⊎-elim
     (λ (e : leb payloadLength r ≡ true).

@@ -29,6 +29,11 @@ unfolding none
 none-some [] h = absurd (let z : ⊥ = omega arith in z)
 none-some (x ∷ l) h = refl
 
+pub some-length : (l : List ℕ) → none l ≡ false → 0 < length l
+unfolding none
+some-length [] h = absurd (true≢false h)
+some-length (x ∷ l) h = omega arith
+
 -- two lists that are the same
 pub same-self : (l : List ℕ) → same l l ≡ true
 unfolding same

@@ -2,12 +2,12 @@
 -- waits, so all frames come back (`stream-comes-back`). And the capture that `pspsend` makes, run from an empty card, is the opening of the
 -- session and its packets in order, so it delivers the frames that were sent (`round-trip`), which are those of the file
 -- (`programs-in-a-row`).
-use Prim.Native.Nat.{ℕ, zero, suc, _+_, _<_, _≤_, min}
+use Prim.Native.Nat.{ℕ, zero, suc, _+_, _<_, _≤_}
 use mathlib.Core.Path.{_≡_, refl, sym, ap, subst, _∙_}
-use mathlib.Core.Bool.{Bool, true, false, true≢false}
+use mathlib.Core.Bool.{Bool, true, false}
 use mathlib.Core.List.{List, [], _∷_, _++_, map, append-nil}
 use native.Mathlib.Omega.{arith}
-use lib.Dec.{eqb, ltb, leb}
+use lib.Dec.{eqb, ltb}
 use lib.ListN.{length, replicate, length-replicate}
 use borrow.Author.Tests.{ltb-false, lt-ltb}
 use Rattle.refusal.proofs.Laws.{and-rest}
@@ -19,12 +19,11 @@ use Rattle.octets.proofs.Counts.{or-false-left, or-false-right}
 use Rattle.octets.proofs.Elements.{each-too, each-replicate, length-none}
 use Rattle.octets.proofs.Numbers.{four-reads-back}
 use Rattle.octets.proofs.Stretches.{length-rest, rest-none, joined-none, joined-empty, length-lengthsOf, cut-joined}
-use Rattle.octets.proofs.Tests.{none-empty, none-length}
+use Rattle.octets.proofs.Tests.{none-empty, some-length}
 use Rattle.flow.specs.Numbers.{modulus}
 use Rattle.flow.specs.Flow.{fresh, flows, topFlow}
 use Rattle.frames.specs.Frames.{framesFile, leftBehind}
 use Rattle.frames.proofs.Laws.{pack-unpack}
-use Rattle.ts.specs.Packet.{payloadLength}
 use Rattle.packet.specs.Header.{Packet, ip}
 use Rattle.packet.specs.Check.{kindPsp, check}
 use Rattle.table.specs.declared.Kind.the-variants as kind
@@ -40,13 +39,11 @@ use Rattle.sender.specs.Send.{mostFrames, badFrames}
 use Rattle.sender.specs.Series.{Job, startOfFrame, seriesPackets, goOut}
 use Rattle.sender.specs.Rules.{Addressed}
 use Rattle.mpeg.specs.Frame.{Good}
-use Rattle.mpeg.specs.Packet.{pointedLength}
 use Rattle.mpeg.specs.Write.{carried}
 use Rattle.mpeg.specs.Run.{Backlog, noBacklog, Burst, added, waitingIn, leftIn, packetNext, afterNext, runPackets, runEnd, GoodBursts}
 use Rattle.mpeg.specs.Run.{allFrames}
 use Rattle.mpeg.proofs.Frames.{good-some}
-use Rattle.mpeg.proofs.Backlogs.{carried-some}
-use Rattle.mpeg.proofs.RunsRead.{runs-are-read, all-come-back}
+use Rattle.mpeg.proofs.RunsRead.{some-carried, runs-are-read, all-come-back}
 use Rattle.capture.specs.File.{fileRefusal}
 use Rattle.replay.specs.Run.{Running, runOne, begin}
 use Rattle.outputs.specs.Sent as entry
@@ -63,15 +60,7 @@ use Rattle.promises.proofs.Standing.{Stands, stands-opened}
 use Rattle.promises.proofs.RoundTrip.{sender-keeps-rules, round-trip}
 use Rattle.promises.proofs.Entries.{allDeliver, delivered-is, callsFor, Its, Ready, frames-out, packets-are, all-room, stays-open}
 
--- A step of the writer carries a byte at least where any wait.
-some-carried : (r : ℕ) (waiting : List ℕ) → 0 < length waiting → 0 < carried r waiting
-some-carried r waiting some = by (leb payloadLength r) refl
-  where
-    by : (t : Bool) → leb payloadLength r ≡ t → 0 < carried r waiting
-    by true e = let c : carried r waiting ≡ payloadLength = carried-some r waiting some ∙ rw e refl in omega (arith, c)
-    by false e =
-        let c : carried r waiting ≡ min pointedLength (length waiting) = carried-some r waiting some ∙ rw e refl in omega (arith, c, some)
-
+-- A step of the writer carries a byte at least where any wait, so fewer wait behind it.
 fewer-wait : (q : Backlog) (n : ℕ) → 0 < length (waitingIn q) → length (waitingIn q) ≤ suc n → length (waitingIn (afterNext q)) ≤ n
 unfolding afterNext
 fewer-wait q n some few =
@@ -85,13 +74,6 @@ fewer-wait q n some few =
 -- nothing is added
 same-added : (q : Backlog) → added q [] ≡ q
 same-added q = ap (λ (frames : List (List ℕ)). record { frames = frames; place = q .place; count = q .count }) (append-nil (q .frames))
-
-none-not : (l : List ℕ) → none l ≡ false → 0 < length l
-none-not l e = by (length l) refl
-  where
-    by : (n : ℕ) → length l ≡ n → 0 < n
-    by zero z = absurd (true≢false (sym (none-length l z) ∙ e))
-    by (suc n) z = omega arith
 
 -- What is drained is a run of so many calls, before which nothing is added and behind which nothing waits.
 record Drained (n : ℕ) (q : Backlog) : Type 0 where
@@ -107,7 +89,7 @@ drains (suc n) q few = by (none (waitingIn q)) refl (drains n (afterNext q))
     by : (t : Bool) → none (waitingIn q) ≡ t → (length (waitingIn (afterNext q)) ≤ n → Drained n (afterNext q)) → Drained (suc n) q
     by true e goes-on = record { calls = 0; packets-are = rw e refl; none-waits = none-empty (waitingIn q) e }
     by false e goes-on =
-        let more = goes-on (fewer-wait q n (none-not (waitingIn q) e) few) in
+        let more = goes-on (fewer-wait q n (some-length (waitingIn q) e) few) in
         record {
           calls = suc (more .calls);
           packets-are =
