@@ -1,5 +1,7 @@
 // One flow's record: which sequence number it expects next, and how many bytes of an unfinished frame it holds. The bytes
 // themselves lie in the flow's holding place, of which nothing is known here.
+#![tactic(auto)]
+
 ghost use Rattle.std.specs.Prelude.{◌≡◌};
 ghost use Rattle.flow.specs.Numbers.{ahead, next};
 ghost use Rattle.flow.specs.Flow.{PermitsFresh, PermitsJudge};

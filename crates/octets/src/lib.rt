@@ -1,5 +1,7 @@
 // Bytes in slices: numbers read and written, big-endian ones and in either byte order, and one stretch copied into another slice. Nothing
 // here knows of packets. Each public function asks that the place lies in the slice: only proved code calls them.
+#![tactic(auto)]
+
 ghost use Rattle.std.specs.Prelude.{◌≡◌, ◌+◌, ◌≤◌, ◌<◌, length};
 ghost use Rattle.octets.specs.Bytes.{be16_at, be32_at, two, four};
 ghost use Rattle.octets.specs.Order.{le16_at, le32_at, u16_at, u32_at, two_le, four_le};

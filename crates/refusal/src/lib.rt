@@ -2,6 +2,8 @@
 // a numeral. 0 says that nothing was refused. (In specs/ it is the other way round: there the refusal lists have the paper's numerals, so
 // that they can be held against its table.)
 
+#![tactic(auto)]
+
 pub const NONE: u32 = 0;
 
 // The slices that are lent with a data call.

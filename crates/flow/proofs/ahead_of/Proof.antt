@@ -5,18 +5,18 @@ use borrow.Author.Rules.{rules}
 use Rattle.flow.proofs.ahead_of.Statement.{statement}
 use Rattle.flow.proofs.ahead_of.Tie as tie
 
-add-result : tie.Need-overflow-add-result
+add-result : tie.Need-overflow_add-result
 add-result c = search rules
 
-sub-result : tie.Need-overflow-sub-result
+sub-result : tie.Need-overflow_sub-result
 sub-result c = search rules
 
-cast-result : tie.Need-overflow-cast-result
+cast-result : tie.Need-overflow_cast-result-3
 cast-result c = search rules
 
 returns : tie.Need-returns
 unfolding ahead
 returns c = refl
 
-pub ahead-of-spec : {M : Type 1} → statement M
-ahead-of-spec = tie.close (tie.spec add-result sub-result cast-result returns)
+pub ahead_of_spec : {M : Type 1} → statement M
+ahead_of_spec = tie.close (tie.spec add-result sub-result cast-result returns)

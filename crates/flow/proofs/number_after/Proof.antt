@@ -5,15 +5,15 @@ use borrow.Author.Rules.{rules}
 use Rattle.flow.proofs.number_after.Statement.{statement}
 use Rattle.flow.proofs.number_after.Tie as tie
 
-add-result : tie.Need-overflow-add-result
+add-result : tie.Need-overflow_add-result
 add-result c = search rules
 
-cast-result : tie.Need-overflow-cast-result
+cast-result : tie.Need-overflow_cast-result-2
 cast-result c = search rules
 
 returns : tie.Need-returns
 unfolding next
 returns c = refl
 
-pub number-after-spec : {M : Type 1} → statement M
-number-after-spec = tie.close (tie.spec add-result cast-result returns)
+pub number_after_spec : {M : Type 1} → statement M
+number_after_spec = tie.close (tie.spec add-result cast-result returns)

@@ -10,38 +10,38 @@ use Rattle.octets.proofs.copy_block.Statement.{statement}
 use Rattle.octets.proofs.copy_block.Tie as tie
 
 -- from the end of the call back to where the block was filled, and from there to the start
-abbrev start : tie.After-copy-bytes → tie.Start
+abbrev start : tie.After-copy_bytes → tie.Start
 start filled = filled.before.before.before.before
 
-abbrev filled : tie.After-slice-known2 → tie.After-copy-bytes
+abbrev filled : tie.After-slice_known-2-1 → tie.After-copy_bytes
 filled c = c.before.before.before.before.before.before
 
-slice-aggregate-copy-bytes : tie.Need-slice-aggregate-copy-bytes
+slice-aggregate-copy-bytes : tie.Need-slice_bounds-copy_bytes-end
 slice-aggregate-copy-bytes c = search rules
 
-copy-bytes-requires : tie.Need-copy-bytes-requires
+copy-bytes-requires : tie.Need-copy_bytes-requires
 copy-bytes-requires c κs = search rules
 
-slice-aggregate-copy-bytes-2 : tie.Need-slice-aggregate-copy-bytes-2
+slice-aggregate-copy-bytes-2 : tie.Need-slice_bounds-copy_bytes-end-2
 slice-aggregate-copy-bytes-2 c = search rules
 
-copy-bytes-requires-2 : tie.Need-copy-bytes-requires-2
+copy-bytes-requires-2 : tie.Need-copy_bytes-requires-2
 copy-bytes-requires-2 c κs = search rules
 
-same_length : tie.Need-same-length
+same_length : tie.Need-shape_of-target
 same_length c = search rules
 
 returns : tie.Need-returns
 returns c =
-    let written = c.before.before.copy-bytes2.ensures in
-    let read = (filled c).copy-bytes.ensures in
+    let written = c.before.before.copy_bytes-2.ensures in
+    let read = (filled c).copy_bytes.ensures in
     let a = (start (filled c)).args in
     written
     ∙ ap (λ (block : List ℕ). put a.target.now a.at (part block 0 a.size)) read
     ∙ ap (put a.target.now a.at) (part-put-part _ a.source.now 0 a.from a.size (omega arith) (omega arith))
 
-pub copy-block-spec : {M : Type 1} → statement M
-copy-block-spec =
+pub copy_block_spec : {M : Type 1} → statement M
+copy_block_spec =
     tie.close
     (tie.spec
     slice-aggregate-copy-bytes

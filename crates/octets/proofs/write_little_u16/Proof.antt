@@ -5,29 +5,29 @@ use borrow.Author.Rules.{rules}
 use Rattle.octets.proofs.write_little_u16.Statement.{statement}
 use Rattle.octets.proofs.write_little_u16.Tie as tie
 
-cast-bytes : tie.Need-overflow-cast-bytes
+cast-bytes : tie.Need-overflow_cast-bytes
 cast-bytes c = search rules
 
-slice-write-bytes : tie.Need-slice-write-bytes
+slice-write-bytes : tie.Need-bounds-bytes-at
 slice-write-bytes c = search rules
 
-cast-bytes-2 : tie.Need-overflow-cast-bytes-2
+cast-bytes-2 : tie.Need-overflow_cast-bytes-2
 cast-bytes-2 c = search rules
 
-add-bytes : tie.Need-overflow-add-bytes
+add-bytes : tie.Need-overflow_add-bytes
 add-bytes c = search rules
 
-slice-write-bytes-2 : tie.Need-slice-write-bytes-2
+slice-write-bytes-2 : tie.Need-bounds-bytes-at-2
 slice-write-bytes-2 c = search rules
 
-same_length : tie.Need-same-length
+same_length : tie.Need-shape_of-bytes
 same_length c = search rules
 
 returns : tie.Need-returns
 returns c = set-set-put c.args.bytes.now c.args.at (c.args.number % 256) (c.args.number / 256 % 256) (search rules)
 
-pub write-little-u16-spec : {M : Type 1} → statement M
-write-little-u16-spec =
+pub write_little_u16_spec : {M : Type 1} → statement M
+write_little_u16_spec =
     tie.close
     (tie.spec
     cast-bytes
