@@ -4,7 +4,7 @@
 use Prim.Native.Nat.{ℕ, ◌+◌}
 use mathlib.Core.Path.{◌≡◌, refl, sym, ◌∙◌}
 use mathlib.Core.List.{List}
-use denote.Ref.{Bor, MutBor}
+use denote.Ref.{Bor}
 use Rattle.capture.specs.File.{head_length, entry_length, body_start, file_refusal, nth_entry, PermitsCheck, PermitsBody}
 
 pub check_unique : (file : List ℕ) (a b : ℕ) → PermitsCheck file a → PermitsCheck file b → a ≡ b
@@ -13,12 +13,11 @@ check_unique file a b p q = p ∙ sym q
 pub check-permitted : (file : List ℕ) → PermitsCheck file (file_refusal file)
 check-permitted file = refl
 
-module _ (file : MutBor (List ℕ)) (index : ℕ) where
-  abbrev pub body-there : MutBor (List ℕ)
+module _ (file : Bor (List ℕ)) (index : ℕ) where
+  abbrev pub body-there : Bor (List ℕ)
   body-there =
       record {
         ref_ptr = (file.ref_ptr.0, file.ref_ptr.1 + body_start head_length entry_length file.now index);
-        ghost_name = file.ghost_name;
         now = (nth_entry file.now index).body;
       }
 

@@ -2,6 +2,8 @@
 //
 // Contents and bodies are written into two slices, the one behind the other in the file; or, where it is known before how many entries
 // there will be, into one. How many there are is written last.
+#![tactic(auto)]
+
 pub mod reader;
 
 ghost use Rattle.std.specs.Prelude.{◌≡◌, ◌+◌, ◌*◌, ◌<◌, ◌≤◌, length};
@@ -35,7 +37,7 @@ pub const DATA: u8 = 4;
 pub const DATA_OVER_UDP: u8 = 5;
 
 // A capture that is being written: how many entries it has, and how many bytes their bodies have together.
-#[derive(Drop)]
+#[derive(Clone, Copy)]
 pub struct Writer {
     pub entries: usize,
     pub bytes: usize,

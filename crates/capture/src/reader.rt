@@ -47,7 +47,7 @@ fn wrong_parts(kind: u8, second: u8, size: usize) -> bool
 }
 
 // What a walk over the first entries finds: where the bodies end, and whether an entry is wrong.
-#[derive(Drop)]
+#[derive(Clone, Copy)]
 struct Surveyed {
     end: usize,
     wrong: bool,

@@ -32,7 +32,7 @@ pub const MOST_BYTES: usize = 6144;
 
 // What a data call answers: 0 or the refusal's number, the counts, and the table afterwards.
 #[repr(C)] // it crosses to the host program as it is
-#[derive(Drop)]
+#[derive(Clone, Copy)]
 pub struct Received {
     pub code: u32,
     pub frames: u32,
@@ -83,7 +83,7 @@ pub fn receive(
 }
 
 // Where a packet's session stands; or the refusal's number, and then any row, to be put back as it was.
-#[derive(Drop)]
+#[derive(Clone, Copy)]
 struct Found {
     code: u32,
     row: usize,
@@ -134,7 +134,7 @@ fn too_small(holding: usize, output: usize, lengths: usize) -> bool
 }
 
 // What a session's row makes of a packet: 0 or the refusal's number, the counts, and the row afterwards.
-#[derive(Drop)]
+#[derive(Clone, Copy)]
 struct Taken {
     code: u32,
     frames: u32,
@@ -226,7 +226,7 @@ fn answer(row: Row, k: usize, judged: Judged, tally: Tally) -> Taken
 
 // What a flow makes of a packet that passed refusals 6, 7 and 9 to 11: how its number is judged; and, unless that is late, what became of
 // the bytes.
-#[derive(Drop)]
+#[derive(Clone, Copy)]
 struct Hearing {
     judged: Judged,
     tally: Tally,

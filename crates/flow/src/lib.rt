@@ -11,7 +11,7 @@ pub const FLOWS: usize = 4;
 
 // Plain numbers, since the host program keeps these records: nothing here trusts that they are such as a call of ours leaves.
 #[repr(C)] // it crosses to the host program as it is
-#[derive(Drop)]
+#[derive(Clone, Copy)]
 pub struct Flow {
     // The mark: 0 while the flow is fresh, `Flow::HEARD` once a number was accepted since the session opened. Calls leave a fresh flow all
     // zero.
@@ -21,7 +21,7 @@ pub struct Flow {
 }
 
 // What a record makes of a number: the next record and the gap; or that the number is late, and then the record is as it was.
-#[derive(Drop)]
+#[derive(Clone, Copy)]
 pub struct Judged {
     pub flow: Flow,
     pub gap: u16,

@@ -1,5 +1,7 @@
 // A frames file: for each frame its length, in two bytes, most significant first, and then its bytes. Here frames are written as such a
 // file, and read from one.
+#![tactic(auto)]
+
 ghost use Rattle.std.specs.Prelude.{◌≡◌, ◌+◌, ◌*◌, ◌≤◌, length};
 ghost use Rattle.octets.specs.Bytes.{byte_at};
 ghost use Rattle.octets.specs.Count.{sum_to};
@@ -10,7 +12,7 @@ ghost use Rattle.frames.specs.Frames.{length_bytes, stands_whole, PermitsPack, P
 pub const LENGTH_BYTES: usize = 2;
 
 // How many frames were read, how many bytes they have together, and how many bytes of the file are left behind them.
-#[derive(Drop)]
+#[derive(Clone, Copy)]
 pub struct Unpacked {
     pub count: usize,
     pub bytes: usize,

@@ -326,7 +326,7 @@ either_order_applied theorem =
 
 -- `reader_hands_out`, applied: the exported file, where it lies
 abbrev outward_lies : Bor (List ℕ)
-outward_lies = record { ref_ptr = (5, 200); ghost_name = 7; now = outward }
+outward_lies = record { ref_ptr = (5, 200); now = outward }
 
 abbrev pub ReaderHandsOutHere : Type 0
 ReaderHandsOutHere = handed_out 187 (opened outward_lies) ≡ part outward 40 37 ∷ part outward 93 44 ∷ part outward 153 34 ∷ []

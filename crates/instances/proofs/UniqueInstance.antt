@@ -218,10 +218,10 @@ unique_check_applied theorem = so_told 10 checks_so (theorem 1 (ip (take 19 A)))
 
 -- `unique_segment`: A over UDP lies in block 3 of memory, from place 1,000 on; its second segment starts at its byte 22
 abbrev a_lies : Bor (List ℕ)
-a_lies = record { ref_ptr = (3, 1000); ghost_name = 7; now = 0x00 ∷ 0x03 ∷ 0x00 ∷ 0x00 ∷ A }
+a_lies = record { ref_ptr = (3, 1000); now = 0x00 ∷ 0x03 ∷ 0x00 ∷ 0x00 ∷ A }
 
 abbrev segment_lies : Bor (List ℕ)
-segment_lies = record { ref_ptr = (3, 1022); ghost_name = 7; now = 0x21 ∷ 0x22 ∷ [] }
+segment_lies = record { ref_ptr = (3, 1022); now = 0x21 ∷ 0x22 ∷ [] }
 
 abbrev extent : Extent
 extent = record { start = 22; size = 2 }
@@ -267,12 +267,11 @@ abbrev file_lies : Bor (List ℕ)
 file_lies =
     record {
       ref_ptr = (5, 200);
-      ghost_name = 7;
       now = 0x00 ∷ 0x02 ∷ 1 ∷ 0 ∷ 0 ∷ 4 ∷ 4 ∷ 0 ∷ 0 ∷ 20 ∷ 0x00 ∷ 0x00 ∷ 0x01 ∷ 0x01 ∷ A;
     }
 
 abbrev body_lies : Bor (List ℕ)
-body_lies = record { ref_ptr = (5, 214); ghost_name = 7; now = A }
+body_lies = record { ref_ptr = (5, 214); now = A }
 
 file_so : capture.PermitsCheck file_lies.now 0
 unfolding any sum_to capture.body_start capture.file_refusal
@@ -334,7 +333,6 @@ abbrev pcap_lies : Bor (List ℕ)
 pcap_lies =
     record {
       ref_ptr = (5, 200);
-      ghost_name = 7;
       now =
           0xA1 ∷ 0xB2 ∷ 0xC3 ∷ 0xD4 ∷ 0x00 ∷ 0x02 ∷ 0x00 ∷ 0x04 ∷ (replicate 14 0 ++ (0x00 ∷ 0x01 ∷ []))
           ++ (replicate 8 0 ++ (0x00 ∷ 0x00 ∷ 0x00 ∷ 0x04 ∷ replicate 4 0)) ++ (1 ∷ 2 ∷ 3 ∷ 4 ∷ []);
@@ -363,7 +361,7 @@ abbrev opens_alone : List ℕ
 opens_alone = 0 ∷ 1 ∷ 1 ∷ 0 ∷ 0 ∷ 4 ∷ 0 ∷ 0 ∷ 1 ∷ 1 ∷ []
 
 abbrev bytes_lie : Bor (List ℕ)
-bytes_lie = record { ref_ptr = (5, 240); ghost_name = 7; now = 1 ∷ 2 ∷ 3 ∷ 4 ∷ [] }
+bytes_lie = record { ref_ptr = (5, 240); now = 1 ∷ 2 ∷ 3 ∷ 4 ∷ [] }
 
 taken_in_so : PermitsImport (0x101 ∷ []) pcap_lies.now (replicate 11 7) taken_in
 unfolding part put joined those is_little wrong_fields bad_header whole start size after bytes_at

@@ -20,7 +20,7 @@ use packet::{header, psp};
 const B_AND_E: u16 = psp::B_BIT + psp::E_BIT;
 
 // What a call has come to: how many bytes the flow holds now, and the frames and bytes delivered and the bytes dropped so far.
-#[derive(Drop)]
+#[derive(Clone, Copy)]
 pub struct Tally {
     pub held: usize,
     pub frames: usize,
@@ -170,7 +170,7 @@ fn whole_length(entry: u16) -> u16
 }
 
 // Whole frames one behind the other: how many, and how long together.
-#[derive(Drop)]
+#[derive(Clone, Copy)]
 struct Run {
     frames: usize,
     bytes: usize,

@@ -20,7 +20,7 @@ pub const LINE_ROOM: usize = text::MOST_DIGITS + 1 + 5 + 5 * (1 + text::MOST_DIG
 pub const LISTING_ROOM: usize = HEADING_ROOM + LINE_ROOM * capture::MOST_ENTRIES;
 
 // What listing an entry answers: the place behind its text, and where the run stands afterwards.
-#[derive(Drop)]
+#[derive(Clone, Copy)]
 struct Listed {
     next: usize,
     walk: Walk,

@@ -4,7 +4,7 @@
 use Prim.Native.Nat.{ℕ}
 use mathlib.Core.Path.{◌≡◌, refl, sym, ◌∙◌}
 use mathlib.Core.List.{List}
-use denote.Ref.{Bor, MutBor}
+use denote.Ref.{Bor}
 use Rattle.octets.specs.Stretch.{part}
 use Rattle.mpeg.specs.Write.{Asked, WriteOutcome, written, PermitsWrite}
 use Rattle.mpeg.specs.Read.{AskedRead, ReadOutcome, read, PermitsRead}
@@ -23,11 +23,10 @@ pub read_unique : (a : AskedRead) (o o' : ReadOutcome) → PermitsRead a o → P
 read_unique a o o' p q = p ∙ sym q
 
 -- what is handed out: the front of its source
-abbrev pub hand_out_there : MutBor (List ℕ) → MutBor (List ℕ) → MutBor (List ℕ)
+abbrev pub hand_out_there : Bor (List ℕ) → Bor (List ℕ) → Bor (List ℕ)
 hand_out_there queue null =
     record {
-      ref_ptr = (source queue null).ptr;
-      ghost_name = (source queue null).name;
+      ref_ptr = (source queue null).ref_ptr;
       now = part (source queue null).now 0 (handed_length (source queue null).now);
     }
 

@@ -16,8 +16,8 @@ handed_length bytes = cond (leb mpeg_length (length bytes)) mpeg_length 0
 
 -- What the call permits. `ptr` says where a slice points, as a block of memory and a place in it, and `now` the bytes there.
 pub record PermitsHandOut (queue null answer : Bor (List ℕ)) : Type 0 where
-  pub in_its_source : answer.ref_ptr.0 ≡ (source queue null).ptr.0
-  pub at_its_front : answer.ref_ptr.1 ≡ (source queue null).ptr.1
+  pub in_its_source : answer.ref_ptr.0 ≡ (source queue null).ref_ptr.0
+  pub at_its_front : answer.ref_ptr.1 ≡ (source queue null).ref_ptr.1
   pub its_bytes : answer.now ≡ part (source queue null).now 0 (handed_length (source queue null).now)
 
 -- the packet that is handed out from a queue: its first, or the null packet

@@ -14,7 +14,7 @@ use crate::{BESIDE_FIELD, FIELD_AT, FRAMES_PID_HIGH, FRAMES_PID_LOW, LONGEST, PO
 // What a call answers: 0 or the refusal's number, how many frames came back, and how many bytes they have together. Refused: no frame and
 // no byte.
 #[repr(C)] // it crosses to the host program as it is
-#[derive(Drop)]
+#[derive(Clone, Copy)]
 pub struct ReadBack {
     pub code: u32,
     pub frames: usize,
@@ -22,7 +22,7 @@ pub struct ReadBack {
 }
 
 // The front of a frame: how many bytes of it have come, and the two in which it says its length, or 0 for one that has not come.
-#[derive(Drop)]
+#[derive(Clone, Copy)]
 struct Front {
     size: usize,
     high: u8,
@@ -31,7 +31,7 @@ struct Front {
 
 // Where the reader stands between two packets: whether all was sound, the count that it expects, or COUNTS before the first, the front of a
 // frame that is not finished, and the frames found with their bytes.
-#[derive(Drop)]
+#[derive(Clone, Copy)]
 struct Standing {
     sound: bool,
     expected: u8,

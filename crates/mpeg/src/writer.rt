@@ -12,7 +12,7 @@ use crate::{BESIDE_FIELD, FIELD_AT, FRAMES_PID, LONGEST, POINTED_LENGTH};
 // What a call answers: 0 or the refusal's number, how many bytes have been sent now, the next count, and whether the packet is a null
 // packet. Refused: the place and the count that were given.
 #[repr(C)] // it crosses to the host program as it is
-#[derive(Drop)]
+#[derive(Clone, Copy)]
 pub struct Written {
     pub code: u32,
     pub place: usize,
@@ -21,7 +21,7 @@ pub struct Written {
 }
 
 // What the lengths say: whether a frame may not be written, and how many bytes are left of the one that has begun.
-#[derive(Drop)]
+#[derive(Clone, Copy)]
 struct Surveyed {
     bad: bool,
     left: usize,
@@ -29,7 +29,7 @@ struct Surveyed {
 
 // How far the survey came: the frames that it passed, where the last of them ends, and where the last of those ends that start before the
 // place; the place itself where none does.
-#[derive(Drop)]
+#[derive(Clone, Copy)]
 struct Passed {
     frames: usize,
     end: usize,

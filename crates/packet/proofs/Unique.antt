@@ -4,7 +4,7 @@
 use Prim.Native.Nat.{ℕ, ◌+◌}
 use mathlib.Core.Path.{◌≡◌, refl, sym, ◌∙◌}
 use mathlib.Core.List.{List}
-use denote.Ref.{Bor, MutBor}
+use denote.Ref.{Bor}
 use Rattle.packet.specs.declared.Extent.{Extent}
 use Rattle.packet.specs.Header.{Packet, packet_by}
 use Rattle.packet.specs.Check.{check, segment_cause, segment_extent, segment_given, CopyOutcome, segment_copied}
@@ -36,11 +36,10 @@ pub copy_unique : (kind : ℕ) (p : Packet) (k : ℕ) (output : List ℕ) (a b :
     PermitsSegmentCopy kind p k output a → PermitsSegmentCopy kind p k output b → a ≡ b
 copy_unique kind p k output a b one other = one ∙ sym other
 
-pub segment_permitted : (kind transport : ℕ) (packet : MutBor (List ℕ)) (k : ℕ) →
+pub segment_permitted : (kind transport : ℕ) (packet : Bor (List ℕ)) (k : ℕ) →
     PermitsSegment kind transport packet k
     (record {
       ref_ptr = (packet.ref_ptr.0, packet.ref_ptr.1 + (segment_extent kind (packet_by transport packet.now) k).start);
-      ghost_name = packet.ghost_name;
       now = segment_given kind (packet_by transport packet.now) k;
     })
 segment_permitted kind transport packet k = record { in_the_packet = refl; at_its_place = refl; its_bytes = refl }

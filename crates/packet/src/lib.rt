@@ -54,7 +54,7 @@ pub fn segment_cause(kind: u32, transport: u32, packet: &[u8], k: usize) -> u32
 // Where segment k lies in the packet: its first place, counted from the packet's first byte, and its length. A stretch that is given
 // back cannot cross to the host program; these two numbers cross as they are.
 #[repr(C)]
-#[derive(Drop)]
+#[derive(Clone, Copy)]
 pub struct Extent {
     pub start: usize,
     pub size: usize,

@@ -69,7 +69,7 @@ fn total_length(sub: &[u8], width: usize, n: usize) -> usize
 }
 
 // What a segment table says: how long all segments are together, and whether one of the entries is bad.
-#[derive(Drop)]
+#[derive(Clone, Copy)]
 pub struct Surveyed {
     pub total: usize,
     pub bad: bool,

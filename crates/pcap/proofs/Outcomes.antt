@@ -7,7 +7,7 @@ use mathlib.Core.List.{List, [], ◌∷◌}
 use native.Mathlib.Omega.{arith}
 use lib.Dec.{ltb}
 use lib.ListN.{length}
-use denote.Ref.{Bor, MutBor}
+use denote.Ref.{Bor}
 use borrow.Author.Tests.{ltb-false}
 use Rattle.refusal.specs.Refusal.{first, ◌when◌}
 use Rattle.refusal.proofs.Laws.{none-applies, none_apart, none_first}
@@ -138,12 +138,11 @@ pub export_unique : (by : Addresses) (file output : List ℕ) (a b : ExportOutco
     PermitsExport by file output b → a ≡ b
 export_unique by file output a b p q = p ∙ sym q
 
-module _ (file : MutBor (List ℕ)) (at : ℕ) (little : Bool) where
-  abbrev pub bytes-there : MutBor (List ℕ)
+module _ (file : Bor (List ℕ)) (at : ℕ) (little : Bool) where
+  abbrev pub bytes-there : Bor (List ℕ)
   bytes-there =
       record {
         ref_ptr = (file.ref_ptr.0, file.ref_ptr.1 + start file.now at little);
-        ghost_name = file.ghost_name;
         now = bytes_at file.now at little;
       }
 

@@ -20,7 +20,7 @@ const FRONT: usize = records::RECORD_HEADER + ETHERNET_LENGTH + IPV4_LENGTH;
 
 // What an export answers: the number of its refusal, or 0; how long the file is, how many packets it has, and how many opens and closes
 // were left out.
-#[derive(Drop)]
+#[derive(Clone, Copy)]
 pub struct Exported {
     pub code: u32,
     pub length: usize,
@@ -30,7 +30,7 @@ pub struct Exported {
 }
 
 // What the entries of a capture come to: how long the file is, and how many of each kind there are.
-#[derive(Drop)]
+#[derive(Clone, Copy)]
 struct Measured {
     length: usize,
     packets: usize,

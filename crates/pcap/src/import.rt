@@ -16,7 +16,7 @@ const ID_BODY: usize = 4;
 // What an import answers: the number of its refusal, or 0; how long the capture is, how many records have become data entries, and how
 // many were skipped for each cause: foreign ones, which are not IPv4, misfits, whose lengths are bad, fragments, and others, of another
 // protocol or port.
-#[derive(Drop)]
+#[derive(Clone, Copy)]
 pub struct Imported {
     pub code: u32,
     pub length: usize,
@@ -28,7 +28,7 @@ pub struct Imported {
 }
 
 // What the first walk counts: records that become entries, and the bytes of their data; and those that are skipped, by cause.
-#[derive(Drop)]
+#[derive(Clone, Copy)]
 struct Tally {
     packets: usize,
     bytes: usize,
@@ -39,7 +39,7 @@ struct Tally {
 }
 
 // .. and why it stops: 61, 62 or 0.
-#[derive(Drop)]
+#[derive(Clone, Copy)]
 struct Found {
     cause: u32,
     tally: Tally,

@@ -37,7 +37,7 @@ const PORT_AT: usize = 2;
 const LENGTH_AT: usize = 4;
 
 // A record that is skipped has its cause; another one has cause 0, the kind of its entry, and where in the record its data is.
-#[derive(Drop)]
+#[derive(Clone, Copy)]
 pub struct Judged {
     pub cause: u32,
     pub kind: u8,

@@ -26,7 +26,7 @@ const UDP_PROTOCOL: u8 = 17;
 const L2TP_PORT: u16 = 1701;
 
 // From whom to whom the packets of an export go: the addresses of Ethernet, then those of IP.
-#[derive(Drop)]
+#[derive(Clone, Copy)]
 pub struct Addresses {
     pub sender: [u8; 6],
     pub receiver: [u8; 6],

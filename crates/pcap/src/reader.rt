@@ -17,7 +17,7 @@ ghost use Rattle.pcap.specs.Reader.{PermitsBytes, opened, moved};
 use crate::records;
 
 // `at` is the place of the record at hand, and `little` says in which byte order the file's numbers are.
-#[derive(Drop)]
+#[derive(Clone, Copy)]
 pub struct Reader<'a> {
     pub file: &'a [u8],
     pub at: usize,

@@ -63,7 +63,6 @@ unique_segment kind transport slice k = (
   record {
     outcome = record {
       ref_ptr = (slice.ref_ptr.0, slice.ref_ptr.1 + (packet.segment_extent kind (packet_by transport slice.now) k).start);
-      ghost_name = slice.name;
       now = packet.segment_given kind (packet_by transport slice.now) k;
     };
     permitted = packet-laws.segment_permitted kind transport slice k;

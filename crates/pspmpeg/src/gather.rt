@@ -16,14 +16,14 @@ use table::Table;
 pub const MOST_GATHERED: usize = card::MOST_FRAMES * capture::MOST_ENTRIES;
 
 // How many frames have been gathered, and how many bytes they have together.
-#[derive(Drop)]
+#[derive(Clone, Copy)]
 pub struct Gathered {
     pub count: usize,
     pub bytes: usize,
 }
 
 // Where the run stands, and what has been gathered up to there.
-#[derive(Drop)]
+#[derive(Clone, Copy)]
 struct Stage {
     walk: Walk,
     gathered: Gathered,

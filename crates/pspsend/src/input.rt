@@ -8,7 +8,7 @@ ghost use Rattle.pspsend.specs.Input.{Takes};
 pub const MOST: usize = sender::MOST_FRAMES + 1;
 
 // How many frames a file has, and how many bytes they have together.
-#[derive(Drop)]
+#[derive(Clone, Copy)]
 pub struct Taken {
     pub count: usize,
     pub bytes: usize,

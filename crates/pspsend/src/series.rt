@@ -19,7 +19,7 @@ pub const CONTENTS_ROOM: usize = capture::HEAD_LENGTH
 const PACKET_ROOM: usize = sender::GREATEST_LIMIT + header::ID_LENGTH;
 
 // What was made: 0 or the number of a refusal, and how many bytes of the contents and of the bodies are the file.
-#[derive(Drop)]
+#[derive(Clone, Copy)]
 pub struct Made {
     pub code: u32,
     pub contents: usize,
@@ -27,7 +27,7 @@ pub struct Made {
 }
 
 // Where a series stands: what its last call answered, the next position and number, and what is written.
-#[derive(Drop)]
+#[derive(Clone, Copy)]
 struct Series {
     code: u32,
     position: Position,

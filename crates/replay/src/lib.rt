@@ -13,7 +13,7 @@ use card::Received;
 use table::Table;
 
 // Where a run stands: before entry `index`, whose body starts at `start`, with the table as it is there.
-#[derive(Drop)]
+#[derive(Clone, Copy)]
 pub struct Walk {
     pub index: usize,
     pub start: usize,
@@ -21,7 +21,7 @@ pub struct Walk {
 }
 
 // What a step answers: the entry's kind, what its call answered, and where the run stands afterwards.
-#[derive(Drop)]
+#[derive(Clone, Copy)]
 pub struct Stepped {
     pub kind: u8,
     pub answer: Received,

@@ -37,7 +37,7 @@ const ENTRIES_AT: usize = header::ID_LENGTH + header::HEADER_LENGTH;
 
 // The next byte to send is byte `offset` of frame `frame`, both counted from 0. Behind the last frame it is (count, 0).
 #[repr(C)] // it crosses to the host program as it is
-#[derive(Drop)]
+#[derive(Clone, Copy)]
 pub struct Position {
     pub frame: usize,
     pub offset: usize,
@@ -46,7 +46,7 @@ pub struct Position {
 // What a call answers: 0 or the refusal's number, the packet's length, the next position and the next sequence number. Refused: length
 // 0, and the position and the number that were given.
 #[repr(C)] // it crosses to the host program as it is
-#[derive(Drop)]
+#[derive(Clone, Copy)]
 pub struct Sent {
     pub code: u32,
     pub length: usize,
@@ -55,7 +55,7 @@ pub struct Sent {
 }
 
 // How far the cut has come: the room that is left, the position, and the segments placed with their bytes.
-#[derive(Drop)]
+#[derive(Clone, Copy)]
 struct Progress {
     room: usize,
     position: Position,
@@ -64,7 +64,7 @@ struct Progress {
 }
 
 // What the first lengths say: how long their frames are together, and whether one of them is no frame's length.
-#[derive(Drop)]
+#[derive(Clone, Copy)]
 struct Surveyed {
     total: usize,
     bad: bool,

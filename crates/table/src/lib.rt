@@ -22,7 +22,7 @@ const PSP: u32 = packet::KIND_PSP;
 const DMPT: u32 = packet::KIND_DMPT;
 
 #[repr(C)] // it crosses to the host program as it is, and so does the table
-#[derive(Drop)]
+#[derive(Clone, Copy)]
 pub struct Row {
     pub id: u32,
     pub kind: u32,
@@ -30,27 +30,27 @@ pub struct Row {
 }
 
 #[repr(C)]
-#[derive(Drop)]
+#[derive(Clone, Copy)]
 pub struct Table {
     pub rows: [Row; ROWS],
 }
 
 // The kind of a session.
-#[derive(Drop)]
+#[derive(Clone, Copy)]
 pub enum Kind {
     Psp,
     Dmpt,
 }
 
 // What an open asks for. A `Kind` is PSP or D-MPT, so that nothing else can be asked for.
-#[derive(Drop)]
+#[derive(Clone, Copy)]
 pub struct Request {
     pub id: u32,
     pub kind: Kind,
 }
 
 // The terms of a session: what decides how its packets are read and joined.
-#[derive(Drop)]
+#[derive(Clone, Copy)]
 pub struct Terms {
     pub kind: Kind,
     pub longest: u16,
@@ -58,7 +58,7 @@ pub struct Terms {
 
 // What an open answers: 0 or the refusal's number, and the table afterwards.
 #[repr(C)]
-#[derive(Drop)]
+#[derive(Clone, Copy)]
 pub struct Opening {
     pub code: u32,
     pub table: Table,
@@ -66,7 +66,7 @@ pub struct Opening {
 
 // What a close answers: 0 or the refusal's number, the held bytes that it dropped, and the table afterwards.
 #[repr(C)]
-#[derive(Drop)]
+#[derive(Clone, Copy)]
 pub struct Closing {
     pub code: u32,
     pub dropped: u32,

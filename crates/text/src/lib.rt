@@ -1,5 +1,7 @@
 // Text written into a slice: words, numbers in decimal, bytes in hexadecimal. Each function writes at a place and answers the place behind
 // what it wrote; nothing else of the slice changes. Only proved code calls them, so each asks that there is room.
+#![tactic(auto)]
+
 ghost use Rattle.std.specs.Prelude.{◌≡◌, ◌+◌, ◌*◌, ◌<◌, ◌≤◌, ◌∷◌, [], length};
 ghost use Rattle.octets.specs.Stretch.{part};
 ghost use Rattle.text.specs.Text.{decimal, most_digits, hex_digit, hex, column, Wrote};

@@ -8,7 +8,7 @@ use crate::number;
 use crate::number::{Given, HEXADECIMAL, NO_DIGIT};
 
 // An address of Ethernet, or none.
-#[derive(Drop)]
+#[derive(Clone, Copy)]
 pub struct GivenMac {
     pub good: bool,
     pub bytes: [u8; MAC_GROUPS],

@@ -4,7 +4,7 @@ ghost use Rattle.octets.specs.Stretch.{rest};
 ghost use Rattle.tool.specs.Number.{digit_of, is_hexadecimal, said_by, said};
 
 // A number, or none.
-#[derive(Drop)]
+#[derive(Clone, Copy)]
 pub struct Given {
     pub good: bool,
     pub value: usize,

@@ -17,7 +17,7 @@ use replay::Walk;
 pub const ENTRY_ROOM: usize = listing::LINE_ROOM + frames::FRAMES_ROOM + rows::ROWS_ROOM;
 
 // What tracing an entry answers: the place behind its text, and where the run stands afterwards.
-#[derive(Drop)]
+#[derive(Clone, Copy)]
 pub struct Traced {
     pub next: usize,
     pub walk: Walk,

@@ -1,5 +1,7 @@
 // The MPEG transport packet (ISO/IEC 13818-1, section 2.4.3.2): for each field of its header what is read and what is written, and the null
 // packet. What travels in a packet is nothing to this crate. Where a function asks for something, only proved code calls it.
+#![tactic(auto)]
+
 ghost use Rattle.std.specs.Prelude.{◌≡◌, ◌+◌, ◌-◌, ◌<◌, ◌≤◌, length};
 ghost use Rattle.octets.specs.Stretch.{part, put};
 ghost use Rattle.octets.specs.Tests.{same};
@@ -39,7 +41,7 @@ pub const FILL_BYTE: u8 = 0xFF;
 
 // A whole packet, as it crosses to C: C returns no array, but a struct that has one.
 #[repr(C)]
-#[derive(Drop)]
+#[derive(Clone, Copy)]
 pub struct MpegPacket {
     pub bytes: [u8; MPEG_LENGTH],
 }

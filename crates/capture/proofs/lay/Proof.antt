@@ -10,34 +10,34 @@ use Rattle.capture.proofs.lay.Statement.{statement}
 use Rattle.capture.proofs.lay.Tie as tie
 
 -- back to where the four bytes were written, and to the start
-abbrev written : tie.After-copy → tie.After-write-content
+abbrev written : tie.After-copy → tie.After-write_content
 written c = c.before.before.before.before.before
 
-abbrev start : tie.After-write-content → tie.Start
+abbrev start : tie.After-write_content → tie.Start
 start c = c.before.before.before.before
 
-write-content-requires : tie.Need-write-content-requires
+write-content-requires : tie.Need-write_content-requires
 write-content-requires c κs = search rules
 
-mul-behind : tie.Need-overflow-mul-behind
+mul-behind : tie.Need-overflow_mul-behind
 mul-behind c = search rules
 
-add-behind : tie.Need-overflow-add-behind
+add-behind : tie.Need-overflow_add-behind
 add-behind c = search rules
 
-add-behind-2 : tie.Need-overflow-add-behind-2
+add-behind-2 : tie.Need-overflow_add-behind-2
 add-behind-2 c = search rules
 
 copy-requires : tie.Need-copy-requires
 copy-requires c κs = search rules
 
-add-t12 : tie.Need-overflow-add-t12
+add-t12 : tie.Need-overflow_add-result
 add-t12 c = search rules
 
-add-t11 : tie.Need-overflow-add-t11
+add-t11 : tie.Need-overflow_add-result-2
 add-t11 c = search rules
 
-same_length : tie.Need-same-length
+same_length : tie.Need-shape_of-file
 same_length c = search rules
 
 returns : tie.Need-returns
@@ -45,15 +45,15 @@ returns c =
     let copied = c.before.before.before.before in
     let a = (start (written copied)).args in
     let behind = bodies_from a.count + a.writer.bytes in
-    let stood = (written copied).write-content.new.0 in (
+    let stood = (written copied).write_content.new.contents in (
       refl,
       copied.copy.ensures
           ∙ ap (put stood behind) (part_all a.body.now)
-          ∙ ap (λ (l : List ℕ). put l behind a.body.now) (written copied).write-content.ensures,
+          ∙ ap (λ (l : List ℕ). put l behind a.body.now) (written copied).write_content.ensures,
     )
 
-pub lay-spec : {M : Type 1} → statement M
-lay-spec =
+pub lay_spec : {M : Type 1} → statement M
+lay_spec =
     tie.close
     (tie.spec
     write-content-requires

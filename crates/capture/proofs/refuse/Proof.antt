@@ -5,21 +5,21 @@ use borrow.Author.Rules.{rules}
 use Rattle.capture.proofs.refuse.Statement.{statement}
 use Rattle.capture.proofs.refuse.Tie as tie
 
-file-length-requires : tie.Need-file-length-requires
+file-length-requires : tie.Need-file_length-requires
 file-length-requires c κs = search rules
 
-returns : tie.Need-returns
-returns c = too_long c.before.before.args.writer c.before.file_length_lem.result c.before.file_length_lem.ensures c.if1.true
+returns : tie.Need-returns-then-file_length-gt-LONGEST_FILE
+returns c = too_long c.before.before.args.writer c.before.file_length.result c.before.file_length.ensures c.if-file_length-gt-LONGEST_FILE.true
 
-returns-2 : tie.Need-returns-2
+returns-2 : tie.Need-returns-then-writer-gt-MOST_ENTRIES
 returns-2 c =
-    too_many c.before.before.before.before.args.writer c.before.before.before.file_length_lem.result
-    c.before.before.before.file_length_lem.ensures (omega (arith, c.before.before.if1.false)) c.if2.true
+    too_many c.before.before.before.before.args.writer c.before.before.before.file_length.result
+    c.before.before.before.file_length.ensures (omega (arith, c.before.before.if-file_length-gt-LONGEST_FILE.false)) c.if-writer-gt-MOST_ENTRIES.true
 
-returns-3 : tie.Need-returns-3
+returns-3 : tie.Need-returns
 returns-3 c =
-    none-refused c.before.before.before.before.args.writer c.before.before.before.file_length_lem.result
-    c.before.before.before.file_length_lem.ensures (omega (arith, c.before.before.if1.false)) (omega (arith, c.if2.false))
+    none-refused c.before.before.before.before.args.writer c.before.before.before.file_length.result
+    c.before.before.before.file_length.ensures (omega (arith, c.before.before.if-file_length-gt-LONGEST_FILE.false)) (omega (arith, c.if-writer-gt-MOST_ENTRIES.false))
 
-pub refuse-spec : {M : Type 1} → statement M
-refuse-spec = tie.close (tie.spec file-length-requires returns returns-2 returns-3)
+pub refuse_spec : {M : Type 1} → statement M
+refuse_spec = tie.close (tie.spec file-length-requires returns returns-2 returns-3)

@@ -9,24 +9,24 @@ use borrow.Author.Rules.{rules}
 use Rattle.frames.proofs.pack.Statement.{statement}
 use Rattle.frames.proofs.pack.Tie as tie
 
-abbrev invariant-loop : tie.invariant-loop
+abbrev invariant-loop : tie.invariant-loop-k
 invariant-loop bytes lengths file₀ from₀ at₀ k₀ file from at k = Packing file₀ file bytes lengths from at k
 
-abbrev decreases-loop : tie.decreases-loop
+abbrev decreases-loop : tie.decreases-loop-k
 decreases-loop bytes lengths file₀ from₀ at₀ k₀ file from at k = length lengths - k
 
 -- the places of a turn: the loop, its length known, that written, and its bytes copied
 abbrev Loop : Type 0
-Loop = tie.At-loop invariant-loop decreases-loop
+Loop = tie.At-loop-k invariant-loop decreases-loop
 
 abbrev Sized : Type 0
-Sized = tie.After-wide-u16 invariant-loop decreases-loop
+Sized = tie.After-wide_u16-size invariant-loop decreases-loop
 
 abbrev Said : Type 0
-Said = tie.After-slice-known2 invariant-loop decreases-loop
+Said = tie.After-slice_known-in-loop-k-1 invariant-loop decreases-loop
 
 abbrev Copied : Type 0
-Copied = tie.After-slice-known3 invariant-loop decreases-loop
+Copied = tie.After-slice_known-in-loop-k-2-1 invariant-loop decreases-loop
 
 abbrev start : Loop → tie.Start invariant-loop decreases-loop
 start l = l.before.before.before.before
@@ -45,76 +45,76 @@ module _ (z : Sized) where
   abbrev here : Loop
   here = loop z
 
-  in_bytes : here.loop.from + z.wide-u16.result ≤ length (start here).args.bytes.now
+  in_bytes : here.loop-k.from + z.wide_u16-size.result ≤ length (start here).args.bytes.now
   in_bytes =
-      frame-there here.loop.inv (start here).pre.0 (start here).pre.1 z.before.before.loop-test.taken z.wide-u16.result
-      z.wide-u16.ensures.0
+      frame-there here.loop-k.invariant (start here).requires.0 (start here).requires.1 z.before.before.loop-k-test.true z.wide_u16-size.result
+      z.wide_u16-size.ensures.0
 
-  in-file : here.loop.at + length_bytes + z.wide-u16.result ≤ length here.loop.file
+  in-file : here.loop-k.at + length_bytes + z.wide_u16-size.result ≤ length here.loop-k.file
   in-file =
-      frame_room_lem here.loop.inv (start here).pre.0 (start here).pre.1 z.before.before.loop-test.taken z.wide-u16.result
-      z.wide-u16.ensures.0
+      frame_room_lem here.loop-k.invariant (start here).requires.0 (start here).requires.1 z.before.before.loop-k-test.true z.wide_u16-size.result
+      z.wide_u16-size.ensures.0
 
-  as_long : length here.loop.file ≡ length (start here).args.file.now
-  as_long = file_same here.loop.inv (start here).pre.0 (start here).pre.1
+  as_long : length here.loop-k.file ≡ length (start here).args.file.now
+  as_long = file_same here.loop-k.invariant (start here).requires.0 (start here).requires.1
 
-loop-holds : tie.Need-loop-init invariant-loop decreases-loop
+loop-holds : tie.Need-loop-k-init invariant-loop decreases-loop
 loop-holds c = pack_begin _ _ _
 
-mul-wide-u16 : tie.Need-overflow-mul-wide-u16 invariant-loop decreases-loop
+mul-wide-u16 : tie.Need-offset_bounds-lengths-k invariant-loop decreases-loop
 mul-wide-u16 c = search rules
 
-shared-slice-read-wide-u16 : tie.Need-shared-slice-read-wide-u16 invariant-loop decreases-loop
+shared-slice-read-wide-u16 : tie.Need-bounds-lengths-k invariant-loop decreases-loop
 shared-slice-read-wide-u16 c = search rules
 
-wide-u16-requires : tie.Need-wide-u16-requires invariant-loop decreases-loop
+wide-u16-requires : tie.Need-wide_u16-size-requires invariant-loop decreases-loop
 wide-u16-requires c κs = search rules
 
-cast-write-u16 : tie.Need-overflow-cast-write-u16 invariant-loop decreases-loop
+cast-write-u16 : tie.Need-overflow_cast-size invariant-loop decreases-loop
 cast-write-u16 c = search rules
 
-write-u16-requires : tie.Need-write-u16-requires invariant-loop decreases-loop
+write-u16-requires : tie.Need-write_u16-requires invariant-loop decreases-loop
 write-u16-requires c κs = omega (arith, in-file c.before)
 
-add_body : tie.Need-overflow-add-body invariant-loop decreases-loop
-add_body c = omega (arith, in-file (sized c), as_long (sized c), (start (loop (sized c))).good.1.1.0.0)
+add_body : tie.Need-overflow_add-body invariant-loop decreases-loop
+add_body c = omega (arith, in-file (sized c), as_long (sized c), (start (loop (sized c))).well_formed.1.1.0.0)
 
 copy-requires : tie.Need-copy-requires invariant-loop decreases-loop
 copy-requires c κs =
     let w = c.before in
-    (omega (arith, in-file (sized w), w.before.before.write-u16.auto.0), in_bytes (sized w))
+    (omega (arith, in-file (sized w), w.before.before.write_u16.auto.bytes), in_bytes (sized w))
 
-add_at : tie.Need-overflow-add-at invariant-loop decreases-loop
+add_at : tie.Need-overflow_add-at invariant-loop decreases-loop
 add_at c =
     let z = sized (said c) in
-    omega (arith, in-file z, as_long z, (start (loop z)).good.1.1.0.0)
+    omega (arith, in-file z, as_long z, (start (loop z)).well_formed.1.1.0.0)
 
-add-from : tie.Need-overflow-add-from invariant-loop decreases-loop
+add-from : tie.Need-overflow_add-from invariant-loop decreases-loop
 add-from c =
     let z = sized (said c) in
-    omega (arith, in_bytes z, (start (loop z)).good.0.0)
+    omega (arith, in_bytes z, (start (loop z)).well_formed.0.0)
 
-add-k : tie.Need-overflow-add-k invariant-loop decreases-loop
+add-k : tie.Need-overflow_add-k invariant-loop decreases-loop
 add-k c = search rules
 
-loop-less : tie.Need-loop-smaller invariant-loop decreases-loop
+loop-less : tie.Need-loop-k-smaller invariant-loop decreases-loop
 loop-less c = search rules
 
-loop-again : tie.Need-loop-preserved invariant-loop decreases-loop
+loop-again : tie.Need-loop-k-preserved invariant-loop decreases-loop
 loop-again c =
     let z = sized (said c) in
     let l = loop z in
-    pack_turn l.loop.inv (start l).pre.0 (start l).pre.1 z.before.before.loop-test.taken z.wide-u16.result
-    z.wide-u16.ensures.0 _ _ (said c).before.before.write-u16.ensures c.before.before.copy.ensures
+    pack_turn l.loop-k.invariant (start l).requires.0 (start l).requires.1 z.before.before.loop-k-test.true z.wide_u16-size.result
+    z.wide_u16-size.ensures.0 _ _ (said c).before.before.write_u16.ensures c.before.before.copy.ensures
 
-same_length : tie.Need-same-length invariant-loop decreases-loop
-same_length c = let l = c.before in file_same l.loop.invariant (start l).requires.0 (start l).requires.1
+same_length : tie.Need-shape_of-file invariant-loop decreases-loop
+same_length c = let l = c.before in file_same l.loop-k.invariant (start l).requires.0 (start l).requires.1
 
 returns : tie.Need-returns invariant-loop decreases-loop
-returns c = let l = c.before in pack_end l.loop.invariant (start l).requires.0 (start l).requires.1 c.loop-test.false
+returns c = let l = c.before in pack_end l.loop-k.invariant (start l).requires.0 (start l).requires.1 c.loop-k-test.false
 
-pub pack-spec : {M : Type 1} → statement M
-pack-spec =
+pub pack_spec : {M : Type 1} → statement M
+pack_spec =
     tie.close
     (tie.spec
     invariant-loop

@@ -6,23 +6,23 @@ use borrow.Author.Rules.{rules}
 use Rattle.frames.proofs.stands_whole.Statement.{statement}
 use Rattle.frames.proofs.stands_whole.Tie as tie
 
-sub-left : tie.Need-overflow-sub-left
+sub-left : tie.Need-overflow_sub-left
 sub-left c = search rules
 
-returns : tie.Need-returns
-returns c = let s = c.before.before in stands-not s.args.file.now s.args.at s.requires c.if1.true
+returns : tie.Need-returns-then-left-lt-LENGTH_BYTES
+returns c = let s = c.before.before in stands-not s.args.file.now s.args.at s.requires c.if-left-lt-LENGTH_BYTES.true
 
-read-u16-requires : tie.Need-read-u16-requires
+read-u16-requires : tie.Need-read_u16-requires
 read-u16-requires c κs = search rules
 
-wide-u16-requires : tie.Need-wide-u16-requires
+wide-u16-requires : tie.Need-wide_u16-requires
 wide-u16-requires c κs = search rules
 
-returns-2 : tie.Need-returns-2
+returns-2 : tie.Need-returns
 returns-2 c =
     let s = c.before.before.before.before in
-    stands_if s.args.file.now s.args.at s.requires (omega (arith, c.before.before.if1.false)) c.wide-u16.result
-    (c.wide-u16.ensures.0 ∙ c.before.read-u16.ensures)
+    stands_if s.args.file.now s.args.at s.requires (omega (arith, c.before.before.if-left-lt-LENGTH_BYTES.false)) c.wide_u16.result
+    (c.wide_u16.ensures.0 ∙ c.before.read_u16.ensures)
 
-pub stands-whole-spec : {M : Type 1} → statement M
-stands-whole-spec = tie.close (tie.spec sub-left returns read-u16-requires wide-u16-requires returns-2)
+pub stands_whole_spec : {M : Type 1} → statement M
+stands_whole_spec = tie.close (tie.spec sub-left returns read-u16-requires wide-u16-requires returns-2)

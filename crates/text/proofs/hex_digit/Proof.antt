@@ -5,17 +5,17 @@ use borrow.Author.Rules.{rules}
 use Rattle.text.proofs.hex_digit.Statement.{statement}
 use Rattle.text.proofs.hex_digit.Tie as tie
 
-add-result : tie.Need-overflow-add-result
+add-result : tie.Need-overflow_add-result
 add-result c = search rules
 
-add-result-2 : tie.Need-overflow-add-result-2
+add-result-2 : tie.Need-overflow_add-result-else-digit-lt10
 add-result-2 c = search rules
 
-returns : tie.Need-returns
-returns c = rw (lt-ltb c.before.args.digit 10 c.if1.true) refl
+returns : tie.Need-returns-then-digit-lt10
+returns c = rw (lt-ltb c.before.args.digit 10 c.if-digit-lt10.true) refl
 
-returns-2 : tie.Need-returns-2
-returns-2 c = rw (le-ltb c.before.args.digit 10 c.if1.false) refl
+returns-2 : tie.Need-returns-else-digit-lt10
+returns-2 c = rw (le-ltb c.before.args.digit 10 c.if-digit-lt10.false) refl
 
-pub hex-digit-spec : {M : Type 1} → statement M
-hex-digit-spec = tie.close (tie.spec add-result add-result-2 returns returns-2)
+pub hex_digit_spec : {M : Type 1} → statement M
+hex_digit_spec = tie.close (tie.spec add-result add-result-2 returns returns-2)

@@ -7,10 +7,10 @@ use Rattle.text.proofs.write_words.Tie as tie
 copy-requires : tie.Need-copy-requires
 copy-requires c κs = search rules
 
-add-result : tie.Need-overflow-add-result
+add-result : tie.Need-overflow_add-result
 add-result c = search rules
 
-same_length : tie.Need-same-length
+same_length : tie.Need-shape_of-text
 same_length c = search rules
 
 returns : tie.Need-returns
@@ -18,5 +18,5 @@ returns c =
     wrote_copy _ _ c.before.before.before.before.before.before.args.words.now _
     c.before.before.before.before.before.before.requires c.before.before.copy.ensures
 
-pub write-words-spec : {M : Type 1} → statement M
-write-words-spec = tie.close (tie.spec copy-requires add-result same_length returns)
+pub write_words_spec : {M : Type 1} → statement M
+write_words_spec = tie.close (tie.spec copy-requires add-result same_length returns)

@@ -6,5 +6,5 @@ use Rattle.capture.proofs.reader.wrong_parts.Tie as tie
 returns : tie.Need-returns
 returns c = parts_wrong c.args.kind c.args.second c.args.size
 
-pub wrong-parts-spec : {M : Type 1} → statement M
-wrong-parts-spec = tie.close (tie.spec returns)
+pub wrong_parts_spec : {M : Type 1} → statement M
+wrong_parts_spec = tie.close (tie.spec returns)
