@@ -3,6 +3,8 @@
 //
 // Most functions of `header`, `psp` and `dmpt` read what stands behind the session ID, `sub`, and ask that it is long enough: only
 // proved code calls them. The four functions of this file ask nothing.
+#![tactic(auto)]
+
 pub mod dmpt;
 pub mod header;
 pub mod psp;

@@ -17,31 +17,31 @@ use Rattle.packet.proofs.segment.Tie as tie
 abbrev packet : tie.Start → Packet
 packet s = packet_by s.args.transport s.args.packet.now
 
-inside : (c : tie.After-segment-extent) →
-    c.segment-extent.result.start + c.segment-extent.result.size ≤ length c.before.before.args.packet.now
-inside c = let s = c.before.before in rw c.segment-extent.ensures (extent_inside s.args.kind (packet s) s.args.k)
+inside : (c : tie.After-segment_extent-extent) →
+    c.segment_extent-extent.result.start + c.segment_extent-extent.result.size ≤ length c.before.before.args.packet.now
+inside c = let s = c.before.before in rw c.segment_extent-extent.ensures (extent_inside s.args.kind (packet s) s.args.k)
 
-segment-extent-requires : tie.Need-segment-extent-requires
+segment-extent-requires : tie.Need-segment_extent-extent-requires
 segment-extent-requires c κs = search rules
 
-add-end : tie.Need-overflow-add-end
+add-end : tie.Need-overflow_add-end
 add-end c = omega (arith, inside c.before)
 
-sub-result : tie.Need-overflow-sub-result
+sub-result : tie.Need-slice_bounds-result-count
 sub-result c = search rules
 
-part-result-start : tie.Need-slice-bounds-result-start
+part-result-start : tie.Need-slice_bounds-result-start
 part-result-start c = search rules
 
-part-result-end : tie.Need-slice-bounds-result-end
+part-result-end : tie.Need-slice_bounds-result-end
 part-result-end c = inside c.before
 
 returns : tie.Need-returns
 unfolding segment_given
 returns c =
     let bytes = c.before.before.before.before.args.packet.now in
-    let e = c.before.before.segment-extent.result in
-    let found = c.before.before.segment-extent.ensures in
+    let e = c.before.before.segment_extent-extent.result in
+    let found = c.before.before.segment_extent-extent.ensures in
     record {
       in_the_packet = refl;
       at_its_place = rw (sym found) (omega arith);
@@ -50,7 +50,7 @@ returns c =
           ∙ ap (λ (x : Extent). part bytes x.start x.size) found;
     }
 
-pub segment-spec : {M : Type 1} → statement M
-segment-spec =
+pub segment_spec : {M : Type 1} → statement M
+segment_spec =
     tie.close
     (tie.spec segment-extent-requires add-end sub-result part-result-start part-result-end returns)

@@ -15,57 +15,57 @@ abbrev packet : tie.Start → Packet
 packet s = packet_by s.args.transport s.args.packet.now
 
 -- from where the check has answered, and where the segments are counted, back to the start
-abbrev start : tie.After-check → tie.Start
+abbrev start : tie.After-check-refused → tie.Start
 start w = w.before.before.before
 
-abbrev checked : tie.After-segment-count → tie.After-check
+abbrev checked : tie.After-segment_count → tie.After-check-refused
 checked n = n.before.before.before
 
-passed : (e : tie.Else2) → EarlyPassed (packet (start e.before))
+passed : (e : tie.Else-refused-ne-NONE) → EarlyPassed (packet (start e.before))
 passed e =
     let w = e.before in
-    let as_psp = ap (λ (n : ℕ). check n (packet (start w))) w.before.if1.false in
-    (check-passed (packet (start w)) (sym as_psp ∙ sym w.check.ensures ∙ e.if2.false)).0
+    let as_psp = ap (λ (n : ℕ). check n (packet (start w))) w.before.if-kind-ne-KIND_PSP.false in
+    (check-passed (packet (start w)) (sym as_psp ∙ sym w.check-refused.ensures ∙ e.if-refused-ne-NONE.false)).0
 
-counted : (n : tie.After-segment-count) → n.segment-count.result ≡ segment_count (sub (packet (start (checked n))))
-counted n = n.segment-count.ensures.0 ∙ ap segment_count n.before.sub_of.ensures
+counted : (n : tie.After-segment_count) → n.segment_count.result ≡ segment_count (sub (packet (start (checked n))))
+counted n = n.segment_count.ensures.0 ∙ ap segment_count n.before.sub_of-sub.ensures
 
-returns : tie.Need-returns
-returns c = let s = c.before.before in cause_segmentless s.args.kind (packet s) s.args.k c.if1.true
+returns : tie.Need-returns-then-kind-ne-KIND_PSP
+returns c = let s = c.before.before in cause_segmentless s.args.kind (packet s) s.args.k c.if-kind-ne-KIND_PSP.true
 
-check-requires : tie.Need-check-requires
+check-requires : tie.Need-check-refused-requires
 check-requires c κs = search rules
 
-returns-2 : tie.Need-returns-2
+returns-2 : tie.Need-returns-then-refused-ne-NONE
 returns-2 c =
     let w = c.before in
     let s = start w in
-    cause_stopped s.args.kind (packet s) s.args.k w.before.if1.false _ w.check.ensures c.if2.true
+    cause_stopped s.args.kind (packet s) s.args.k w.before.if-kind-ne-KIND_PSP.false _ w.check-refused.ensures c.if-refused-ne-NONE.true
 
-sub-of-requires : tie.Need-sub-of-requires
+sub-of-requires : tie.Need-sub_of-sub-requires
 sub-of-requires c κs = omega (arith, (passed c).not_short)
 
-segment-count-requires : tie.Need-segment-count-requires
-segment-count-requires c κs = rw c.sub_of.ensures (sub-whole (packet (start c.before.before)) (passed c.before).not_short)
+segment-count-requires : tie.Need-segment_count-requires
+segment-count-requires c κs = rw c.sub_of-sub.ensures (sub-whole (packet (start c.before.before)) (passed c.before).not_short)
 
-returns-3 : tie.Need-returns-3
+returns-3 : tie.Need-returns-then-segment_count-k
 returns-3 c =
     let n = c.before in
     let w = checked n in
     let s = start w in
-    cause_outside s.args.kind (packet s) s.args.k w.before.if1.left _ w.check.ensures n.before.before.if2.false
-    (omega (arith, counted n, c.if3.true))
+    cause_outside s.args.kind (packet s) s.args.k w.before.if-kind-ne-KIND_PSP.false _ w.check-refused.ensures n.before.before.if-refused-ne-NONE.false
+    (omega (arith, counted n, c.if-segment_count-k.true))
 
-returns-4 : tie.Need-returns-4
+returns-4 : tie.Need-returns
 returns-4 c =
     let n = c.before in
     let w = checked n in
     let s = start w in
-    cause_none s.args.kind (packet s) s.args.k w.before.if1.left _ w.check.ensures n.before.before.if2.false
-    (omega (arith, counted n, c.if3.false))
+    cause_none s.args.kind (packet s) s.args.k w.before.if-kind-ne-KIND_PSP.false _ w.check-refused.ensures n.before.before.if-refused-ne-NONE.false
+    (omega (arith, counted n, c.if-segment_count-k.false))
 
-pub segment-cause-spec : {M : Type 1} → statement M
-segment-cause-spec =
+pub segment_cause_spec : {M : Type 1} → statement M
+segment_cause_spec =
     tie.close
     (tie.spec
     returns

@@ -16,58 +16,58 @@ abbrev packet : tie.Start → Packet
 packet s = packet_by s.args.transport s.args.packet.now
 
 -- from where the request is allowed back to the start
-abbrev start : tie.Else1 → tie.Start
+abbrev start : tie.Else-segment_cause-ne-NONE → tie.Start
 start e = e.before.before.before
 
-allowed : (e : tie.Else1) → segment_cause (start e).args.kind (packet (start e)) (start e).args.k ≡ 0
-allowed e = sym e.before.segment-cause.ensures ∙ e.if1.false
+allowed : (e : tie.Else-segment_cause-ne-NONE) → segment_cause (start e).args.kind (packet (start e)) (start e).args.k ≡ 0
+allowed e = sym e.before.segment_cause.ensures ∙ e.if-segment_cause-ne-NONE.false
 
 -- what is known of the slice that was cut
-facts : (b : tie.After-sub-of) → Given (packet (start b.before)) b.sub_of.result.now (start b.before).args.k
-facts b = let s = start b.before in given_facts s.args.kind (packet s) _ s.args.k (allowed b.before) b.sub_of.ensures
+facts : (b : tie.After-sub_of-sub) → Given (packet (start b.before)) b.sub_of-sub.result.now (start b.before).args.k
+facts b = let s = start b.before in given_facts s.args.kind (packet s) _ s.args.k (allowed b.before) b.sub_of-sub.ensures
 
-segment-cause-requires : tie.Need-segment-cause-requires
+segment-cause-requires : tie.Need-segment_cause-requires
 segment-cause-requires c κs = search rules
 
-returns : tie.Need-returns
+returns : tie.Need-returns-then-segment_cause-ne-NONE
 returns c =
     let s = c.before.before.before in
-    sym (extent_refused s.args.kind (packet s) s.args.k (λ z. c.if1.true (c.before.segment-cause.ensures ∙ z)))
+    sym (extent_refused s.args.kind (packet s) s.args.k (λ z. c.if-segment_cause-ne-NONE.true (c.before.segment_cause.ensures ∙ z)))
 
-sub-of-requires : tie.Need-sub-of-requires
+sub-of-requires : tie.Need-sub_of-sub-requires
 sub-of-requires c κs = let s = start c in (given_facts s.args.kind (packet s) _ s.args.k (allowed c) refl).long
 
-lead-of-requires : tie.Need-lead-of-requires
+lead-of-requires : tie.Need-lead_of-before-requires
 lead-of-requires c κs = search rules
 
-add-before : tie.Need-overflow-add-before
+add-before : tie.Need-overflow_add-before
 add-before c = search rules
 
-body-place-requires : tie.Need-body-place-requires
+body-place-requires : tie.Need-body_place-requires
 body-place-requires c κs =
     let g = facts c.before in
     ((omega arith, omega arith, omega (arith, g.among)), g.entries)
 
-add_start : tie.Need-overflow-add-start
-add_start c = omega (arith, c.body-place.ensures, c.before.lead-of.ensures.0, (facts c.before.before).body)
+add_start : tie.Need-overflow_add-start
+add_start c = omega (arith, c.body_place.ensures, c.before.lead_of-before.ensures.0, (facts c.before.before).body)
 
 entry-requires : tie.Need-entry-requires
 entry-requires c κs = (facts c.before.before).entry
 
-length-of-requires : tie.Need-length-of-requires
+length-of-requires : tie.Need-length_of-size-requires
 length-of-requires c κs = search rules
 
-returns-2 : tie.Need-returns-2
+returns-2 : tie.Need-returns
 returns-2 c =
     let led = c.before.before.before in
     let b = led.before in
     let s = start b.before in
-    extent_found s.args.kind (packet s) _ s.args.k (allowed b.before) b.sub_of.ensures _ _ _
-    (ap (λ (n : ℕ). n + id_length) led.lead-of.ensures.0) c.before.before.body-place.ensures
-    (c.length-of.ensures.0 ∙ ap length_in c.before.entry.ensures)
+    extent_found s.args.kind (packet s) _ s.args.k (allowed b.before) b.sub_of-sub.ensures _ _ _
+    (ap (λ (n : ℕ). n + id_length) led.lead_of-before.ensures.0) c.before.before.body_place.ensures
+    (c.length_of-size.ensures.0 ∙ ap length_in c.before.entry.ensures)
 
-pub segment-extent-spec : {M : Type 1} → statement M
-segment-extent-spec =
+pub segment_extent_spec : {M : Type 1} → statement M
+segment_extent_spec =
     tie.close
     (tie.spec
     segment-cause-requires

@@ -12,40 +12,40 @@ use borrow.Author.Rules.{rules}
 use Rattle.packet.proofs.dmpt.any_unsynced.Statement.{statement}
 use Rattle.packet.proofs.dmpt.any_unsynced.Tie as tie
 
-abbrev invariant-loop : tie.invariant-loop
+abbrev invariant-loop : tie.invariant-loop-k
 invariant-loop sub n unsynced₀ k₀ unsynced k = Gathered unsynced₀ (λ i. not (eqb (byte_at (mpeg_at sub i) 0) sync_byte)) n unsynced k
 
-abbrev decreases-loop : tie.decreases-loop
+abbrev decreases-loop : tie.decreases-loop-k
 decreases-loop sub n unsynced₀ k₀ unsynced k = n - k
 
-loop-holds : tie.Need-loop-init invariant-loop decreases-loop
+loop-holds : tie.Need-loop-k-init invariant-loop decreases-loop
 loop-holds c = gather_begin _ _ _
 
-mul-unsynced : tie.Need-overflow-mul-unsynced invariant-loop decreases-loop
+mul-unsynced : tie.Need-overflow_mul-unsynced invariant-loop decreases-loop
 mul-unsynced c = search rules
 
-add-unsynced : tie.Need-overflow-add-unsynced invariant-loop decreases-loop
+add-unsynced : tie.Need-overflow_add-unsynced invariant-loop decreases-loop
 add-unsynced c = search rules
 
-shared-slice-read-unsynced : tie.Need-shared-slice-read-unsynced invariant-loop decreases-loop
+shared-slice-read-unsynced : tie.Need-bounds-sub-k invariant-loop decreases-loop
 shared-slice-read-unsynced c = search rules
 
-add-k : tie.Need-overflow-add-k invariant-loop decreases-loop
+add-k : tie.Need-overflow_add-k invariant-loop decreases-loop
 add-k c = search rules
 
-loop-less : tie.Need-loop-smaller invariant-loop decreases-loop
+loop-less : tie.Need-loop-k-smaller invariant-loop decreases-loop
 loop-less c = search rules
 
-loop-again : tie.Need-loop-preserved invariant-loop decreases-loop
+loop-again : tie.Need-loop-k-preserved invariant-loop decreases-loop
 loop-again c =
-    gather_turn c.before.before.loop.invariant c.before.loop-test.true
-    (ap (λ (b : ℕ). not (eqb b sync_byte)) (sym (mpeg_first c.before.before.before.args.sub.now c.before.before.loop.k)))
+    gather_turn c.before.before.loop-k.invariant c.before.loop-k-test.true
+    (ap (λ (b : ℕ). not (eqb b sync_byte)) (sym (mpeg_first c.before.before.before.args.sub.now c.before.before.loop-k.k)))
 
 returns : tie.Need-returns invariant-loop decreases-loop
-returns c = gather_end c.before.loop.invariant c.loop-test.false
+returns c = gather_end c.before.loop-k.invariant c.loop-k-test.false
 
-pub any-unsynced-spec : {M : Type 1} → statement M
-any-unsynced-spec =
+pub any_unsynced_spec : {M : Type 1} → statement M
+any_unsynced_spec =
     tie.close
     (tie.spec
     invariant-loop

@@ -4,43 +4,43 @@ use borrow.Author.Rules.{rules}
 use Rattle.packet.proofs.dmpt.refuse_mpegs.Statement.{statement}
 use Rattle.packet.proofs.dmpt.refuse_mpegs.Tie as tie
 
-sub-carried : tie.Need-overflow-sub-carried
+sub-carried : tie.Need-overflow_sub-carried
 sub-carried c = search rules
 
-returns : tie.Need-returns
-returns c = simp (eq-eqb _ _ c.if1.true)
+returns : tie.Need-returns-then-carried-eq0
+returns c = simp (eq-eqb _ _ c.if-carried-eq0.true)
 
-returns-2 : tie.Need-returns-2
-returns-2 c = simp (ne_eqb _ _ c.before.if1.false, ne_eqb _ _ c.if2.true)
+returns-2 : tie.Need-returns-then-carried-ne0
+returns-2 c = simp (ne_eqb _ _ c.before.if-carried-eq0.false, ne_eqb _ _ c.if-carried-ne0.true)
 
-mpeg-count-requires : tie.Need-mpeg-count-requires
+mpeg-count-requires : tie.Need-mpeg_count-requires
 mpeg-count-requires c κs = search rules
 
-any-unsynced-requires : tie.Need-any-unsynced-requires
+any-unsynced-requires : tie.Need-any_unsynced-requires
 any-unsynced-requires c κs = search rules
 
-returns-3 : tie.Need-returns-3
+returns-3 : tie.Need-returns-then-any_unsynced
 returns-3 c =
     simp (
-      ne_eqb _ _ c.before.before.before.before.if1.false,
-      eq-eqb _ _ c.before.before.before.if2.false,
-      ← c.before.before.mpeg-count.ensures,
-      ← c.before.any-unsynced.ensures,
-      c.if3.true,
+      ne_eqb _ _ c.before.before.before.before.if-carried-eq0.false,
+      eq-eqb _ _ c.before.before.before.if-carried-ne0.false,
+      ← c.before.before.mpeg_count.ensures,
+      ← c.before.any_unsynced.ensures,
+      c.if-any_unsynced.true,
     )
 
-returns-4 : tie.Need-returns-4
+returns-4 : tie.Need-returns
 returns-4 c =
     simp (
-      ne_eqb _ _ c.before.before.before.before.if1.false,
-      eq-eqb _ _ c.before.before.before.if2.false,
-      ← c.before.before.mpeg-count.ensures,
-      ← c.before.any-unsynced.ensures,
-      c.if3.false,
+      ne_eqb _ _ c.before.before.before.before.if-carried-eq0.false,
+      eq-eqb _ _ c.before.before.before.if-carried-ne0.false,
+      ← c.before.before.mpeg_count.ensures,
+      ← c.before.any_unsynced.ensures,
+      c.if-any_unsynced.false,
     )
 
-pub refuse-mpegs-spec : {M : Type 1} → statement M
-refuse-mpegs-spec =
+pub refuse_mpegs_spec : {M : Type 1} → statement M
+refuse_mpegs_spec =
     tie.close
     (tie.spec
     sub-carried

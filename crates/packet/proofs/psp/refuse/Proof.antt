@@ -4,39 +4,39 @@ use borrow.Author.Rules.{rules}
 use Rattle.packet.proofs.psp.refuse.Statement.{statement}
 use Rattle.packet.proofs.psp.refuse.Tie as tie
 
-not-plain-requires : tie.Need-not-plain-requires
+not-plain-requires : tie.Need-not_plain-requires
 not-plain-requires c κs = search rules
 
-returns : tie.Need-returns
-returns c = simp (← c.before.not_plain.ensures, c.if1.true)
+returns : tie.Need-returns-then-not_plain
+returns c = simp (← c.before.not_plain.ensures, c.if-not_plain.true)
 
-flow-id-requires : tie.Need-flow-id-requires
+flow-id-requires : tie.Need-flow_id-requires
 flow-id-requires c κs = search rules
 
-returns-2 : tie.Need-returns-2
+returns-2 : tie.Need-returns-then-flow_id-gt-TOP
 returns-2 c =
     simp (
       ← c.before.before.before.not_plain.ensures,
-      c.before.before.if1.false,
-      ← c.before.flow-id.ensures.0,
-      lt-ltb _ _ c.if2.true,
+      c.before.before.if-not_plain.false,
+      ← c.before.flow_id.ensures.0,
+      lt-ltb _ _ c.if-flow_id-gt-TOP.true,
     )
 
-refuse-segments-requires : tie.Need-refuse-segments-requires
+refuse-segments-requires : tie.Need-refuse_segments-requires
 refuse-segments-requires c κs = search rules
 
-returns-3 : tie.Need-returns-3
+returns-3 : tie.Need-returns
 returns-3 c =
     simp (
       ← c.before.before.before.before.not_plain.ensures,
-      c.before.before.before.if1.false,
-      ← c.before.before.flow-id.ensures.0,
-      le-ltb _ _ c.before.if2.false,
+      c.before.before.before.if-not_plain.false,
+      ← c.before.before.flow_id.ensures.0,
+      le-ltb _ _ c.before.if-flow_id-gt-TOP.false,
     )
-    c.refuse-segments.ensures
+    c.refuse_segments.ensures
 
-pub refuse-spec : {M : Type 1} → statement M
-refuse-spec =
+pub refuse_spec : {M : Type 1} → statement M
+refuse_spec =
     tie.close
     (tie.spec
     not-plain-requires

@@ -7,69 +7,69 @@ use Rattle.packet.proofs.psp.refuse_segments.Statement.{statement}
 use Rattle.packet.proofs.psp.refuse_segments.Tie as tie
 
 -- from the survey back to where there are segments, and from there to the start
-abbrev start : tie.Else1 → tie.Start
+abbrev start : tie.Else-count-eq0 → tie.Start
 start some = some.before.before.before
 
-abbrev some : tie.After-survey → tie.Else1
+abbrev some : tie.After-survey-surveyed → tie.Else-count-eq0
 some table = table.before.before
 
-segment-count-requires : tie.Need-segment-count-requires
+segment-count-requires : tie.Need-segment_count-count-requires
 segment-count-requires c κs = search rules
 
-returns : tie.Need-returns
+returns : tie.Need-returns-then-count-eq0
 returns c =
     let a = c.before.before.before.args in
-    segments-none a.width a.sub.now _ c.before.segment-count.ensures.0 c.if1.true
+    segments-none a.width a.sub.now _ c.before.segment_count-count.ensures.0 c.if-count-eq0.true
 
-mul-bodies : tie.Need-overflow-mul-bodies
+mul-bodies : tie.Need-overflow_mul-bodies
 mul-bodies c =
     let s = start c in
-    omega (arith, table-small s.args.width c.before.segment-count.result s.pre.1 c.before.segment-count.ensures.1)
+    omega (arith, table-small s.args.width c.before.segment_count-count.result s.requires.1 c.before.segment_count-count.ensures.1)
 
-add-bodies : tie.Need-overflow-add-bodies
+add-bodies : tie.Need-overflow_add-bodies
 add-bodies c =
     let s = start c in
-    omega (arith, table-small s.args.width c.before.segment-count.result s.pre.1 c.before.segment-count.ensures.1)
+    omega (arith, table-small s.args.width c.before.segment_count-count.result s.requires.1 c.before.segment_count-count.ensures.1)
 
-returns-2 : tie.Need-returns-2
+returns-2 : tie.Need-returns-then-sub-bodies
 returns-2 c =
     let a = c.before.before.before.before.args in
-    segments-cut a.width a.sub.now _ c.before.before.segment-count.ensures.0 c.before.if1.false c.if2.true
+    segments-cut a.width a.sub.now _ c.before.before.segment_count-count.ensures.0 c.before.if-count-eq0.false c.if-sub-bodies.true
 
-survey-requires : tie.Need-survey-requires
+survey-requires : tie.Need-survey-surveyed-requires
 survey-requires c κs = search rules
 
-add-if3 : tie.Need-overflow-add-if3
+add-if3 : tie.Need-overflow_add-bodies-2
 add-if3 c = search rules
 
-returns-3 : tie.Need-returns-3
+returns-3 : tie.Need-returns-then-bodies-surveyed
 returns-3 c =
     let t = c.before.before in
     let s = some t in
     let a = (start s).args in
-    segments_misfit a.width a.sub.now _ s.before.segment-count.ensures.0 s.if1.left _ t.survey.ensures.0
-    c.if3.true
+    segments_misfit a.width a.sub.now _ s.before.segment_count-count.ensures.0 s.if-count-eq0.false _ t.survey-surveyed.ensures.0
+    c.if-bodies-surveyed.true
 
-returns-4 : tie.Need-returns-4
+returns-4 : tie.Need-returns-then-surveyed
 returns-4 c =
     let t = c.before.before.before in
     let s = some t in
     let a = (start s).args in
-    let table = t.survey.ensures in
-    segments-spoilt a.width a.sub.now _ s.before.segment-count.ensures.0 s.if1.left _ table.0 c.before.if3.false _
-    table.1.0 c.if4.true
+    let table = t.survey-surveyed.ensures in
+    segments-spoilt a.width a.sub.now _ s.before.segment_count-count.ensures.0 s.if-count-eq0.false _ table.0 c.before.if-bodies-surveyed.false _
+    table.1.0 c.if-surveyed.true
 
-returns-5 : tie.Need-returns-5
+returns-5 : tie.Need-returns
 returns-5 c =
     let t = c.before.before.before in
     let s = some t in
     let a = (start s).args in
-    let table = t.survey.ensures in
-    segments-passed a.width a.sub.now _ s.before.segment-count.ensures.0 s.if1.left _ table.0 c.before.if3.false _
-    table.1.0 c.if4.false
+    let table = t.survey-surveyed.ensures in
+    segments-passed a.width a.sub.now _ s.before.segment_count-count.ensures.0 s.if-count-eq0.false _ table.0 c.before.if-bodies-surveyed.false _
+    table.1.0 c.if-surveyed.false
 
-pub refuse-segments-spec : {M : Type 1} → statement M
-refuse-segments-spec =
+pub refuse_segments_spec : {M : Type 1} → statement M
+refuse_segments_spec =
     tie.close
     (tie.spec
     segment-count-requires
