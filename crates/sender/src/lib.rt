@@ -3,6 +3,8 @@
 //
 // The entries of the segments are written while the frames are cut. The bodies need no cutting: they are one stretch of the frames, and
 // one copy writes them once it is known how many entries stand before them.
+#![tactic(auto)]
+
 ghost use Rattle.std.specs.Prelude.{◌≡◌, ◌+◌, ◌*◌, ◌<◌, ◌≤◌, min, ◌&&◌, ◌++◌, ltb, leb, length};
 ghost use Rattle.refusal.specs.Refusal.{first};
 ghost use Rattle.octets.specs.Stretch.{put};

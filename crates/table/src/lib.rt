@@ -1,6 +1,8 @@
 // The table of sessions: six rows of four flows, by value. When it is broken, where a session stands in it, and opening and closing a
 // session. It is made of plain numbers and is the table that the host program keeps: that the numbers are such as a call of ours leaves is
 // asked, and never trusted. Nothing here reads a packet, and nothing here touches the holding slice.
+#![tactic(auto)]
+
 ghost use Rattle.std.specs.Prelude.{◌≡◌, false, ◌<◌};
 ghost use Rattle.octets.specs.Count.{any};
 ghost use Rattle.table.specs.Rows.{PermitsEmpty, rows, row_at, closed_row, is_closed, kind_in, number_of, is_dmpt, terms_of};

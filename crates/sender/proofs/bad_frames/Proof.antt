@@ -5,18 +5,18 @@ use borrow.Author.Rules.{rules}
 use Rattle.sender.proofs.bad_frames.Statement.{statement}
 use Rattle.sender.proofs.bad_frames.Tie as tie
 
-returns : tie.Need-returns
-returns c = let a = c.before.before.args in frames_many a.total a.lengths.now c.if1.true
+returns : tie.Need-returns-then-count-gt-MOST_FRAMES
+returns c = let a = c.before.before.args in frames_many a.total a.lengths.now c.if-count-gt-MOST_FRAMES.true
 
-survey-requires : tie.Need-survey-requires
+survey-requires : tie.Need-survey-surveyed-requires
 survey-requires c κs = search rules
 
-returns-2 : tie.Need-returns-2
+returns-2 : tie.Need-returns
 returns-2 c =
     let a = c.before.before.before.before.before.args in
-    let s = c.before.before.survey in
-    frames-judged a.total a.lengths.now (omega (arith, c.before.before.before.if1.false)) s.result.total s.result.bad
+    let s = c.before.before.survey-surveyed in
+    frames-judged a.total a.lengths.now (omega (arith, c.before.before.before.if-count-gt-MOST_FRAMES.false)) s.result.total s.result.bad
     s.ensures.0 s.ensures.1.0
 
-pub bad-frames-spec : {M : Type 1} → statement M
-bad-frames-spec = tie.close (tie.spec returns survey-requires returns-2)
+pub bad_frames_spec : {M : Type 1} → statement M
+bad_frames_spec = tie.close (tie.spec returns survey-requires returns-2)

@@ -4,11 +4,11 @@ use borrow.Author.Rules.{rules}
 use Rattle.sender.proofs.bad_length.Statement.{statement}
 use Rattle.sender.proofs.bad_length.Tie as tie
 
-cast-result : tie.Need-overflow-cast-result
+cast-result : tie.Need-overflow_cast-result
 cast-result c = search rules
 
 returns : tie.Need-returns
 returns c = refl
 
-pub bad-length-spec : {M : Type 1} → statement M
-bad-length-spec = tie.close (tie.spec cast-result returns)
+pub bad_length_spec : {M : Type 1} → statement M
+bad_length_spec = tie.close (tie.spec cast-result returns)

@@ -6,26 +6,26 @@ use borrow.Author.Rules.{rules}
 use Rattle.sender.proofs.is_outside.Statement.{statement}
 use Rattle.sender.proofs.is_outside.Tie as tie
 
-mul-wide-u16 : tie.Need-overflow-mul-wide-u16
+mul-wide-u16 : tie.Need-offset_bounds-lengths-frame
 mul-wide-u16 c = search rules
 
-shared-slice-read-wide-u16 : tie.Need-shared-slice-read-wide-u16
+shared-slice-read-wide-u16 : tie.Need-bounds-lengths-frame
 shared-slice-read-wide-u16 c = search rules
 
-wide-u16-requires : tie.Need-wide-u16-requires
+wide-u16-requires : tie.Need-wide_u16-requires
 wide-u16-requires c κs = search rules
 
-returns : tie.Need-returns
+returns : tie.Need-returns-then-frame-count
 returns c =
     let a = c.before.before.before.before.before.args in
-    let long = c.before.wide-u16 in
-    outside-frame a.lengths.now a.position c.before.before.before.if1.true long.result long.ensures.0
+    let long = c.before.wide_u16 in
+    outside-frame a.lengths.now a.position c.before.before.before.if-frame-count.true long.result long.ensures.0
 
-returns-2 : tie.Need-returns-2
+returns-2 : tie.Need-returns
 returns-2 c =
     let a = c.before.before.before.args in
-    outside_behind a.lengths.now a.position (omega (arith, c.before.if1.false))
+    outside_behind a.lengths.now a.position (omega (arith, c.before.if-frame-count.false))
 
-pub is-outside-spec : {M : Type 1} → statement M
-is-outside-spec =
+pub is_outside_spec : {M : Type 1} → statement M
+is_outside_spec =
     tie.close (tie.spec mul-wide-u16 shared-slice-read-wide-u16 wide-u16-requires returns returns-2)

@@ -5,17 +5,17 @@ use borrow.Author.Rules.{rules}
 use Rattle.sender.proofs.position_after.Statement.{statement}
 use Rattle.sender.proofs.position_after.Tie as tie
 
-add-following : tie.Need-overflow-add-following
+add-following : tie.Need-overflow_add-following
 add-following c = search rules
 
-returns : tie.Need-returns
-returns c = let a = c.before.before.args in sym (ap (position_after a.position a.size) c.before.if1.true)
+returns : tie.Need-returns-then-ends
+returns c = let a = c.before.before.args in sym (ap (position_after a.position a.size) c.before.if-ends.true)
 
-add-further : tie.Need-overflow-add-further
+add-further : tie.Need-overflow_add-further
 add-further c = search rules
 
-returns-2 : tie.Need-returns-2
-returns-2 c = let a = c.before.before.args in sym (ap (position_after a.position a.size) c.before.if1.false)
+returns-2 : tie.Need-returns
+returns-2 c = let a = c.before.before.args in sym (ap (position_after a.position a.size) c.before.if-ends.false)
 
-pub position-after-spec : {M : Type 1} → statement M
-position-after-spec = tie.close (tie.spec add-following returns add-further returns-2)
+pub position_after_spec : {M : Type 1} → statement M
+position_after_spec = tie.close (tie.spec add-following returns add-further returns-2)

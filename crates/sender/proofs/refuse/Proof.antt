@@ -5,28 +5,28 @@ use borrow.Author.Rules.{rules}
 use Rattle.sender.proofs.refuse.Statement.{statement}
 use Rattle.sender.proofs.refuse.Tie as tie
 
-refuse-early-requires : tie.Need-refuse-early-requires
+refuse-early-requires : tie.Need-refuse_early-refused-requires
 refuse-early-requires c κs = search rules
 
-returns : tie.Need-returns
+returns : tie.Need-returns-then-refused-ne-NONE
 returns c =
     let a = c.before.before.before.args in
-    send_stopped a.session a.flow a.limit a.total a.lengths.now a.position a.space c.before.refuse-early.result
-    c.before.refuse-early.ensures c.if1.true
+    send_stopped a.session a.flow a.limit a.total a.lengths.now a.position a.space c.before.refuse_early-refused.result
+    c.before.refuse_early-refused.ensures c.if-refused-ne-NONE.true
 
-refuse-later-requires : tie.Need-refuse-later-requires
+refuse-later-requires : tie.Need-refuse_later-requires
 refuse-later-requires c κs =
     let a = c.before.before.before.args in
     limit-small a.session a.flow a.limit a.total a.lengths.now
     (early_passed a.session a.flow a.limit a.total a.lengths.now
-    (sym c.before.refuse-early.ensures ∙ c.if1.false))
+    (sym c.before.refuse_early-refused.ensures ∙ c.if-refused-ne-NONE.false))
 
-returns-2 : tie.Need-returns-2
+returns-2 : tie.Need-returns
 returns-2 c =
     let a = c.before.before.before.before.args in
     send_later a.session a.flow a.limit a.total a.lengths.now a.position a.space
-    c.before.before.refuse-early.result c.refuse-later.result c.before.before.refuse-early.ensures
-    c.before.if1.false c.refuse-later.ensures
+    c.before.before.refuse_early-refused.result c.refuse_later.result c.before.before.refuse_early-refused.ensures
+    c.before.if-refused-ne-NONE.false c.refuse_later.ensures
 
-pub refuse-spec : {M : Type 1} → statement M
-refuse-spec = tie.close (tie.spec refuse-early-requires returns refuse-later-requires returns-2)
+pub refuse_spec : {M : Type 1} → statement M
+refuse_spec = tie.close (tie.spec refuse-early-requires returns refuse-later-requires returns-2)

@@ -6,28 +6,28 @@ use borrow.Author.Rules.{rules}
 use Rattle.sender.proofs.refuse_early.Statement.{statement}
 use Rattle.sender.proofs.refuse_early.Tie as tie
 
-returns : tie.Need-returns
-returns c = let a = c.before.before.args in early_address a.session a.flow a.limit a.total a.lengths.now c.if1.true
+returns : tie.Need-returns-then-session-flow
+returns c = let a = c.before.before.args in early_address a.session a.flow a.limit a.total a.lengths.now c.if-session-flow.true
 
-returns-2 : tie.Need-returns-2
+returns-2 : tie.Need-returns-then-limit
 returns-2 c =
     let a = c.before.before.before.args in
-    early_limit a.session a.flow a.limit a.total a.lengths.now c.before.if1.false c.if2.true
+    early_limit a.session a.flow a.limit a.total a.lengths.now c.before.if-session-flow.false c.if-limit.true
 
-bad-frames-requires : tie.Need-bad-frames-requires
+bad-frames-requires : tie.Need-bad_frames-requires
 bad-frames-requires c κs = search rules
 
-returns-3 : tie.Need-returns-3
+returns-3 : tie.Need-returns-then-bad_frames
 returns-3 c =
     let a = c.before.before.before.before.before.args in
-    early_judged a.session a.flow a.limit a.total a.lengths.now c.before.before.before.if1.false
-    c.before.before.if2.false true (sym c.before.bad-frames.ensures ∙ c.if3.true)
+    early_judged a.session a.flow a.limit a.total a.lengths.now c.before.before.before.if-session-flow.false
+    c.before.before.if-limit.false true (sym c.before.bad_frames.ensures ∙ c.if-bad_frames.true)
 
-returns-4 : tie.Need-returns-4
+returns-4 : tie.Need-returns
 returns-4 c =
     let a = c.before.before.before.before.before.args in
-    early_judged a.session a.flow a.limit a.total a.lengths.now c.before.before.before.if1.false
-    c.before.before.if2.false false (sym c.before.bad-frames.ensures ∙ c.if3.false)
+    early_judged a.session a.flow a.limit a.total a.lengths.now c.before.before.before.if-session-flow.false
+    c.before.before.if-limit.false false (sym c.before.bad_frames.ensures ∙ c.if-bad_frames.false)
 
-pub refuse-early-spec : {M : Type 1} → statement M
-refuse-early-spec = tie.close (tie.spec returns returns-2 bad-frames-requires returns-3 returns-4)
+pub refuse_early_spec : {M : Type 1} → statement M
+refuse_early_spec = tie.close (tie.spec returns returns-2 bad-frames-requires returns-3 returns-4)

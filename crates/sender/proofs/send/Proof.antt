@@ -26,77 +26,77 @@ asked s =
     }
 
 -- from the end of the call back to the header, from there to the segments, to where nothing was refused, and to the start
-abbrev start : tie.Else1 → tie.Start
+abbrev start : tie.Else-refused-ne-NONE → tie.Start
 start passing = passing.before.before.before.before.before
 
-abbrev passing : tie.After-write-segments → tie.Else1
+abbrev passing : tie.After-write_segments-cut → tie.Else-refused-ne-NONE
 passing wrote = wrote.before.before
 
-abbrev wrote : tie.After-write-header → tie.After-write-segments
+abbrev wrote : tie.After-write_header → tie.After-write_segments-cut
 wrote headed = headed.before.before.before.before
 
-abbrev headed : tie.After-number-after → tie.After-write-header
+abbrev headed : tie.After-number_after-following → tie.After-write_header
 headed c = c.before.before.before.before.before.before
 
 -- refuse returned 0
-passed : (c : tie.Else1) → first (send_refusals (asked (start c))) ≡ 0
-passed c = sym c.before.refuse.ensures ∙ c.if1.false
+passed : (c : tie.Else-refused-ne-NONE) → first (send_refusals (asked (start c))) ≡ 0
+passed c = sym c.before.refuse-refused.ensures ∙ c.if-refused-ne-NONE.false
 
-refuse-requires : tie.Need-refuse-requires
+refuse-requires : tie.Need-refuse-refused-requires
 refuse-requires c κs = search rules
 
-returns : tie.Need-returns
+returns : tie.Need-returns-then-refused-ne-NONE
 returns c =
-    permits (send_refused (asked c.before.before.before.before.before) c.before.refuse.result c.before.refuse.ensures
-    c.if1.true)
+    permits (send_refused (asked c.before.before.before.before.before) c.before.refuse-refused.result c.before.refuse-refused.ensures
+    c.if-refused-ne-NONE.true)
 
-sub-room : tie.Need-overflow-sub-room
+sub-room : tie.Need-overflow_sub-room
 sub-room c = omega (arith, room-there (asked (start c)) (passed c))
 
-write-segments-requires : tie.Need-write-segments-requires
+write-segments-requires : tie.Need-write_segments-cut-requires
 write-segments-requires c κs = ready (asked (start c.before)) (passed c.before)
 
-write-header-requires : tie.Need-write-header-requires
+write-header-requires : tie.Need-write_header-requires
 write-header-requires c κs =
     let w = c.before.before.before in
     let a = asked (start (passing w)) in
     let z = passed (passing w) in (
-      rw w.write-segments.auto.0 (header-there a z),
+      rw w.write_segments-cut.auto.output (header-there a z),
       has_flow a.session a.flow a.limit (length a.bytes) a.lengths (job a z),
-      w.write-segments.ensures.few,
+      w.write_segments-cut.ensures.few,
     )
 
-mul-length : tie.Need-overflow-mul-length
+mul-length : tie.Need-overflow_mul-length
 mul-length c = search rules
 
-add-length : tie.Need-overflow-add-length
+add-length : tie.Need-overflow_add-length
 add-length c = search rules
 
-add-length-2 : tie.Need-overflow-add-length-2
+add-length-2 : tie.Need-overflow_add-length-2
 add-length-2 c =
     let w = wrote c.before.before.before.before.before in
-    let did = w.write-segments in
+    let did = w.write_segments-cut in
     omega (
       arith,
       packet-small (asked (start (passing w))) (passed (passing w)) did.result.count did.result.bytes did.ensures.in_room,
     )
 
-number-after-requires : tie.Need-number-after-requires
+number-after-requires : tie.Need-number_after-following-requires
 number-after-requires c κs = search rules
 
-same_length : tie.Need-same-length
+same_length : tie.Need-shape_of-output
 same_length c = search rules
 
-returns-2 : tie.Need-returns-2
+returns-2 : tie.Need-returns
 returns-2 c =
     let w = wrote (headed c) in
-    let did = w.write-segments in
+    let did = w.write_segments-cut in
     permits
-    (rw c.number-after.ensures
-    (send_done (asked (start (passing w))) (passed (passing w)) did.result _ _ did.ensures (headed c).write-header.ensures))
+    (rw c.number_after-following.ensures
+    (send_done (asked (start (passing w))) (passed (passing w)) did.result _ _ did.ensures (headed c).write_header.ensures))
 
-pub send-spec : {M : Type 1} → statement M
-send-spec =
+pub send_spec : {M : Type 1} → statement M
+send_spec =
     tie.close
     (tie.spec
     refuse-requires

@@ -9,40 +9,40 @@ use borrow.Author.Rules.{rules}
 use Rattle.table.proofs.any_id_twice.Statement.{statement}
 use Rattle.table.proofs.any_id_twice.Tie as tie
 
-abbrev invariant-loop : tie.invariant-loop
+abbrev invariant-loop : tie.invariant-loop-i
 invariant-loop ids i₀ i = Sought (λ r. any (id_twice ids r) r) rows i
 
-abbrev decreases-loop : tie.decreases-loop
+abbrev decreases-loop : tie.decreases-loop-i
 decreases-loop ids i₀ i = rows - i
 
-loop-holds : tie.Need-loop-init invariant-loop decreases-loop
+loop-holds : tie.Need-loop-i-init invariant-loop decreases-loop
 loop-holds c = seek_begin _ _
 
-id-before-requires : tie.Need-id-before-requires invariant-loop decreases-loop
+id-before-requires : tie.Need-id_before-requires invariant-loop decreases-loop
 id-before-requires c κs = search rules
 
-returns : tie.Need-returns invariant-loop decreases-loop
+returns : tie.Need-returns-then-id_before invariant-loop decreases-loop
 returns c =
     let inside = c.before.before in
     let ids = inside.before.before.args.ids in
-    sym (any_at (λ r. any (id_twice ids r) r) _ _ (sym c.before.id-before.ensures ∙ c.if1.true) inside.loop-test.true)
+    sym (any_at (λ r. any (id_twice ids r) r) _ _ (sym c.before.id_before.ensures ∙ c.if-id_before.true) inside.loop-i-test.true)
 
-add-i : tie.Need-overflow-add-i invariant-loop decreases-loop
+add-i : tie.Need-overflow_add-i invariant-loop decreases-loop
 add-i c = search rules
 
-loop-less : tie.Need-loop-smaller invariant-loop decreases-loop
+loop-less : tie.Need-loop-i-smaller invariant-loop decreases-loop
 loop-less c = search rules
 
-loop-again : tie.Need-loop-preserved invariant-loop decreases-loop
+loop-again : tie.Need-loop-i-preserved invariant-loop decreases-loop
 loop-again c =
     let inside = c.before.before in
-    seek_turn inside.before.loop.invariant inside.loop-test.true (sym c.before.id-before.ensures ∙ c.if1.false)
+    seek_turn inside.before.loop-i.invariant inside.loop-i-test.true (sym c.before.id_before.ensures ∙ c.if-id_before.false)
 
-returns-2 : tie.Need-returns-2 invariant-loop decreases-loop
-returns-2 c = sym (seek_none c.before.loop.invariant c.loop-test.false)
+returns-2 : tie.Need-returns invariant-loop decreases-loop
+returns-2 c = sym (seek_none c.before.loop-i.invariant c.loop-i-test.false)
 
-pub any-id-twice-spec : {M : Type 1} → statement M
-any-id-twice-spec =
+pub any_id_twice_spec : {M : Type 1} → statement M
+any_id_twice_spec =
     tie.close
     (tie.spec
     invariant-loop

@@ -12,60 +12,60 @@ at-third a b c d p q r = rw (p, q, r) refl
 at_last : (a b c d : Bool) → a ≡ false → b ≡ false → c ≡ false → d ≡ (a || b || c || d)
 at_last a b c d p q r = rw (p, q, r) refl
 
-element-copy-out-a : tie.Need-element-copy-out-a
+element-copy-out-a : tie.Need-bounds-row-0
 element-copy-out-a c = search rules
 
-flow-unfit-requires : tie.Need-flow-unfit-requires
+flow-unfit-requires : tie.Need-flow_unfit-requires
 flow-unfit-requires c κs = search rules
 
-returns : tie.Need-returns
-returns c = simp (sym c.before.flow-unfit.ensures ∙ c.if1.true)
+returns : tie.Need-returns-then-flow_unfit
+returns c = simp (sym c.before.flow_unfit.ensures ∙ c.if-flow_unfit.true)
 
-element-copy-out-b : tie.Need-element-copy-out-b
+element-copy-out-b : tie.Need-bounds-row-1
 element-copy-out-b c = search rules
 
-flow-unfit-requires-2 : tie.Need-flow-unfit-requires-2
+flow-unfit-requires-2 : tie.Need-flow_unfit-requires-2
 flow-unfit-requires-2 c κs = search rules
 
-returns-2 : tie.Need-returns-2
+returns-2 : tie.Need-returns-then-flow_unfit-2
 returns-2 c =
     let first = c.before.before.before in
-    simp (sym first.before.flow-unfit.ensures ∙ first.if1.false, sym c.before.flow-unfit2.ensures ∙ c.if2.true)
+    simp (sym first.before.flow_unfit.ensures ∙ first.if-flow_unfit.false, sym c.before.flow_unfit-2.ensures ∙ c.if-flow_unfit-2.true)
 
-element-copy-out-c : tie.Need-element-copy-out-c
+element-copy-out-c : tie.Need-bounds-row-2
 element-copy-out-c c = search rules
 
-flow-unfit-requires-3 : tie.Need-flow-unfit-requires-3
+flow-unfit-requires-3 : tie.Need-flow_unfit-requires-3
 flow-unfit-requires-3 c κs = search rules
 
-returns-3 : tie.Need-returns-3
+returns-3 : tie.Need-returns-then-flow_unfit-3
 returns-3 c =
     let second = c.before.before.before in
     let first = second.before.before.before in
     at-third _ _ _ _
-    (sym first.before.flow-unfit.ensures ∙ first.if1.false)
-    (sym second.before.flow-unfit2.ensures ∙ second.if2.false)
-    (sym c.before.flow-unfit3.ensures ∙ c.if3.true)
+    (sym first.before.flow_unfit.ensures ∙ first.if-flow_unfit.false)
+    (sym second.before.flow_unfit-2.ensures ∙ second.if-flow_unfit-2.false)
+    (sym c.before.flow_unfit-3.ensures ∙ c.if-flow_unfit-3.true)
 
-element-copy-out-d : tie.Need-element-copy-out-d
+element-copy-out-d : tie.Need-bounds-row-3
 element-copy-out-d c = search rules
 
-flow-unfit-requires-4 : tie.Need-flow-unfit-requires-4
+flow-unfit-requires-4 : tie.Need-flow_unfit-requires-4
 flow-unfit-requires-4 c κs = search rules
 
-returns-4 : tie.Need-returns-4
+returns-4 : tie.Need-returns
 returns-4 c =
     let third = c.before.before in
     let second = third.before.before.before in
     let first = second.before.before.before in
-    c.flow-unfit4.ensures
+    c.flow_unfit-4.ensures
     ∙ at_last _ _ _ _
-    (sym first.before.flow-unfit.ensures ∙ first.if1.false)
-    (sym second.before.flow-unfit2.ensures ∙ second.if2.false)
-    (sym third.before.flow-unfit3.ensures ∙ third.if3.false)
+    (sym first.before.flow_unfit.ensures ∙ first.if-flow_unfit.false)
+    (sym second.before.flow_unfit-2.ensures ∙ second.if-flow_unfit-2.false)
+    (sym third.before.flow_unfit-3.ensures ∙ third.if-flow_unfit-3.false)
 
-pub any-unfit-spec : {M : Type 1} → statement M
-any-unfit-spec =
+pub any_unfit_spec : {M : Type 1} → statement M
+any_unfit_spec =
     tie.close
     (tie.spec
     element-copy-out-a

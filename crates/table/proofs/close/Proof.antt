@@ -8,58 +8,58 @@ use borrow.Author.Rules.{rules}
 use Rattle.table.proofs.close.Statement.{statement}
 use Rattle.table.proofs.close.Tie as tie
 
-whole : (c : tie.Else1) → broken c.before.before.args.t1 ≡ false
-whole c = sym c.before.is-broken.ensures ∙ c.if1.false
+whole : (c : tie.Else-is_broken) → broken c.before.before.args.table ≡ false
+whole c = sym c.before.is_broken.ensures ∙ c.if-is_broken.false
 
-is-broken-requires : tie.Need-is-broken-requires
+is-broken-requires : tie.Need-is_broken-requires
 is-broken-requires c κs = search rules
 
-returns : tie.Need-returns
+returns : tie.Need-returns-then-is_broken
 unfolding closed
-returns c = simp (← c.before.is-broken.ensures, c.if1.true)
+returns c = simp (← c.before.is_broken.ensures, c.if-is_broken.true)
 
-returns-2 : tie.Need-returns-2
+returns-2 : tie.Need-returns-then-id-eq0
 unfolding closed
-returns-2 c = simp (whole c.before, eq-eqb _ _ c.if2.true, or-true)
+returns-2 c = simp (whole c.before, eq-eqb _ _ c.if-id-eq0.true, or-true)
 
-find-row-requires : tie.Need-find-row-requires
-find-row-requires c κs = (whole c.before, c.if2.false)
+find-row-requires : tie.Need-find_row-at-requires
+find-row-requires c κs = (whole c.before, c.if-id-eq0.false)
 
-returns-3 : tie.Need-returns-3
+returns-3 : tie.Need-returns-then-at-ge-ROWS
 unfolding closed
 returns-3 c =
     let named = c.before.before in
-    simp (whole named.before, ne_eqb _ _ named.if2.false, ← c.before.find-row.ensures, le-ltb _ _ c.if3.true)
+    simp (whole named.before, ne_eqb _ _ named.if-id-eq0.false, ← c.before.find_row-at.ensures, le-ltb _ _ c.if-at-ge-ROWS.true)
 
-mul-row : tie.Need-overflow-mul-row
+mul-row : tie.Need-offset_bounds-table-at
 mul-row c = search rules
 
-element-copy-out-row : tie.Need-element-copy-out-row
+element-copy-out-row : tie.Need-bounds-table-at
 element-copy-out-row c = search rules
 
-closed-row-requires : tie.Need-closed-row-requires
+closed-row-requires : tie.Need-closed_row-empty-requires
 closed-row-requires c κs = search rules
 
-mul-empty : tie.Need-overflow-mul-empty
+mul-empty : tie.Need-offset_bounds-next-at
 mul-empty c = search rules
 
-element-set-from-empty : tie.Need-element-set-from-empty
+element-set-from-empty : tie.Need-bounds-next-at
 element-set-from-empty c = search rules
 
-held-in-requires : tie.Need-held-in-requires
+held-in-requires : tie.Need-held_in-requires
 held-in-requires c κs = search rules
 
-returns-4 : tie.Need-returns-4
+returns-4 : tie.Need-returns
 unfolding closed
 returns-4 c =
     let there = c.before.before.before in
     let named = there.before.before in
     simp (
       whole named.before,
-      ne_eqb _ _ named.if2.false,
-      ← there.before.find-row.ensures,
-      lt-ltb _ _ there.if3.false,
-      c.before.closed_row.ensures,
+      ne_eqb _ _ named.if-id-eq0.false,
+      ← there.before.find_row-at.ensures,
+      lt-ltb _ _ there.if-at-ge-ROWS.false,
+      c.before.closed_row-empty.ensures,
       c.held_in.ensures,
     )
 

@@ -3,11 +3,11 @@ use borrow.Author.Tests.{eq-eqb, ne_eqb}
 use Rattle.table.proofs.flow_unfit.Statement.{statement}
 use Rattle.table.proofs.flow_unfit.Tie as tie
 
-returns : tie.Need-returns
-returns c = simp (eq-eqb _ _ c.before.if1.true)
+returns : tie.Need-returns-then-flow-eq-HEARD
+returns c = simp (eq-eqb _ _ c.before.if-flow-eq-HEARD.true)
 
-returns-2 : tie.Need-returns-2
-returns-2 c = simp (ne_eqb _ _ c.before.before.before.if1.false)
+returns-2 : tie.Need-returns
+returns-2 c = simp (ne_eqb _ _ c.before.before.before.if-flow-eq-HEARD.false)
 
-pub flow-unfit-spec : {M : Type 1} → statement M
-flow-unfit-spec = tie.close (tie.spec returns returns-2)
+pub flow_unfit_spec : {M : Type 1} → statement M
+flow_unfit_spec = tie.close (tie.spec returns returns-2)

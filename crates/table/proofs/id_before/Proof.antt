@@ -7,50 +7,50 @@ use borrow.Author.Rules.{rules}
 use Rattle.table.proofs.id_before.Statement.{statement}
 use Rattle.table.proofs.id_before.Tie as tie
 
-abbrev invariant-loop : tie.invariant-loop
+abbrev invariant-loop : tie.invariant-loop-j
 invariant-loop i ids j₀ j = Sought (id_twice ids i) i j
 
-abbrev decreases-loop : tie.decreases-loop
+abbrev decreases-loop : tie.decreases-loop-j
 decreases-loop i ids j₀ j = i - j
 
-loop-holds : tie.Need-loop-init invariant-loop decreases-loop
+loop-holds : tie.Need-loop-j-init invariant-loop decreases-loop
 loop-holds c = seek_begin _ _
 
-mul-if1 : tie.Need-overflow-mul-if1 invariant-loop decreases-loop
+mul-if1 : tie.Need-offset_bounds-ids-j invariant-loop decreases-loop
 mul-if1 c = search rules
 
-array-read-if1 : tie.Need-array-read-if1 invariant-loop decreases-loop
+array-read-if1 : tie.Need-bounds-ids-j invariant-loop decreases-loop
 array-read-if1 c = search rules
 
-mul-if1-2 : tie.Need-overflow-mul-if1-2 invariant-loop decreases-loop
+mul-if1-2 : tie.Need-offset_bounds-ids-i invariant-loop decreases-loop
 mul-if1-2 c = search rules
 
-array-read-if1-2 : tie.Need-array-read-if1-2 invariant-loop decreases-loop
+array-read-if1-2 : tie.Need-bounds-ids-i invariant-loop decreases-loop
 array-read-if1-2 c = search rules
 
-mul-if1-3 : tie.Need-overflow-mul-if1-3 invariant-loop decreases-loop
+mul-if1-3 : tie.Need-offset_bounds-ids-i-in-loop-j invariant-loop decreases-loop
 mul-if1-3 c = search rules
 
-array-read-if1-3 : tie.Need-array-read-if1-3 invariant-loop decreases-loop
+array-read-if1-3 : tie.Need-bounds-ids-i-in-loop-j invariant-loop decreases-loop
 array-read-if1-3 c = search rules
 
-returns : tie.Need-returns invariant-loop decreases-loop
-returns c = sym (any_at _ _ _ c.if1.true c.before.loop-test.true)
+returns : tie.Need-returns-then-ids-j invariant-loop decreases-loop
+returns c = sym (any_at _ _ _ c.if-ids-j.true c.before.loop-j-test.true)
 
-add-j : tie.Need-overflow-add-j invariant-loop decreases-loop
+add-j : tie.Need-overflow_add-j invariant-loop decreases-loop
 add-j c = search rules
 
-loop-less : tie.Need-loop-smaller invariant-loop decreases-loop
+loop-less : tie.Need-loop-j-smaller invariant-loop decreases-loop
 loop-less c = search rules
 
-loop-again : tie.Need-loop-preserved invariant-loop decreases-loop
-loop-again c = seek_turn c.before.before.loop.invariant c.before.loop-test.true c.if1.false
+loop-again : tie.Need-loop-j-preserved invariant-loop decreases-loop
+loop-again c = seek_turn c.before.before.loop-j.invariant c.before.loop-j-test.true c.if-ids-j.false
 
-returns-2 : tie.Need-returns-2 invariant-loop decreases-loop
-returns-2 c = sym (seek_none c.before.loop.invariant c.loop-test.false)
+returns-2 : tie.Need-returns invariant-loop decreases-loop
+returns-2 c = sym (seek_none c.before.loop-j.invariant c.loop-j-test.false)
 
-pub id-before-spec : {M : Type 1} → statement M
-id-before-spec =
+pub id_before_spec : {M : Type 1} → statement M
+id_before_spec =
     tie.close
     (tie.spec
     invariant-loop

@@ -3,11 +3,11 @@ use borrow.Author.Tests.{eq-eqb, ne_eqb}
 use Rattle.table.proofs.kind_in.Statement.{statement}
 use Rattle.table.proofs.kind_in.Tie as tie
 
-returns : tie.Need-returns
-returns c = simp (eq-eqb _ _ c.if1.true)
+returns : tie.Need-returns-then-number-eq-DMPT
+returns c = simp (eq-eqb _ _ c.if-number-eq-DMPT.true)
 
-returns-2 : tie.Need-returns-2
-returns-2 c = simp (ne_eqb _ _ c.if1.false)
+returns-2 : tie.Need-returns
+returns-2 c = simp (ne_eqb _ _ c.if-number-eq-DMPT.false)
 
-pub kind-in-spec : {M : Type 1} → statement M
-kind-in-spec = tie.close (tie.spec returns returns-2)
+pub kind_in_spec : {M : Type 1} → statement M
+kind_in_spec = tie.close (tie.spec returns returns-2)
