@@ -3,6 +3,8 @@
 //
 // The place is written at most once a call, by the last segment: every segment before it has E, or the packet would have been refused
 // (11). A frame that is delivered or dropped leaves the holding slice as it was.
+#![tactic(auto)]
+
 ghost use Rattle.std.specs.Prelude.{◌≡◌, ◌+◌, ◌*◌, ◌%◌, ◌≤◌, cond, ◌++◌, length};
 ghost use Rattle.refusal.specs.Refusal.{first};
 ghost use Rattle.octets.specs.Stretch.{part};

@@ -1,5 +1,7 @@
 // MPEG packets for the modulator (W3; DRFI, section 7). Frames leave the card in packets of 188 bytes: `writer` makes them, one at a time,
 // and `reader` gets the frames back, as a modem does. Here is what both know of a packet with frames, and the hand-out.
+#![tactic(auto)]
+
 pub mod reader;
 pub mod writer;
 

@@ -3,11 +3,11 @@ use Rattle.join.proofs.Placing.{begun-none, begun-gap}
 use Rattle.join.proofs.begin.Statement.{statement}
 use Rattle.join.proofs.begin.Tie as tie
 
-returns : tie.Need-returns
-returns c = begun-none _ c.before.args.held c.if1.true
+returns : tie.Need-returns-then-gap-eq0
+returns c = begun-none _ c.args.held c.if-gap-eq0.true
 
-returns-2 : tie.Need-returns-2
-returns-2 c = begun-gap _ c.before.args.held c.if1.false
+returns-2 : tie.Need-returns
+returns-2 c = begun-gap _ c.args.held c.if-gap-eq0.false
 
-pub begin-spec : {M : Type 1} → statement M
-begin-spec = tie.close (tie.spec returns returns-2)
+pub begin_spec : {M : Type 1} → statement M
+begin_spec = tie.close (tie.spec returns returns-2)

@@ -40,13 +40,13 @@ two-copies s e d =
     (ap (λ (i : ℕ). put (put a.output.now a.tally.bytes (held s)) (a.tally.bytes + i) (body s)) (sym m)
     ∙ put-put a.output.now a.tally.bytes (held s) (body s) room)
 
-add-joined : tie.Need-overflow-add-joined
+add-joined : tie.Need-overflow_add-joined
 add-joined c = search rules
 
-add-lost : tie.Need-overflow-add-lost
+add-lost : tie.Need-overflow_add-lost
 add-lost c = search rules
 
-returns : tie.Need-returns
+returns : tie.Need-returns-then-most-joined
 returns c =
     let s = c.before.before.before.before.before in
     let a = s.args in
@@ -54,84 +54,84 @@ returns c =
     rw (settled_long a.most a.ends (joined s) (omega arith))
     (placed_dropping a.place a.tally (lent s) (joined s) _ refl refl refl (omega arith))
 
-add-more : tie.Need-overflow-add-more
+add-more : tie.Need-overflow_add-more
 add-more c = search rules
 
-add-seam : tie.Need-overflow-add-seam
+add-seam : tie.Need-overflow_add-seam
 add-seam c = search rules
 
-add-end : tie.Need-overflow-add-end
+add-end : tie.Need-overflow_add-end
 add-end c = search rules
 
 copy-requires : tie.Need-copy-requires
 copy-requires c κs = search rules
 
-copy-requires-2 : tie.Need-copy-requires-2
+copy-requires-2 : tie.Need-copy-requires-then-ends
 copy-requires-2 c κs = search rules
 
-cast-lengths : tie.Need-overflow-cast-lengths
+cast-lengths : tie.Need-overflow_cast-lengths
 cast-lengths c = search rules
 
-mul-lengths : tie.Need-overflow-mul-lengths
+mul-lengths : tie.Need-offset_bounds-lengths-frames
 mul-lengths c = search rules
 
-slice-write-lengths : tie.Need-slice-write-lengths
+slice-write-lengths : tie.Need-bounds-lengths-frames
 slice-write-lengths c = search rules
 
-same_length : tie.Need-same-length
+same_length : tie.Need-shape_of-holding-then-ends
 same_length c = search rules
 
-same-length-2 : tie.Need-same-length-2
+same-length-2 : tie.Need-shape_of-output-then-ends
 same-length-2 c = search rules
 
-same-length-3 : tie.Need-same-length-3
+same-length-3 : tie.Need-shape_of-lengths-then-ends
 same-length-3 c = search rules
 
 -- from the end of a delivery back to where what is held was copied, from there to where the frame is whole, and to the start
-abbrev start : tie.Then2 → tie.Start
+abbrev start : tie.Then-ends → tie.Start
 start whole = whole.before.before.before.before.before.before
 
-abbrev whole : tie.After-copy → tie.Then2
-whole copied = copied.before.before.before
+abbrev whole : tie.After-copy → tie.Then-ends
+whole copied = copied.before.before
 
-abbrev copied : tie.After-slice-known5 → tie.After-copy
+abbrev copied : tie.After-slice_known-then-ends-2-1 → tie.After-copy
 copied c = c.before.before.before.before.before.before
 
-returns-2 : tie.Need-returns-2
+returns-2 : tie.Need-returns-then-ends
 returns-2 c =
     let t = whole (copied c) in
     let s = start t in
     let a = s.args in
     let n = joined_length s in
-    rw (settled-whole a.most a.ends (joined s) (omega arith) t.if2.taken)
+    rw (settled-whole a.most a.ends (joined s) (omega arith) t.if-ends.true)
     (placed_delivering a.place a.tally (lent s) (joined s) _ _ refl
-    (two-copies s (copied c).copy.ensures c.before.before.copy2.ensures)
+    (two-copies s (copied c).copy.ensures c.before.before.copy-then-ends.ensures)
     (rw n (set-put a.lengths.now a.tally.frames (a.tally.held + a.count) (omega arith)))
     refl refl (omega arith) refl)
 
-add-behind : tie.Need-overflow-add-behind
+add-behind : tie.Need-overflow_add-behind
 add-behind c = search rules
 
-copy-requires-3 : tie.Need-copy-requires-3
+copy-requires-3 : tie.Need-copy-requires-2
 copy-requires-3 c κs = search rules
 
-same-length-4 : tie.Need-same-length-4
+same-length-4 : tie.Need-shape_of-holding
 same-length-4 c = search rules
 
-returns-3 : tie.Need-returns-3
+returns-3 : tie.Need-returns
 returns-3 c =
     let t = c.before.before.before.before in
     let s = t.before.before.before.before.before.before in
     let a = s.args in
     let n = joined_length s in
-    rw (settled_open a.most a.ends (joined s) (omega arith) t.if2.false)
+    rw (settled_open a.most a.ends (joined s) (omega arith) t.if-ends.false)
     (placed_keeping a.place a.tally (lent s) (joined s) _ _
-    (c.before.before.copy3.ensures
+    (c.before.before.copy-2.ensures
     ∙ put_behind a.holding.now a.place a.tally.held (part a.sub.now a.from a.count) (omega arith))
     refl refl (omega arith) refl refl refl)
 
-pub settle-spec : {M : Type 1} → statement M
-settle-spec =
+pub settle_spec : {M : Type 1} → statement M
+settle_spec =
     tie.close
     (tie.spec
     add-joined

@@ -6,11 +6,11 @@ use Rattle.join.proofs.Running.{Running, whole_entry, whole-size, run-begin, run
 use Rattle.join.proofs.write_lengths.Statement.{statement}
 use Rattle.join.proofs.write_lengths.Tie as tie
 
-abbrev invariant-loop : tie.invariant-loop
+abbrev invariant-loop : tie.invariant-loop-frames
 invariant-loop lengths₀ at sub width k count most frames₀ bytes₀ lengths frames bytes =
     Running most width sub k count at lengths₀ lengths frames bytes
 
-abbrev decreases-loop : tie.decreases-loop
+abbrev decreases-loop : tie.decreases-loop-frames
 decreases-loop lengths₀ at sub width k count most frames₀ bytes₀ lengths frames bytes = count - (k + frames)
 
 -- where the loop stands, and from there back to the start
@@ -18,7 +18,7 @@ abbrev Start : Type 0
 Start = tie.Start invariant-loop decreases-loop
 
 abbrev Loop : Type 0
-Loop = tie.At-loop invariant-loop decreases-loop
+Loop = tie.At-loop-frames invariant-loop decreases-loop
 
 abbrev start : Loop → Start
 start l = l.before.before.before
@@ -29,88 +29,88 @@ small s = s.requires.1.0
 room : (s : Start) → s.args.at + s.args.count ≤ length s.args.lengths.now + s.args.k
 room s = s.requires.1.3
 
-same : (l : Loop) → length l.loop.lengths ≡ length (start l).args.lengths.now
-same l = run_length l.loop.inv (small (start l)) (room (start l))
+same : (l : Loop) → length l.loop-frames.lengths ≡ length (start l).args.lengths.now
+same l = run_length l.loop-frames.invariant (small (start l)) (room (start l))
 
 -- the turn's entry is that of a whole frame which is not too long
-abbrev turn : tie.Else1 invariant-loop decreases-loop → tie.After-whole-length invariant-loop decreases-loop
+abbrev turn : tie.Else-most-size invariant-loop decreases-loop → tie.After-whole_length-size invariant-loop decreases-loop
 turn c = c.before
 
-abbrev looping : tie.Else1 invariant-loop decreases-loop → Loop
+abbrev looping : tie.Else-most-size invariant-loop decreases-loop → Loop
 looping c = c.before.before.before.before
 
-loop-holds : tie.Need-loop-init invariant-loop decreases-loop
+loop-holds : tie.Need-loop-frames-init invariant-loop decreases-loop
 loop-holds c =
-    let a = c.before.before.args in
-    run-begin a.most a.width a.sub.now a.k a.count a.at a.lengths.now c.before.before.requires.1.1
+    let a = c.args in
+    run-begin a.most a.width a.sub.now a.k a.count a.at a.lengths.now c.requires.1.1
 
-add-loop : tie.Need-overflow-add-loop invariant-loop decreases-loop
+add-loop : tie.Need-overflow_add-k invariant-loop decreases-loop
 add-loop c = search rules
 
-add-entry : tie.Need-overflow-add-entry invariant-loop decreases-loop
+add-entry : tie.Need-overflow_add-k-in-loop-frames invariant-loop decreases-loop
 add-entry c = search rules
 
-entry-requires : tie.Need-entry-requires invariant-loop decreases-loop
+entry-requires : tie.Need-entry-entry-requires invariant-loop decreases-loop
 entry-requires c κs =
     let s = start c.before in
-    let asked = s.pre.0 in
-    entry_within s.args.width (s.args.k + c.before.loop.frames) s.args.count _ asked.0 c.loop-test.true asked.1
+    let asked = s.requires.0 in
+    entry_within s.args.width (s.args.k + c.before.loop-frames.frames) s.args.count _ asked.0 c.loop-frames-test.true asked.1
 
-whole-length-requires : tie.Need-whole-length-requires invariant-loop decreases-loop
+whole-length-requires : tie.Need-whole_length-size-requires invariant-loop decreases-loop
 whole-length-requires c κs = search rules
 
-same_length : tie.Need-same-length invariant-loop decreases-loop
+same_length : tie.Need-shape_of-lengths-then-most-size invariant-loop decreases-loop
 same_length c = same c.before.before.before.before
 
-returns : tie.Need-returns invariant-loop decreases-loop
+returns : tie.Need-returns-then-most-size invariant-loop decreases-loop
 returns c =
-    let r = c.before.before.before.before.loop.invariant in
+    let r = c.before.before.before.before.loop-frames.invariant in
     (r.ran, r.within)
 
-add-place : tie.Need-overflow-add-place invariant-loop decreases-loop
+add-place : tie.Need-overflow_add-place invariant-loop decreases-loop
 add-place c = search rules
 
-mul-lengths : tie.Need-overflow-mul-lengths invariant-loop decreases-loop
+mul-lengths : tie.Need-offset_bounds-lengths-place invariant-loop decreases-loop
 mul-lengths c = search rules
 
-slice-write-lengths : tie.Need-slice-write-lengths invariant-loop decreases-loop
+slice-write-lengths : tie.Need-bounds-lengths-place invariant-loop decreases-loop
 slice-write-lengths c =
     let l = looping c in
-    omega (arith, same l, room (start l), c.before.before.before.loop-test.true)
+    omega (arith, same l, room (start l), c.before.before.before.loop-frames-test.true)
 
-cast-bytes : tie.Need-overflow-cast-bytes invariant-loop decreases-loop
+cast-bytes : tie.Need-overflow_cast-bytes invariant-loop decreases-loop
 cast-bytes c = search rules
 
-add-bytes : tie.Need-overflow-add-bytes invariant-loop decreases-loop
+add-bytes : tie.Need-overflow_add-bytes invariant-loop decreases-loop
 add-bytes c = search rules
 
-add-frames : tie.Need-overflow-add-frames invariant-loop decreases-loop
+add-frames : tie.Need-overflow_add-frames invariant-loop decreases-loop
 add-frames c = search rules
 
-loop-less : tie.Need-loop-smaller invariant-loop decreases-loop
+loop-less : tie.Need-loop-frames-smaller invariant-loop decreases-loop
 loop-less c = search rules
 
-loop-again : tie.Need-loop-preserved invariant-loop decreases-loop
+loop-again : tie.Need-loop-frames-preserved invariant-loop decreases-loop
 loop-again c =
     let l = looping c in
     let s = start l in
-    let w = (turn c).whole_length in
-    let entry = (turn c).before.entry in
-    let short : w.result ≤ s.args.most = omega (arith, c.if1.false) in
+    let w = (turn c).whole_length-size in
+    let entry = (turn c).before.entry-entry in
+    let short : w.result ≤ s.args.most = omega (arith, c.if-most-size.false) in
     let whole = whole_entry s.args.most entry.result w.result (small s) w.ensures short in
     let size = whole-size s.args.most entry.result w.result (small s) w.ensures short in
-    run_turn l.loop.inv (small s) (room s) c.before.before.before.loop-test.true entry.ensures whole size
+    run_turn l.loop-frames.invariant (small s) (room s) c.before.before.before.loop-frames-test.true entry.ensures whole size
 
-same-length-2 : tie.Need-same-length-2 invariant-loop decreases-loop
+same-length-2 : tie.Need-shape_of-lengths invariant-loop decreases-loop
 same-length-2 c = same c.before
 
-returns-2 : tie.Need-returns-2 invariant-loop decreases-loop
+returns-2 : tie.Need-returns invariant-loop decreases-loop
 returns-2 c =
-    let r = c.before.loop.invariant in
+    let r = c.before.loop-frames.invariant in
     (r.ran, r.within)
 
-pub write-lengths-spec : {M : Type 1} → statement M
-write-lengths-spec =
+pub write_lengths_spec : {M : Type 1} → statement M
+write_lengths_spec =
     tie.close
     (tie.spec
     invariant-loop

@@ -4,30 +4,30 @@ use borrow.Author.Rules.{rules}
 use Rattle.mpeg.proofs.reader.byte_of.Statement.{statement}
 use Rattle.mpeg.proofs.reader.byte_of.Tie as tie
 
-returns : tie.Need-returns
-returns c = λ begun long is_Known. byte_before begun _ c.if1.true long is_Known
+returns : tie.Need-returns-then-place-size
+returns c = λ begun long is_Known. byte_before begun _ c.if-place-size.true long is_Known
 
-add-if2 : tie.Need-overflow-add-if2
+add-if2 : tie.Need-overflow_add-size
 add-if2 c = search rules
 
-add-result : tie.Need-overflow-add-result
+add-result : tie.Need-overflow_add-result
 add-result c = search rules
 
-shared-slice-read-result : tie.Need-shared-slice-read-result
+shared-slice-read-result : tie.Need-bounds-packets-from
 shared-slice-read-result c = search rules
 
-returns-2 : tie.Need-returns-2
+returns-2 : tie.Need-returns-then-place-size-2
 returns-2 c =
-    let a = c.before.before.before.args in
+    let a = c.args in
     λ begun long is_Known.
-    byte_among a.packets.now a.from a.n begun c.before.before.if1.false c.before.if2.true long
+    byte_among a.packets.now a.from a.n begun c.if-place-size.false c.if-place-size-2.true long
 
-returns-3 : tie.Need-returns-3
+returns-3 : tie.Need-returns
 returns-3 c =
-    let a = c.before.before.args in
+    let a = c.args in
     λ begun long is_Known.
-    byte_behind a.packets.now a.from a.n begun c.before.before.requires.0 c.if2.false long
+    byte_behind a.packets.now a.from a.n begun c.requires.0 c.if-place-size-2.false long
 
-pub byte-of-spec : {M : Type 1} → statement M
-byte-of-spec =
+pub byte_of_spec : {M : Type 1} → statement M
+byte_of_spec =
     tie.close (tie.spec returns add-if2 add-result shared-slice-read-result returns-2 returns-3)

@@ -6,11 +6,11 @@ use borrow.Author.Rules.{rules}
 use Rattle.mpeg.proofs.reader.unsound.Statement.{statement}
 use Rattle.mpeg.proofs.reader.unsound.Tie as tie
 
-front-of-none-requires : tie.Need-front-of-none-requires
+front-of-none-requires : tie.Need-front_of_none-requires
 front-of-none-requires c κs = search rules
 
 returns : tie.Need-returns
-returns c = none_found false counts c.front-of-none.ensures
+returns c = none_found false counts c.front_of_none.ensures
 
-pub unsound-spec : {M : Type 1} → statement M
-unsound-spec = tie.close (tie.spec front-of-none-requires returns)
+pub unsound_spec : {M : Type 1} → statement M
+unsound_spec = tie.close (tie.spec front-of-none-requires returns)

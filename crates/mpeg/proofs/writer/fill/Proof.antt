@@ -7,32 +7,32 @@ use borrow.Author.Rules.{rules}
 use Rattle.mpeg.proofs.writer.fill.Statement.{statement}
 use Rattle.mpeg.proofs.writer.fill.Tie as tie
 
-abbrev invariant-loop : tie.invariant-loop
+abbrev invariant-loop : tie.invariant-loop-i
 invariant-loop output₀ at i₀ output i = Filling output₀ at output i
 
-abbrev decreases-loop : tie.decreases-loop
+abbrev decreases-loop : tie.decreases-loop-i
 decreases-loop output₀ at i₀ output i = mpeg_length - i
 
-loop-holds : tie.Need-loop-init invariant-loop decreases-loop
+loop-holds : tie.Need-loop-i-init invariant-loop decreases-loop
 loop-holds c = fill_begin c.args.output.now c.args.at c.requires.0
 
-slice-write-output : tie.Need-slice-write-output invariant-loop decreases-loop
-slice-write-output c = omega (arith, c.before.loop.invariant.long, c.loop-test.true, c.before.before.requires.1)
+slice-write-output : tie.Need-bounds-output-i invariant-loop decreases-loop
+slice-write-output c = omega (arith, c.loop-i.invariant.long, c.loop-i-test.true, c.requires.1)
 
-add-i : tie.Need-overflow-add-i invariant-loop decreases-loop
+add-i : tie.Need-overflow_add-i invariant-loop decreases-loop
 add-i c = search rules
 
-loop-less : tie.Need-loop-smaller invariant-loop decreases-loop
+loop-less : tie.Need-loop-i-smaller invariant-loop decreases-loop
 loop-less c = search rules
 
-loop-again : tie.Need-loop-preserved invariant-loop decreases-loop
-loop-again c = fill_turn c.before.loop.invariant c.before.before.requires.1 c.loop-test.true
+loop-again : tie.Need-loop-i-preserved invariant-loop decreases-loop
+loop-again c = fill_turn c.loop-i.invariant c.requires.1 c.loop-i-test.true
 
-same_length : tie.Need-same-length invariant-loop decreases-loop
-same_length c = c.before.loop.invariant.long
+same_length : tie.Need-shape_of-output invariant-loop decreases-loop
+same_length c = c.loop-i.invariant.long
 
 returns : tie.Need-returns invariant-loop decreases-loop
-returns c = fill_end c.before.loop.invariant (omega (arith, c.loop-test.false))
+returns c = fill_end c.loop-i.invariant (omega (arith, c.loop-i-test.false))
 
 pub fill_spec : {M : Type 1} → statement M
 fill_spec =

@@ -7,19 +7,19 @@ use borrow.Author.Rules.{rules}
 use Rattle.mpeg.proofs.writer.survey.Statement.{statement}
 use Rattle.mpeg.proofs.writer.survey.Tie as tie
 
-behind : (c : tie.Joined1) → c.if1.left ≡ c.before.before.pass.result.begun - c.before.before.before.before.before.args.place
-behind c = ⊎_elim (λ w. omega arith) (λ w. omega arith) c.if1.branch
+behind : (c : tie.Joined-place-passed) → c.if-place-passed.left ≡ c.pass-passed.result.begun - c.args.place
+behind c = ⊎_elim (λ w. omega arith) (λ w. omega arith) c.if-place-passed.branch-raw
 
-pass-requires : tie.Need-pass-requires
+pass-requires : tie.Need-pass-passed-requires
 pass-requires c κs = search rules
 
-sub-left : tie.Need-overflow-sub-left
+sub-left : tie.Need-overflow_sub-left
 sub-left c = search rules
 
 returns : tie.Need-returns
 returns c =
-    let found = c.before.before.before.before.pass in
+    let found = c.pass-passed in
     (found.ensures.0, λ e. behind c.before.before ∙ found.ensures.1 (sym found.ensures.0 ∙ e))
 
-pub survey-spec : {M : Type 1} → statement M
-survey-spec = tie.close (tie.spec pass-requires sub-left returns)
+pub survey_spec : {M : Type 1} → statement M
+survey_spec = tie.close (tie.spec pass-requires sub-left returns)

@@ -23,73 +23,73 @@ asked s =
     }
 
 -- behind the first test: the survey found nothing bad, and what is left of a frame
-abbrev given : tie.Else1 → Asked
+abbrev given : tie.Else-surveyed → Asked
 given c = asked c.before.before.before.before.before
 
-sound : (c : tie.Else1) → false ≡ bad_frames (given c).lengths (given c).bytes
-sound c = sym c.if1.false ∙ c.before.survey.ensures.0
+sound : (c : tie.Else-surveyed) → false ≡ bad_frames (given c).lengths (given c).bytes
+sound c = sym c.if-surveyed.false ∙ c.survey-surveyed.ensures.0
 
-left-found : (c : tie.Else1) → c.before.survey.result.left ≡ left_at (given c).lengths (given c).place
-left-found c = c.before.survey.ensures.1 c.if1.false
+left-found : (c : tie.Else-surveyed) → c.survey-surveyed.result.left ≡ left_at (given c).lengths (given c).place
+left-found c = c.survey-surveyed.ensures.1 c.if-surveyed.false
 
 -- behind the second and the third: there is room, and bytes wait
-room : (c : tie.Else2) → mpeg_length ≤ length (given c.before).output
-room c = omega (arith, c.if2.false)
+room : (c : tie.Else-output-lt-MPEG_LENGTH) → mpeg_length ≤ length (given c.before).output
+room c = omega (arith, c.if-output-lt-MPEG_LENGTH.false)
 
-some : (c : tie.Else3) → (given c.before.before).place < length (given c.before.before).bytes
-some c = omega (arith, c.if3.false)
+some : (c : tie.Else-frames-place) → (given c.before.before).place < length (given c.before.before).bytes
+some c = omega (arith, c.if-frames-place.false)
 
-survey-requires : tie.Need-survey-requires
+survey-requires : tie.Need-survey-surveyed-requires
 survey-requires c κs = search rules
 
-returns : tie.Need-returns
-returns c = write_bad (asked c.before.before.before.before.before) (sym c.if1.true ∙ c.before.survey.ensures.0)
+returns : tie.Need-returns-then-surveyed
+returns c = write_bad (asked c.before.before.before.before.before) (sym c.if-surveyed.true ∙ c.survey-surveyed.ensures.0)
 
-returns-2 : tie.Need-returns-2
-returns-2 c = write_small (given c.before) (sound c.before) (omega (arith, c.if2.true))
+returns-2 : tie.Need-returns-then-output-lt-MPEG_LENGTH
+returns-2 c = write_small (given c.before) (sound c.before) (omega (arith, c.if-output-lt-MPEG_LENGTH.true))
 
-null-packet-requires : tie.Need-null-packet-requires
+null-packet-requires : tie.Need-null_packet-null-requires
 null-packet-requires c κs = search rules
 
-slice-aggregate-copy : tie.Need-slice-aggregate-copy
+slice-aggregate-copy : tie.Need-slice_bounds-copy-end
 slice-aggregate-copy c = search rules
 
 copy-requires : tie.Need-copy-requires
 copy-requires c κs = search rules
 
-same_length : tie.Need-same-length
+same_length : tie.Need-shape_of-output-then-frames-place
 same_length c = search rules
 
-returns-3 : tie.Need-returns-3
+returns-3 : tie.Need-returns-then-frames-place
 returns-3 c =
     let null = c.before.before.before.before.before in
     let e = null.before.before in
-    write_null (given e.before) (sound e.before) (room e) null.null-packet.result _
-    (omega (arith, null.before.if3.true)) null.null-packet.ensures c.before.before.copy.ensures
+    write_null (given e.before) (sound e.before) (room e) null.null_packet-null.result _
+    (omega (arith, null.if-frames-place.true)) null.null_packet-null.ensures c.copy.ensures
 
-write-data-requires : tie.Need-write-data-requires
+write-data-requires : tie.Need-write_data-carried-requires
 write-data-requires c κs =
     let e = c.before in
     let f = e.before.before in
     waits (given f) (sound f) (room e.before) (some e) _ (left-found f)
 
-add-t10 : tie.Need-overflow-add-t10
+add-t10 : tie.Need-overflow_add-result
 add-t10 c =
-    let packet = c.before.before.write-data in
+    let packet = c.write_data-carried in
     let e = c.before.before.before.before in
     let f = e.before.before in
     let there = carried-there (given f) (sound f) (room e.before) (some e) _ (left-found f) packet.result packet.ensures.0 in
-    omega (arith, there, f.before.before.before.before.before.well-formed.0.0)
+    omega (arith, there, f.well_formed.0.0)
 
-next-count-requires : tie.Need-next-count-requires
+next-count-requires : tie.Need-next_count-requires
 next-count-requires c κs = search rules
 
-same-length-2 : tie.Need-same-length-2
+same-length-2 : tie.Need-shape_of-output
 same-length-2 c = search rules
 
-returns-4 : tie.Need-returns-4
+returns-4 : tie.Need-returns
 returns-4 c =
-    let packet = c.before.before.before.write-data in
+    let packet = c.write_data-carried in
     let e = c.before.before.before.before.before in
     let f = e.before.before in
     write_frames (given f) (sound f) (room e.before) (some e) _ (left-found f)

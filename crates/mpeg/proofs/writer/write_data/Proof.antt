@@ -12,73 +12,73 @@ use Rattle.mpeg.proofs.writer.write_data.Tie as tie
 
 -- The places: behind the header without the flag, where a pointer is written, and behind the header with the flag; and the way back from
 -- each.
-abbrev headed : tie.After-write-header → tie.Start
+abbrev headed : tie.After-write_header → tie.Start
 headed h = h.before.before.before.before.before
 
-abbrev begin : tie.Else1 → tie.Start
+abbrev begin : tie.Else-left-ge-PAYLOAD_LENGTH → tie.Start
 begin c = c.before.before.before
 
-abbrev flagged : tie.After-write-header2 → tie.Else1
+abbrev flagged : tie.After-write_header-2 → tie.Else-left-ge-PAYLOAD_LENGTH
 flagged h = h.before.before
 
-near : (c : tie.Else1) → (begin c).args.left < payload_length
-near c = omega (arith, c.if1.false)
+near : (c : tie.Else-left-ge-PAYLOAD_LENGTH) → (begin c).args.left < payload_length
+near c = omega (arith, c.if-left-ge-PAYLOAD_LENGTH.false)
 
-write-header-requires : tie.Need-write-header-requires
+write-header-requires : tie.Need-write_header-requires
 write-header-requires c κs = search rules
 
-copy-long-requires : tie.Need-copy-long-requires
+copy-long-requires : tie.Need-copy_long-requires
 copy-long-requires c κs = search rules
 
-same_length : tie.Need-same-length
+same_length : tie.Need-shape_of-output-then-left-ge-PAYLOAD_LENGTH
 same_length c = search rules
 
-returns : tie.Need-returns
+returns : tie.Need-returns-then-left-ge-PAYLOAD_LENGTH
 returns c =
     let h = c.before.before.before.before.before.before in
     let s = headed h in
     let a = s.args in
-    let far = h.before.before.if1.true in (
-      unpointed_carries a.output.now a.frames.now a.place a.left a.count s.pre far,
-      unpointed_written a.output.now a.frames.now a.place a.left a.count s.pre far _ _
-          h.write-header.ensures c.before.before.copy-long.ensures,
+    let far = h.if-left-ge-PAYLOAD_LENGTH.true in (
+      unpointed_carries a.output.now a.frames.now a.place a.left a.count s.requires far,
+      unpointed_written a.output.now a.frames.now a.place a.left a.count s.requires far _ _
+          h.write_header.ensures c.copy_long.ensures,
     )
 
-write-header-requires-2 : tie.Need-write-header-requires-2
+write-header-requires-2 : tie.Need-write_header-requires-2
 write-header-requires-2 c κs = search rules
 
-cast-output : tie.Need-overflow-cast-output
+cast-output : tie.Need-overflow_cast-output
 cast-output c = search rules
 
-slice-write-output : tie.Need-slice-write-output
+slice-write-output : tie.Need-bounds-output-4
 slice-write-output c = search rules
 
-write-pointed-requires : tie.Need-write-pointed-requires
+write-pointed-requires : tie.Need-write_pointed-requires
 write-pointed-requires c κs =
     let s = begin c.before.before.before.before.before in
-    let long = c.before.before.before.write-header2.auto.0 in
-    (omega (arith, s.pre.something), simp length-set (omega (arith, long, s.pre.room)))
+    let long = c.write_header-2.auto.packet in
+    (omega (arith, s.requires.something), simp length-set (omega (arith, long, s.requires.room)))
 
-same-length-2 : tie.Need-same-length-2
+same-length-2 : tie.Need-shape_of-output
 same-length-2 c =
-    simp length-set at c.before.before.write-pointed.auto.0
-    ∙ c.before.before.before.before.before.before.write-header2.auto.0
+    simp length-set at c.write_pointed.auto.output
+    ∙ c.write_header-2.auto.packet
 
-returns-2 : tie.Need-returns-2
+returns-2 : tie.Need-returns
 returns-2 c =
     let h = c.before.before.before.before.before.before in
     let e = flagged h in
     let s = begin e in
     let a = s.args in
-    let behind = c.before.before.write-pointed in (
-      pointed-carries a.output.now a.frames.now a.place a.left a.count s.pre (near e) behind.result
+    let behind = c.write_pointed in (
+      pointed-carries a.output.now a.frames.now a.place a.left a.count s.requires (near e) behind.result
           behind.ensures.0,
-      pointed-written a.output.now a.frames.now a.place a.left a.count s.pre (near e) _ _
-          h.write-header2.ensures behind.ensures.1,
+      pointed-written a.output.now a.frames.now a.place a.left a.count s.requires (near e) _ _
+          h.write_header-2.ensures behind.ensures.1,
     )
 
-pub write-data-spec : {M : Type 1} → statement M
-write-data-spec =
+pub write_data_spec : {M : Type 1} → statement M
+write_data_spec =
     tie.close
     (tie.spec
     write-header-requires
