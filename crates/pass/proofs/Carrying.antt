@@ -12,7 +12,7 @@ use Rattle.octets.proofs.Counts.{sum_more, sum_below}
 use Rattle.octets.proofs.Stretches.{put-nil, joined_one, length-joined-none}
 use Rattle.packet.specs.Segments.{Segment}
 use Rattle.join.specs.declared.Tally.{Tally}
-use Rattle.join.specs.Join.{Fate, dropping, in_order}
+use Rattle.join.specs.Join.{Fate, dropping, and_then, in_order}
 use Rattle.join.specs.Slices.{as_slices, Slices, most_bytes, most_frames}
 use Rattle.join.specs.Inside.{nothing_yet, Placed, Fits, Within}
 use Rattle.join.proofs.Account.{Accounts, in_order_accounts}
@@ -154,7 +154,7 @@ module _ {X : Type 0} (goes : X → Bool) (body : X → List ℕ) where
   holds_none : (f : Fate) → f.held ≡ [] → (xs : List X) → (in_order (λ before x. passed_on (goes x) (body x)) f xs).held ≡ []
   unfolding in_order
   holds_none f none [] = none
-  holds_none f none (x ∷ xs) = holds_none _ (by_test (goes x) (body x)) xs
+  holds_none f none (x ∷ xs) = holds_none (and_then f (passed_on (goes x) (body x))) (by_test (goes x) (body x)) xs
     where
       by_test : (goes : Bool) (bytes : List ℕ) → (passed_on goes bytes).held ≡ []
       by_test true bytes = refl

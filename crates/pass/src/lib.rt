@@ -1,6 +1,8 @@
 // Packets whose pieces are passed on or dropped, each by itself: PSP packets without a number (document 02, W2; `unnumbered`) and D-MPT
 // packets (document 01, "Opening, closing, listening"; `mpegs`). Nothing is joined and nothing is held from then on, so nothing here is
 // given the holding slice; in the contracts an empty list stands for it.
+#![tactic(auto)]
+
 pub mod mpegs;
 pub mod unnumbered;
 

@@ -1,7 +1,6 @@
 pub mod Examples
 pub mod Reading
 pub mod Walk
-pub mod Thin
 pub mod Judging
 pub mod Account
 pub mod Packets

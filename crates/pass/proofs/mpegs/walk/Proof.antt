@@ -15,11 +15,11 @@ use borrow.Author.Rules.{rules}
 use Rattle.pass.proofs.mpegs.walk.Statement.{statement}
 use Rattle.pass.proofs.mpegs.walk.Tie as tie
 
-abbrev invariant-loop : tie.invariant-loop
+abbrev invariant-loop : tie.invariant-loop-k
 invariant-loop output₀ lengths₀ sub count tally₀ k₀ output lengths tally k =
     (count ≡ mpeg_count sub) × Carrying (mpeg_load sub) output₀ lengths₀ output lengths tally k
 
-abbrev decreases-loop : tie.decreases-loop
+abbrev decreases-loop : tie.decreases-loop-k
 decreases-loop output₀ lengths₀ sub count tally₀ k₀ output lengths tally k = count - k
 
 -- the places of a turn, and of the end
@@ -27,12 +27,12 @@ abbrev Start : Type 0
 Start = tie.Start invariant-loop decreases-loop
 
 abbrev Turn : Type 0
-Turn = tie.In-loop invariant-loop decreases-loop
+Turn = tie.In-loop-k invariant-loop decreases-loop
 
 abbrev start : Turn → Start
 start c = c.before.before.before.before.before.before
 
-abbrev begun : tie.After-loop invariant-loop decreases-loop → Start
+abbrev begun : tie.After-loop-k invariant-loop decreases-loop → Start
 begun c = c.before.before.before.before.before.before
 
 whole : (s : Start) → header_length ≤ length s.args.sub.now
@@ -41,77 +41,77 @@ whole s = dmpt_header s.args.sub.now s.requires.1.1
 fitting : (s : Start) → Fitting (mpeg_load s.args.sub.now)
 fitting s = mpegs_fit s.args.sub.now (whole s) s.requires.1.0
 
-there : (c : Turn) → c.before.loop.k < mpeg_count (start c).args.sub.now
-there c = omega (arith, c.before.loop.invariant.0, c.loop-test.true)
+there : (c : Turn) → c.loop-k.k < mpeg_count (start c).args.sub.now
+there c = omega (arith, c.loop-k.invariant.0, c.loop-k-test.true)
 
-mpeg-count-requires : tie.Need-mpeg-count-requires invariant-loop decreases-loop
+mpeg-count-requires : tie.Need-mpeg_count-count-requires invariant-loop decreases-loop
 mpeg-count-requires c κs = whole c.before.before.before
 
-loop-holds : tie.Need-loop-init invariant-loop decreases-loop
-loop-holds c = (c.mpeg-count.ensures, carry_begin _ _ _ _ refl)
+loop-holds : tie.Need-loop-k-init invariant-loop decreases-loop
+loop-holds c = (c.mpeg_count-count.ensures, carry_begin _ _ _ _ refl)
 
-mul-from : tie.Need-overflow-mul-from invariant-loop decreases-loop
+mul-from : tie.Need-overflow_mul-from invariant-loop decreases-loop
 mul-from c = search rules
 
-add-from : tie.Need-overflow-add-from invariant-loop decreases-loop
+add-from : tie.Need-overflow_add-from invariant-loop decreases-loop
 add-from c = search rules
 
-pid-of-requires : tie.Need-pid-of-requires invariant-loop decreases-loop
+pid-of-requires : tie.Need-pid_of-goes-requires invariant-loop decreases-loop
 pid-of-requires c κs = search rules
 
-pass-on-requires : tie.Need-pass-on-requires invariant-loop decreases-loop
+pass-on-requires : tie.Need-pass_on-tally-requires invariant-loop decreases-loop
 pass-on-requires c κs =
     let t = c.before.before.before in
     let s = start t in
     let load = mpeg_load s.args.sub.now in
-    let i = t.before.loop.invariant.1 in (
-      carry_room load (fitting s) s.pre.0.0 s.pre.0.1 i,
+    let i = t.loop-k.invariant.1 in (
+      carry_room load (fitting s) s.requires.0.0 s.requires.0.1 i,
       (
-        mpeg_inside s.args.sub.now t.before.loop.k (whole s) (there t),
-        carry_fits load (fitting s) s.pre.0.0 s.pre.0.1 i (there t),
+        mpeg_inside s.args.sub.now t.loop-k.k (whole s) (there t),
+        carry_fits load (fitting s) s.requires.0.0 s.requires.0.1 i (there t),
       ),
     )
 
-add-k : tie.Need-overflow-add-k invariant-loop decreases-loop
+add-k : tie.Need-overflow_add-k invariant-loop decreases-loop
 add-k c = search rules
 
-loop-less : tie.Need-loop-smaller invariant-loop decreases-loop
+loop-less : tie.Need-loop-k-smaller invariant-loop decreases-loop
 loop-less c = search rules
 
-loop-again : tie.Need-loop-preserved invariant-loop decreases-loop
+loop-again : tie.Need-loop-k-preserved invariant-loop decreases-loop
 unfolding mpeg_at
 loop-again c =
     let passed = c.before.before.before.before in
     let read = passed.before.before.before in
     let t = read.before in
     let s = start t in (
-      t.before.loop.invariant.0,
-      carry_turn (mpeg_load s.args.sub.now) (fitting s) s.pre.0.0 s.pre.0.1 t.before.loop.invariant.1 (there t) _ _ _
-          (rw read.pid-of.ensures at passed.pass_on.ensures),
+      t.loop-k.invariant.0,
+      carry_turn (mpeg_load s.args.sub.now) (fitting s) s.requires.0.0 s.requires.0.1 t.loop-k.invariant.1 (there t) _ _ _
+          (rw read.pid_of-goes.ensures at passed.pass_on-tally.ensures),
     )
 
-same_length : tie.Need-same-length invariant-loop decreases-loop
+same_length : tie.Need-shape_of-output invariant-loop decreases-loop
 same_length c =
     let s = begun c in
-    (carry_lengths (mpeg_load s.args.sub.now) (fitting s) s.pre.0.0 s.pre.0.1 c.before.loop.invariant.1).0
+    (carry_lengths (mpeg_load s.args.sub.now) (fitting s) s.requires.0.0 s.requires.0.1 c.loop-k.invariant.1).0
 
-same-length-2 : tie.Need-same-length-2 invariant-loop decreases-loop
+same-length-2 : tie.Need-shape_of-lengths invariant-loop decreases-loop
 same-length-2 c =
     let s = begun c in
-    (carry_lengths (mpeg_load s.args.sub.now) (fitting s) s.pre.0.0 s.pre.0.1 c.before.loop.invariant.1).1
+    (carry_lengths (mpeg_load s.args.sub.now) (fitting s) s.requires.0.0 s.requires.0.1 c.loop-k.invariant.1).1
 
 returns : tie.Need-returns invariant-loop decreases-loop
 unfolding dmpt_fate mpegs
 returns c =
     let s = begun c in
     let load = mpeg_load s.args.sub.now in
-    let i = c.before.loop.invariant in (
-      carry_end load (fitting s) s.pre.0.0 s.pre.0.1 i.1 (omega (arith, i.0, c.loop-test.false)),
-      carry_within load (fitting s) s.pre.0.0 s.pre.0.1 i.1,
+    let i = c.loop-k.invariant in (
+      carry_end load (fitting s) s.requires.0.0 s.requires.0.1 i.1 (omega (arith, i.0, c.loop-k-test.false)),
+      carry_within load (fitting s) s.requires.0.0 s.requires.0.1 i.1,
     )
 
-pub walk-spec : {M : Type 1} → statement M
-walk-spec =
+pub walk_spec : {M : Type 1} → statement M
+walk_spec =
     tie.close
     (tie.spec
     invariant-loop

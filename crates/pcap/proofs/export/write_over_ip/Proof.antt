@@ -14,19 +14,19 @@ receiver-long s = search rules
 sender-long : (s : tie.Start) → length s.args.addresses.sender ≡ 6
 sender-long s = search rules
 
-add-next : tie.Need-overflow-add-next
+add-next : tie.Need-overflow_add-next
 add-next c = search rules
 
-write-front-requires : tie.Need-write-front-requires
+write-front-requires : tie.Need-write_front-requires
 write-front-requires c κs = search rules
 
 copy-requires : tie.Need-copy-requires
 copy-requires c κs = search rules
 
-add-result : tie.Need-overflow-add-result
+add-result : tie.Need-overflow_add-result
 add-result c = search rules
 
-same_length : tie.Need-same-length
+same_length : tie.Need-shape_of-output
 same_length c = search rules
 
 returns : tie.Need-returns
@@ -36,10 +36,10 @@ returns c =
     let s = front.before.before.before.before in
     let a = s.args in (
       over_ip-put a.addresses (sender-long s) (receiver-long s) a.output.now a.at a.body.now s.requires.0
-          front.write-front.ensures copied.copy.ensures,
+          front.write_front.ensures copied.copy.ensures,
       omega arith,
     )
 
-pub write-over-ip-spec : {M : Type 1} → statement M
-write-over-ip-spec =
+pub write_over_ip_spec : {M : Type 1} → statement M
+write_over_ip_spec =
     tie.close (tie.spec add-next write-front-requires copy-requires add-result same_length returns)

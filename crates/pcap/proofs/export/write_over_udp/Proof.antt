@@ -14,31 +14,31 @@ receiver-long s = search rules
 sender-long : (s : tie.Start) → length s.args.addresses.sender ≡ 6
 sender-long s = search rules
 
-add-next : tie.Need-overflow-add-next
+add-next : tie.Need-overflow_add-next
 add-next c = search rules
 
-add-write-front : tie.Need-overflow-add-write-front
+add-write-front : tie.Need-overflow_add-size
 add-write-front c = search rules
 
-write-front-requires : tie.Need-write-front-requires
+write-front-requires : tie.Need-write_front-requires
 write-front-requires c κs = search rules
 
-write-udp-requires : tie.Need-write-udp-requires
+write-udp-requires : tie.Need-write_udp-requires
 write-udp-requires c κs = search rules
 
-add-copy : tie.Need-overflow-add-copy
+add-copy : tie.Need-overflow_add-next-2
 add-copy c = search rules
 
 copy-requires : tie.Need-copy-requires
 copy-requires c κs = search rules
 
-add-result : tie.Need-overflow-add-result
+add-result : tie.Need-overflow_add-result
 add-result c = search rules
 
-add-result-2 : tie.Need-overflow-add-result-2
+add-result-2 : tie.Need-overflow_add-result-2
 add-result-2 c = search rules
 
-same_length : tie.Need-same-length
+same_length : tie.Need-shape_of-output
 same_length c = search rules
 
 returns : tie.Need-returns
@@ -49,12 +49,12 @@ returns c =
     let s = front.before.before.before.before in
     let a = s.args in (
       over_udp-put a.addresses (sender-long s) (receiver-long s) a.output.now a.at a.body.now s.requires.0
-          front.write-front.ensures header.write-udp.ensures copied.copy.ensures,
+          front.write_front.ensures header.write_udp.ensures copied.copy.ensures,
       omega arith,
     )
 
-pub write-over-udp-spec : {M : Type 1} → statement M
-write-over-udp-spec =
+pub write_over_udp_spec : {M : Type 1} → statement M
+write_over_udp_spec =
     tie.close
     (tie.spec
     add-next

@@ -8,7 +8,7 @@ use Rattle.pcap.proofs.headers.write_ethernet.Statement.{statement}
 use Rattle.pcap.proofs.headers.write_ethernet.Tie as tie
 
 -- from where the receiver's address is written back to the start
-abbrev start : tie.After-receiver2 → tie.Start
+abbrev start : tie.After-receiver-2-1 → tie.Start
 start c = c.before.before.before.before.before
 
 -- the addresses have six bytes each: their type says so
@@ -18,32 +18,32 @@ receiver-long s = search rules
 sender-long : (s : tie.Start) → length s.args.addresses.sender ≡ 6
 sender-long s = search rules
 
-slice-aggregate-copy : tie.Need-slice-aggregate-copy
+slice-aggregate-copy : tie.Need-slice_bounds-copy-end
 slice-aggregate-copy c = search rules
 
 copy-requires : tie.Need-copy-requires
 copy-requires c κs =
     (omega arith, omega (arith, receiver-long (start c)))
 
-add-copy : tie.Need-overflow-add-copy
+add-copy : tie.Need-overflow_add-at
 add-copy c = search rules
 
-slice-aggregate-copy-2 : tie.Need-slice-aggregate-copy-2
+slice-aggregate-copy-2 : tie.Need-slice_bounds-copy-end-2
 slice-aggregate-copy-2 c = search rules
 
 copy-requires-2 : tie.Need-copy-requires-2
 copy-requires-2 c κs =
     let first = c.before.before.before.before in
     let s = start first.before in
-    (omega (arith, s.pre, first.copy.auto.0), omega (arith, sender-long s))
+    (omega (arith, s.requires, first.copy.auto.target), omega (arith, sender-long s))
 
-add-write-u16 : tie.Need-overflow-add-write-u16
+add-write-u16 : tie.Need-overflow_add-at-2
 add-write-u16 c = search rules
 
-write-u16-requires : tie.Need-write-u16-requires
+write-u16-requires : tie.Need-write_u16-requires
 write-u16-requires c κs = search rules
 
-same_length : tie.Need-same-length
+same_length : tie.Need-shape_of-output
 same_length c = search rules
 
 returns : tie.Need-returns
@@ -52,11 +52,11 @@ returns c =
     let second = type-of.before.before.before.before in
     let first = second.before.before.before.before.before in
     let s = start first.before in
-    ethernet-put s.args.output.now s.args.at s.args.addresses (sender-long s) (receiver-long s) s.pre
-    first.copy.ensures second.copy2.ensures type-of.write-u16.ensures
+    ethernet-put s.args.output.now s.args.at s.args.addresses (sender-long s) (receiver-long s) s.requires
+    first.copy.ensures second.copy-2.ensures type-of.write_u16.ensures
 
-pub write-ethernet-spec : {M : Type 1} → statement M
-write-ethernet-spec =
+pub write_ethernet_spec : {M : Type 1} → statement M
+write_ethernet_spec =
     tie.close
     (tie.spec
     slice-aggregate-copy

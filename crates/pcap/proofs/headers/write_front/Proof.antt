@@ -13,31 +13,31 @@ receiver-long s = search rules
 sender-long : (s : tie.Start) → length s.args.addresses.sender ≡ 6
 sender-long s = search rules
 
-add-write-record-header : tie.Need-overflow-add-write-record-header
+add-write-record-header : tie.Need-overflow_add-write_record_header
 add-write-record-header c = search rules
 
-add-write-record-header-2 : tie.Need-overflow-add-write-record-header-2
+add-write-record-header-2 : tie.Need-overflow_add-size
 add-write-record-header-2 c = search rules
 
-write-record-header-requires : tie.Need-write-record-header-requires
+write-record-header-requires : tie.Need-write_record_header-requires
 write-record-header-requires c κs = search rules
 
-add-ethernet : tie.Need-overflow-add-ethernet
+add-ethernet : tie.Need-overflow_add-ethernet
 add-ethernet c = search rules
 
-write-ethernet-requires : tie.Need-write-ethernet-requires
+write-ethernet-requires : tie.Need-write_ethernet-requires
 write-ethernet-requires c κs = search rules
 
-add-write-ipv4 : tie.Need-overflow-add-write-ipv4
+add-write-ipv4 : tie.Need-overflow_add-ethernet-2
 add-write-ipv4 c = search rules
 
-add-write-ipv4-2 : tie.Need-overflow-add-write-ipv4-2
+add-write-ipv4-2 : tie.Need-overflow_add-size-2
 add-write-ipv4-2 c = search rules
 
-write-ipv4-requires : tie.Need-write-ipv4-requires
+write-ipv4-requires : tie.Need-write_ipv4-requires
 write-ipv4-requires c κs = search rules
 
-same_length : tie.Need-same-length
+same_length : tie.Need-shape_of-output
 same_length c = search rules
 
 returns : tie.Need-returns
@@ -48,10 +48,10 @@ returns c =
     let s = header.before.before.before in
     let a = s.args in
     front_put a.addresses (sender-long s) (receiver-long s) a.output.now a.at a.size a.carried s.requires.0
-    header.write-record-header.ensures ethernet.write-ethernet.ensures internet.write-ipv4.ensures
+    header.write_record_header.ensures ethernet.write_ethernet.ensures internet.write_ipv4.ensures
 
-pub write-front-spec : {M : Type 1} → statement M
-write-front-spec =
+pub write_front_spec : {M : Type 1} → statement M
+write_front_spec =
     tie.close
     (tie.spec
     add-write-record-header

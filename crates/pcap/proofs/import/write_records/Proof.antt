@@ -12,77 +12,77 @@ use borrow.Author.Rules.{rules}
 use Rattle.pcap.proofs.import.write_records.Statement.{statement}
 use Rattle.pcap.proofs.import.write_records.Tie as tie
 
-abbrev invariant-loop : tie.invariant-loop
+abbrev invariant-loop : tie.invariant-loop-packet
 invariant-loop file output₀ count little at₀ writer₀ output at writer =
     Laying (entries_of (records file)) count output₀ writer₀ (entries_of (recordsFrom (length file) file at little)) output writer
 
-abbrev decreases-loop : tie.decreases-loop
+abbrev decreases-loop : tie.decreases-loop-packet
 decreases-loop file output₀ count little at₀ writer₀ output at writer = length file - at
 
 -- back from a turn's start to where the walk stands, and from there to the start
-abbrev walk : tie.After-whole-at invariant-loop decreases-loop → tie.At-loop invariant-loop decreases-loop
+abbrev walk : tie.After-whole_at invariant-loop decreases-loop → tie.At-loop-packet invariant-loop decreases-loop
 walk c = c.before
 
-abbrev start : tie.At-loop invariant-loop decreases-loop → tie.Start invariant-loop decreases-loop
+abbrev start : tie.At-loop-packet invariant-loop decreases-loop → tie.Start invariant-loop decreases-loop
 start c = c.before.before.before.before.before
 
-is-little-requires : tie.Need-is-little-requires invariant-loop decreases-loop
+is-little-requires : tie.Need-is_little-little-requires invariant-loop decreases-loop
 is-little-requires c κs = search rules
 
-first-place-requires : tie.Need-first-place-requires invariant-loop decreases-loop
+first-place-requires : tie.Need-first_place-at-requires invariant-loop decreases-loop
 first-place-requires c κs = search rules
 
-loop-holds : tie.Need-loop-init invariant-loop decreases-loop
+loop-holds : tie.Need-loop-packet-init invariant-loop decreases-loop
 loop-holds c =
     let s = c.before.before.before.before in
-    rw (records_begin s.args.file.now _ _ c.before.is-little.ensures c.first-place.ensures) (laying_begin s.requires)
+    rw (records_begin s.args.file.now _ _ c.is_little-little.ensures c.first_place-at.ensures) (laying_begin s.requires)
 
-whole-at-requires : tie.Need-whole-at-requires invariant-loop decreases-loop
+whole-at-requires : tie.Need-whole_at-requires invariant-loop decreases-loop
 whole-at-requires c κs = search rules
 
-bytes-at-requires : tie.Need-bytes-at-requires invariant-loop decreases-loop
+bytes-at-requires : tie.Need-bytes_at-packet-requires invariant-loop decreases-loop
 bytes-at-requires c κs = search rules
 
-write-record-requires : tie.Need-write-record-requires invariant-loop decreases-loop
+write-record-requires : tie.Need-write_record-writer-requires invariant-loop decreases-loop
 write-record-requires c κs =
     let there = c.before.before.before in
     let l = walk there in
-    let whole = sym there.whole-at.ensures ∙ c.before.before.if1.true in
-    laying_room l.loop.inv _ _
-    (records_split (start l).args.file.now l.loop.at _ whole _ _ c.before.bytes-at.ensures.its_bytes refl)
+    let whole = sym there.whole_at.ensures ∙ c.loop-packet-test.true in
+    laying_room l.loop-packet.invariant _ _
+    (records_split (start l).args.file.now l.loop-packet.at _ whole _ _ c.bytes_at-packet.ensures.its_bytes refl)
 
-after-at-requires : tie.Need-after-at-requires invariant-loop decreases-loop
+after-at-requires : tie.Need-after_at-at-requires invariant-loop decreases-loop
 after-at-requires c κs = search rules
 
-loop-less : tie.Need-loop-smaller invariant-loop decreases-loop
+loop-less : tie.Need-loop-packet-smaller invariant-loop decreases-loop
 loop-less c =
     let turn = c.before.before.before.before.before.before in
     let there = turn.before in
-    let falls = step_falls _ _ _ (sym there.whole-at.ensures ∙ turn.if1.true) in
-    omega (arith, falls, c.after-at.ensures)
+    let falls = step_falls _ _ _ (sym there.whole_at.ensures ∙ turn.loop-packet-test.true) in
+    omega (arith, falls, c.after_at-at.ensures)
 
-loop-again : tie.Need-loop-preserved invariant-loop decreases-loop
+loop-again : tie.Need-loop-packet-preserved invariant-loop decreases-loop
 loop-again c =
     let w = c.before.before.before in
     let bytes = w.before.before in
     let there = bytes.before.before in
     let l = walk there in
-    let whole = sym there.whole-at.ensures ∙ bytes.before.if1.true in
-    laying_turn l.loop.inv _ _
-    (records_split (start l).args.file.now l.loop.at _ whole _ _ bytes.bytes-at.ensures.its_bytes c.after-at.ensures)
-    w.write-record.ensures
+    let whole = sym there.whole_at.ensures ∙ bytes.loop-packet-test.true in
+    laying_turn l.loop-packet.invariant _ _
+    (records_split (start l).args.file.now l.loop-packet.at _ whole _ _ bytes.bytes_at-packet.ensures.its_bytes c.after_at-at.ensures)
+    w.write_record-writer.ensures
 
-same_length : tie.Need-same-length invariant-loop decreases-loop
-same_length c = (walk c.before).loop.inv.as_long
+same_length : tie.Need-shape_of-output invariant-loop decreases-loop
+same_length c = (walk c.before).loop-packet.invariant.as_long
 
 returns : tie.Need-returns invariant-loop decreases-loop
 returns c =
     let l = walk c.before in
-    laying_end l.loop.inv
-    (records_over (start l).args.file.now l.loop.at _ (sym c.before.whole-at.ensures ∙ c.if1.false))
+    laying_end l.loop-packet.invariant
+    (records_over (start l).args.file.now l.loop-packet.at _ (sym c.whole_at.ensures ∙ c.loop-packet-test.false))
 
-pub write-records-spec : {M : Type 1} → statement M
-write-records-spec =
+pub write_records_spec : {M : Type 1} → statement M
+write_records_spec =
     tie.close
     (tie.spec
     invariant-loop

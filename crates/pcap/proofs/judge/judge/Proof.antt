@@ -8,87 +8,87 @@ use Rattle.pcap.proofs.judge.judge.Statement.{statement}
 use Rattle.pcap.proofs.judge.judge.Tie as tie
 
 -- back from where the lengths are good to where they were judged, to where it was asked whether this is IPv4, and to the start
-abbrev sized : tie.Else2 → tie.After-bad-ipv4-lengths
+abbrev sized : tie.Else-bad_ipv4_lengths → tie.After-bad_ipv4_lengths
 sized c = c.before
 
-abbrev asked : tie.After-bad-ipv4-lengths → tie.After-not-ipv4
+abbrev asked : tie.After-bad_ipv4_lengths → tie.After-not_ipv4
 asked c = c.before.before
 
-abbrev start : tie.After-not-ipv4 → tie.Start
+abbrev start : tie.After-not_ipv4 → tie.Start
 start c = c.before.before
 
-fits : (c : tie.Else2) → Fitting (start (asked (sized c))).args.packet.now
+fits : (c : tie.Else-bad_ipv4_lengths) → Fitting (start (asked (sized c))).args.packet.now
 fits c =
     let lengths = sized c in
     let type = asked lengths in
-    fits-well (start type).args.packet.now type.not_ipv4.result type.not_ipv4.ensures lengths.before.if1.left
-    lengths.bad_ipv4_lengths.result lengths.bad_ipv4_lengths.ensures c.if2.false
+    fits-well (start type).args.packet.now type.not_ipv4.result type.not_ipv4.ensures lengths.if-not_ipv4.false
+    lengths.bad_ipv4_lengths.result lengths.bad_ipv4_lengths.ensures c.if-bad_ipv4_lengths.false
 
-not-ipv4-requires : tie.Need-not-ipv4-requires
+not-ipv4-requires : tie.Need-not_ipv4-requires
 not-ipv4-requires c κs = search rules
 
 skip-requires : tie.Need-skip-requires
 skip-requires c κs = search rules
 
-returns : tie.Need-returns
+returns : tie.Need-returns-then-not_ipv4
 returns c =
     let type = c.before.before in
-    c.skip.ensures ∙ not_ipv4-skipped _ _ type.not_ipv4.ensures c.before.if1.true
+    c.skip.ensures ∙ not_ipv4-skipped _ _ type.not_ipv4.ensures c.if-not_ipv4.true
 
-bad-ipv4-lengths-requires : tie.Need-bad-ipv4-lengths-requires
+bad-ipv4-lengths-requires : tie.Need-bad_ipv4_lengths-requires
 bad-ipv4-lengths-requires c κs = search rules
 
-skip-requires-2 : tie.Need-skip-requires-2
+skip-requires-2 : tie.Need-skip-requires-then-bad_ipv4_lengths
 skip-requires-2 c κs = search rules
 
-returns-2 : tie.Need-returns-2
+returns-2 : tie.Need-returns-then-bad_ipv4_lengths
 returns-2 c =
     let lengths = c.before.before in
-    c.skip2.ensures
-    ∙ bad_lengths-skipped _ _ (asked lengths).not_ipv4.ensures lengths.before.if1.false _ lengths.bad_ipv4_lengths.ensures
-    c.before.if2.true
+    c.skip-then-bad_ipv4_lengths.ensures
+    ∙ bad_lengths-skipped _ _ (asked lengths).not_ipv4.ensures lengths.if-not_ipv4.false _ lengths.bad_ipv4_lengths.ensures
+    c.if-bad_ipv4_lengths.true
 
-read-u16-requires : tie.Need-read-u16-requires
+read-u16-requires : tie.Need-read_u16-requires
 read-u16-requires c κs = omega (arith, (fits c).headed)
 
-skip-requires-3 : tie.Need-skip-requires-3
+skip-requires-3 : tie.Need-skip-requires-then-read_u16-ne0
 skip-requires-3 c κs = search rules
 
-returns-3 : tie.Need-returns-3
+returns-3 : tie.Need-returns-then-read_u16-ne0
 returns-3 c =
     let read = c.before.before in
     let lengths = sized read.before in
-    c.skip3.ensures
-    ∙ fragment_skipped _ _ (asked lengths).not_ipv4.ensures lengths.before.if1.left _ lengths.bad_ipv4_lengths.ensures
-    read.before.if2.false _ (ap (λ (n : ℕ). n % 16384) read.read-u16.ensures) c.before.if3.true
+    c.skip-then-read_u16-ne0.ensures
+    ∙ fragment_skipped _ _ (asked lengths).not_ipv4.ensures lengths.if-not_ipv4.false _ lengths.bad_ipv4_lengths.ensures
+    read.if-bad_ipv4_lengths.false _ (ap (λ (n : ℕ). n % 16384) read.read_u16.ensures) c.if-read_u16-ne0.true
 
-header-length-requires : tie.Need-header-length-requires
+header-length-requires : tie.Need-header_length-header-requires
 header-length-requires c κs = (fits c.before.before).headed
 
-total-length-requires : tie.Need-total-length-requires
+total-length-requires : tie.Need-total_length-total-requires
 total-length-requires c κs = (fits c.before.before.before).headed
 
-add_at : tie.Need-overflow-add-at
+add_at : tie.Need-overflow_add-at
 add_at c = search rules
 
-sub-room : tie.Need-overflow-sub-room
+sub-room : tie.Need-overflow_sub-room
 sub-room c =
     let f = fits c.before.before.before.before in
-    omega (arith, f.header-inside, c.before.header-length.ensures.0, c.total-length.ensures.0)
+    omega (arith, f.header-inside, c.header_length-header.ensures.0, c.total_length-total.ensures.0)
 
-judge-payload-requires : tie.Need-judge-payload-requires
+judge-payload-requires : tie.Need-judge_payload-requires
 judge-payload-requires c κs =
     let read = c.before.before.before in
     let lengths = sized read.before in
-    whole-packet _ _ (asked lengths).not_ipv4.ensures lengths.before.if1.left _ lengths.bad_ipv4_lengths.ensures
-    read.before.if2.false _ (ap (λ (n : ℕ). n % 16384) read.read-u16.ensures) _ _ c.before.before.if3.false
-    c.before.header-length.ensures.0 c.total-length.ensures.0
+    whole-packet _ _ (asked lengths).not_ipv4.ensures lengths.if-not_ipv4.false _ lengths.bad_ipv4_lengths.ensures
+    read.if-bad_ipv4_lengths.false _ (ap (λ (n : ℕ). n % 16384) read.read_u16.ensures) _ _ c.if-read_u16-ne0.false
+    c.header_length-header.ensures.0 c.total_length-total.ensures.0
 
-returns-4 : tie.Need-returns-4
+returns-4 : tie.Need-returns
 returns-4 c = search rules
 
-pub judge-spec : {M : Type 1} → statement M
-judge-spec =
+pub judge_spec : {M : Type 1} → statement M
+judge_spec =
     tie.close
     (tie.spec
     not-ipv4-requires

@@ -6,36 +6,36 @@ use borrow.Author.Rules.{rules}
 use Rattle.pcap.proofs.records.after_at.Statement.{statement}
 use Rattle.pcap.proofs.records.after_at.Tie as tie
 
-whole-at-requires : tie.Need-whole-at-requires
+whole-at-requires : tie.Need-whole_at-requires
 whole-at-requires c κs = search rules
 
-add-result : tie.Need-overflow-add-result
-add-result c = omega (arith, whole-inside _ _ _ (sym c.before.whole-at.ensures ∙ c.if1.true))
+add-result : tie.Need-overflow_add-result
+add-result c = omega (arith, whole-inside _ _ _ (sym c.whole_at.ensures ∙ c.if-whole_at.true))
 
-add-read-u32-in : tie.Need-overflow-add-read-u32-in
-add-read-u32-in c = omega (arith, whole-inside _ _ _ (sym c.before.whole-at.ensures ∙ c.if1.true))
+add-read-u32-in : tie.Need-overflow_add-at
+add-read-u32-in c = omega (arith, whole-inside _ _ _ (sym c.whole_at.ensures ∙ c.if-whole_at.true))
 
-read-u32-in-requires : tie.Need-read-u32-in-requires
-read-u32-in-requires c κs = omega (arith, whole-inside _ _ _ (sym c.before.whole-at.ensures ∙ c.if1.true))
+read-u32-in-requires : tie.Need-read_u32_in-requires
+read-u32-in-requires c κs = omega (arith, whole-inside _ _ _ (sym c.whole_at.ensures ∙ c.if-whole_at.true))
 
-cast-result : tie.Need-overflow-cast-result
+cast-result : tie.Need-overflow_cast-result
 cast-result c = search rules
 
-add-result-2 : tie.Need-overflow-add-result-2
+add-result-2 : tie.Need-overflow_add-result-then-whole_at
 add-result-2 c =
     let there = c.before in
-    omega (arith, whole-inside _ _ _ (sym there.before.whole-at.ensures ∙ there.if1.true), c.read-u32-in.ensures)
+    omega (arith, whole-inside _ _ _ (sym there.whole_at.ensures ∙ there.if-whole_at.true), c.read_u32_in.ensures)
 
-returns : tie.Need-returns
+returns : tie.Need-returns-then-whole_at
 returns c =
     let there = c.before in
-    rw c.read-u32-in.ensures (sym (after-whole _ _ _ (sym there.before.whole-at.ensures ∙ there.if1.true)))
+    rw c.read_u32_in.ensures (sym (after-whole _ _ _ (sym there.whole_at.ensures ∙ there.if-whole_at.true)))
 
-returns-2 : tie.Need-returns-2
-returns-2 c = sym (after_none _ _ _ (sym c.before.whole-at.ensures ∙ c.if1.false))
+returns-2 : tie.Need-returns
+returns-2 c = sym (after_none _ _ _ (sym c.whole_at.ensures ∙ c.if-whole_at.false))
 
-pub after-at-spec : {M : Type 1} → statement M
-after-at-spec =
+pub after_at_spec : {M : Type 1} → statement M
+after_at_spec =
     tie.close
     (tie.spec
     whole-at-requires

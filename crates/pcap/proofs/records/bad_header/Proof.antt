@@ -7,23 +7,23 @@ use borrow.Author.Rules.{rules}
 use Rattle.pcap.proofs.records.bad_header.Statement.{statement}
 use Rattle.pcap.proofs.records.bad_header.Tie as tie
 
-returns : tie.Need-returns
-returns c = sym (header-short _ c.if1.true)
+returns : tie.Need-returns-then-file-lt-FILE_HEADER
+returns c = sym (header-short _ c.if-file-lt-FILE_HEADER.true)
 
-is-little-requires : tie.Need-is-little-requires
+is-little-requires : tie.Need-is_little-requires
 is-little-requires c κs = search rules
 
-wrong-fields-requires : tie.Need-wrong-fields-requires
+wrong-fields-requires : tie.Need-wrong_fields-requires
 wrong-fields-requires c κs = search rules
 
-returns-2 : tie.Need-returns-2
+returns-2 : tie.Need-returns
 returns-2 c =
     let ordered = c.before in
     let long = ordered.before in
-    let file = long.before.before.args.file.now in
-    c.wrong-fields.ensures
-    ∙ ap (λ (little : Bool). wrong_fields little file) ordered.is-little.ensures
-    ∙ sym (header_long file long.if1.false)
+    let file = long.args.file.now in
+    c.wrong_fields.ensures
+    ∙ ap (λ (little : Bool). wrong_fields little file) ordered.is_little.ensures
+    ∙ sym (header_long file long.if-file-lt-FILE_HEADER.false)
 
-pub bad-header-spec : {M : Type 1} → statement M
-bad-header-spec = tie.close (tie.spec returns is-little-requires wrong-fields-requires returns-2)
+pub bad_header_spec : {M : Type 1} → statement M
+bad_header_spec = tie.close (tie.spec returns is-little-requires wrong-fields-requires returns-2)

@@ -6,17 +6,17 @@ use borrow.Author.Rules.{rules}
 use Rattle.pcap.proofs.records.start_at.Statement.{statement}
 use Rattle.pcap.proofs.records.start_at.Tie as tie
 
-whole-at-requires : tie.Need-whole-at-requires
+whole-at-requires : tie.Need-whole_at-requires
 whole-at-requires c κs = search rules
 
-add-result : tie.Need-overflow-add-result
-add-result c = omega (arith, whole-inside _ _ _ (sym c.before.whole-at.ensures ∙ c.if1.true))
+add-result : tie.Need-overflow_add-result
+add-result c = omega (arith, whole-inside _ _ _ (sym c.whole_at.ensures ∙ c.if-whole_at.true))
 
-returns : tie.Need-returns
-returns c = sym (start-whole _ _ _ (sym c.before.whole-at.ensures ∙ c.if1.true))
+returns : tie.Need-returns-then-whole_at
+returns c = sym (start-whole _ _ _ (sym c.whole_at.ensures ∙ c.if-whole_at.true))
 
-returns-2 : tie.Need-returns-2
-returns-2 c = sym (start_none _ _ _ (sym c.before.whole-at.ensures ∙ c.if1.false))
+returns-2 : tie.Need-returns
+returns-2 c = sym (start_none _ _ _ (sym c.whole_at.ensures ∙ c.if-whole_at.false))
 
-pub start-at-spec : {M : Type 1} → statement M
-start-at-spec = tie.close (tie.spec whole-at-requires add-result returns returns-2)
+pub start_at_spec : {M : Type 1} → statement M
+start_at_spec = tie.close (tie.spec whole-at-requires add-result returns returns-2)

@@ -5,16 +5,16 @@ use borrow.Author.Rules.{rules}
 use Rattle.pcap.proofs.records.wrong_fields.Statement.{statement}
 use Rattle.pcap.proofs.records.wrong_fields.Tie as tie
 
-read-u32-in-requires : tie.Need-read-u32-in-requires
+read-u32-in-requires : tie.Need-read_u32_in-magic-requires
 read-u32-in-requires c κs = search rules
 
-read-u16-in-requires : tie.Need-read-u16-in-requires
+read-u16-in-requires : tie.Need-read_u16_in-major-requires
 read-u16-in-requires c κs = search rules
 
-read-u16-in-requires-2 : tie.Need-read-u16-in-requires-2
+read-u16-in-requires-2 : tie.Need-read_u16_in-minor-requires
 read-u16-in-requires-2 c κs = search rules
 
-read-u32-in-requires-2 : tie.Need-read-u32-in-requires-2
+read-u32-in-requires-2 : tie.Need-read_u32_in-link-requires
 read-u32-in-requires-2 c κs = search rules
 
 returns : tie.Need-returns
@@ -24,14 +24,14 @@ returns link-read =
     let major-read = minor-read.before in
     let magic-read = major-read.before in
     rw (
-      magic-read.read-u32-in.ensures,
-      major-read.read-u16-in.ensures,
-      minor-read.read-u16-in2.ensures,
-      link-read.read-u32-in2.ensures,
+      magic-read.read_u32_in-magic.ensures,
+      major-read.read_u16_in-major.ensures,
+      minor-read.read_u16_in-minor.ensures,
+      link-read.read_u32_in-link.ensures,
     ) refl
 
-pub wrong-fields-spec : {M : Type 1} → statement M
-wrong-fields-spec =
+pub wrong_fields_spec : {M : Type 1} → statement M
+wrong_fields_spec =
     tie.close
     (tie.spec
     read-u32-in-requires
