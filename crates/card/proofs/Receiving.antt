@@ -41,15 +41,15 @@ permits e =
 
 -- The returns of `seek`.
 module _ (t : Table) (p : Packet) (small : Bool) where
-  not_found : (c : ℕ) (found : Found) → c ≡ first (seek_refusals t p small) → (c ≡ 0 → ⊥) → found ≡ not_found c → Seeks t p small found
-  not_found c found given some e = rw e (record { its_number = given; its_row = λ z. absurd (some z); in_table = omega arith })
+  not_found_lem : (c : ℕ) (found : Found) → c ≡ first (seek_refusals t p small) → (c ≡ 0 → ⊥) → found ≡ not_found c → Seeks t p small found
+  not_found_lem c found given some e = rw e (record { its_number = given; its_row = λ z. absurd (some z); in_table = omega arith })
 
   pub seek_small : (found : Found) → small ≡ true → found ≡ not_found 1 → Seeks t p small found
-  seek_small found short e = not_found 1 found (simp short) (λ z. omega arith) e
+  seek_small found short e = not_found_lem 1 found (simp short) (λ z. omega arith) e
 
   module _ (large : small ≡ false) where
     pub seek_broken : (found : Found) → broken t ≡ true → found ≡ not_found 13 → Seeks t p small found
-    seek_broken found bad e = not_found 13 found (simp (large, bad)) (λ z. omega arith) e
+    seek_broken found bad e = not_found_lem 13 found (simp (large, bad)) (λ z. omega arith) e
 
     module _ (whole : broken t ≡ false) (early : ℕ) (judged : early ≡ first (before_session p)) where
       abbrev unopened : List Refusal
@@ -58,7 +58,7 @@ module _ (t : Table) (p : Packet) (small : Bool) where
       pub seek_early : (found : Found) → (early ≡ 0 → ⊥) → found ≡ not_found early → Seeks t p small found
       seek_early found some e =
           let stops = first_stopped (before_session p) unopened (λ z. some (judged ∙ z)) in
-          not_found early found (simp (large, whole) (judged ∙ sym stops)) some e
+          not_found_lem early found (simp (large, whole) (judged ∙ sym stops)) some e
 
       module _ (passed : early ≡ 0) (id r : ℕ) (session : id ≡ session_id p) (sought : r ≡ find t id) where
         row_is : r ≡ row_of t p
@@ -70,7 +70,7 @@ module _ (t : Table) (p : Packet) (small : Bool) where
         pub seek_closed : (found : Found) → rows ≤ r → found ≡ not_found 5 → Seeks t p small found
         seek_closed found none e =
             let shut = le-ltb (row_of t p) rows (omega (arith, row_is)) in
-            not_found 5 found (rw by_session (simp shut)) (λ z. omega arith) e
+            not_found_lem 5 found (rw by_session (simp shut)) (λ z. omega arith) e
 
         pub seek_there : r < rows → Seeks t p small (record { code = 0; row = r })
         seek_there there =

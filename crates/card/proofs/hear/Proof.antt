@@ -6,46 +6,46 @@ use borrow.Author.Rules.{rules}
 use Rattle.card.proofs.hear.Statement.{statement}
 use Rattle.card.proofs.hear.Tie as tie
 
-judge-packet-requires : tie.Need-judge-packet-requires
+judge-packet-requires : tie.Need-judge_packet-judged-requires
 judge-packet-requires c κs = search rules
 
-returns : tie.Need-returns
+returns : tie.Need-returns-then-judged
 returns c =
     record {
-      judges = c.before.judge-packet.ensures;
+      judges = c.judge_packet-judged.ensures;
       leaves = λ late. refl;
-      places = λ in_time_lem. absurd (true≢false (sym c.if1.true ∙ in_time_lem));
+      places = λ in_time_lem. absurd (true≢false (sym c.if-judged.true ∙ in_time_lem));
       within = record { held-few = omega arith; bytes-few = omega arith; frames-few = omega arith };
     }
 
-cast-held : tie.Need-overflow-cast-held
+cast-held : tie.Need-overflow_cast-held
 cast-held c = search rules
 
-place-packet-requires : tie.Need-place-packet-requires
+place-packet-requires : tie.Need-place_packet-tally-requires
 place-packet-requires c κs = search rules
 
-same_length : tie.Need-same-length
+same_length : tie.Need-shape_of-holding
 same_length c = search rules
 
-same-length-2 : tie.Need-same-length-2
+same-length-2 : tie.Need-shape_of-output
 same-length-2 c = search rules
 
-same-length-3 : tie.Need-same-length-3
+same-length-3 : tie.Need-shape_of-lengths
 same-length-3 c = search rules
 
-returns-2 : tie.Need-returns-2
+returns-2 : tie.Need-returns
 returns-2 c =
     let p = c.before.before.before.before.before.before in
     let in_time_lem = p.before.before.before.before.before in
     record {
-      judges = in_time_lem.before.judge-packet.ensures;
-      leaves = λ late. absurd (true≢false (sym late ∙ in_time_lem.if1.false));
-      places = λ _. p.place-packet.ensures.0;
-      within = p.place-packet.ensures.1;
+      judges = in_time_lem.judge_packet-judged.ensures;
+      leaves = λ late. absurd (true≢false (sym late ∙ in_time_lem.if-judged.false));
+      places = λ _. p.place_packet-tally.ensures.0;
+      within = p.place_packet-tally.ensures.1;
     }
 
-pub hear-spec : {M : Type 1} → statement M
-hear-spec =
+pub hear_spec : {M : Type 1} → statement M
+hear_spec =
     tie.close
     (tie.spec
     judge-packet-requires

@@ -8,7 +8,7 @@ use Rattle.card.proofs.receive.Statement.{statement}
 use Rattle.card.proofs.receive.Tie as tie
 
 -- from where the code has sought the session back to its start, and what it was given
-abbrev start : tie.After-seek → tie.Start
+abbrev start : tie.After-seek-found → tie.Start
 start w = w.before.before.before.before.before
 
 abbrev packet : tie.Start → Packet
@@ -17,34 +17,34 @@ packet s = packet_by s.args.transport s.args.packet.now
 abbrev lent : tie.Start → Slices
 lent s = as_slices s.args.holding.now s.args.output.now s.args.lengths.now
 
-seek-requires : tie.Need-seek-requires
+seek-requires : tie.Need-seek-found-requires
 seek-requires c κs = search rules
 
-mul-row : tie.Need-overflow-mul-row
+mul-row : tie.Need-offset_bounds-next-at
 mul-row c = search rules
 
-element-copy-out-row : tie.Need-element-copy-out-row
-element-copy-out-row c = c.seek.ensures.in_table
+element-copy-out-row : tie.Need-bounds-next-at
+element-copy-out-row c = c.seek-found.ensures.in_table
 
-take-requires : tie.Need-take-requires
+take-requires : tie.Need-take-taken-requires
 take-requires c κs =
     let w = c.before.before.before.before in
     let s = start w in
-    (w.seek.ensures.in_table, λ z. ready s.args.table (packet s) (lent s) w.seek.result w.seek.ensures z)
+    (w.seek-found.ensures.in_table, λ z. ready s.args.table (packet s) (lent s) w.seek-found.result w.seek-found.ensures z)
 
-mul-after : tie.Need-overflow-mul-after
+mul-after : tie.Need-offset_bounds-next-at-2
 mul-after c = search rules
 
-element-set-from-after : tie.Need-element-set-from-after
+element-set-from-after : tie.Need-bounds-next-at-2
 element-set-from-after c = search rules
 
-same_length : tie.Need-same-length
+same_length : tie.Need-shape_of-holding
 same_length c = search rules
 
-same-length-2 : tie.Need-same-length-2
+same-length-2 : tie.Need-shape_of-output
 same-length-2 c = search rules
 
-same-length-3 : tie.Need-same-length-3
+same-length-3 : tie.Need-shape_of-lengths
 same-length-3 c = search rules
 
 returns : tie.Need-returns
@@ -52,10 +52,10 @@ returns c =
     let t = c.before.before.before.before.before.before.before in
     let w = t.before.before.before.before.before in
     let s = start w in
-    permits (receive_is s.args.table (packet s) (lent s) w.seek.result _ w.seek.ensures t.take.ensures)
+    permits (receive_is s.args.table (packet s) (lent s) w.seek-found.result _ w.seek-found.ensures t.take-taken.ensures)
 
-pub receive-spec : {M : Type 1} → statement M
-receive-spec =
+pub receive_spec : {M : Type 1} → statement M
+receive_spec =
     tie.close
     (tie.spec
     seek-requires

@@ -16,104 +16,104 @@ use Rattle.card.proofs.seek.Statement.{statement}
 use Rattle.card.proofs.seek.Tie as tie
 
 -- from where the code has asked about the sizes back to its start, and what it was given
-abbrev start : tie.After-too-small → tie.Start
+abbrev start : tie.After-too_small → tie.Start
 start w = w.before.before
 
-abbrev table : tie.After-too-small → Table
+abbrev table : tie.After-too_small → Table
 table w = (start w).args.table
 
-abbrev packet : tie.After-too-small → Packet
+abbrev packet : tie.After-too_small → Packet
 packet w = packet_by (start w).args.transport (start w).args.packet.now
 
-abbrev small : tie.After-too-small → Bool
+abbrev small : tie.After-too_small → Bool
 small w = small_by (start w).args.holding (start w).args.output (start w).args.lengths
 
 -- behind the questions about the sizes, the table and the packet
-large : (e : tie.Else1) → small e.before ≡ false
-large e = sym e.before.too_small.ensures ∙ e.if1.false
+large : (e : tie.Else-too_small) → small e.before ≡ false
+large e = sym e.too_small.ensures ∙ e.if-too_small.false
 
-whole : (e : tie.Else2) → broken (table e.before.before.before) ≡ false
-whole e = sym e.before.is-broken.ensures ∙ e.if2.false
+whole : (e : tie.Else-is_broken) → broken (table e.before.before.before) ≡ false
+whole e = sym e.is_broken.ensures ∙ e.if-is_broken.false
 
-abbrev sizes : tie.Else3 → tie.After-too-small
+abbrev sizes : tie.Else-early-ne-NONE → tie.After-too_small
 sizes e = e.before.before.before.before.before
 
-passed : (e : tie.Else3) → first (before_session (packet (sizes e))) ≡ 0
-passed e = sym e.before.refuse-before-session.ensures ∙ e.if3.false
+passed : (e : tie.Else-early-ne-NONE) → first (before_session (packet (sizes e))) ≡ 0
+passed e = sym e.refuse_before_session-early.ensures ∙ e.if-early-ne-NONE.false
 
 -- so the session ID lies in the packet, and is not 0
-id-inside : (e : tie.Else3) → lead (packet (sizes e)) + id_length ≤ length (packet (sizes e)).bytes
+id-inside : (e : tie.Else-early-ne-NONE) → lead (packet (sizes e)) + id_length ≤ length (packet (sizes e)).bytes
 id-inside e = omega (arith, (early_passed (packet (sizes e)) (passed e)).not_short)
 
-named : (e : tie.Else3) (id : ℕ) → id ≡ session_id (packet (sizes e)) → id ≡ 0 → ⊥
+named : (e : tie.Else-early-ne-NONE) (id : ℕ) → id ≡ session_id (packet (sizes e)) → id ≡ 0 → ⊥
 named e id same zero = (early_passed (packet (sizes e)) (passed e)).no_control (sym same ∙ zero)
 
-too-small-requires : tie.Need-too-small-requires
+too-small-requires : tie.Need-too_small-requires
 too-small-requires c κs = search rules
 
-not-found-requires : tie.Need-not-found-requires
+not-found-requires : tie.Need-not_found-requires
 not-found-requires c κs = search rules
 
-returns : tie.Need-returns
+returns : tie.Need-returns-then-too_small
 returns c =
     let w = c.before.before in
-    seek_small (table w) (packet w) (small w) _ (sym w.too_small.ensures ∙ c.before.if1.true) c.not_found.ensures
+    seek_small (table w) (packet w) (small w) _ (sym w.too_small.ensures ∙ c.if-too_small.true) c.not_found.ensures
 
-is-broken-requires : tie.Need-is-broken-requires
+is-broken-requires : tie.Need-is_broken-requires
 is-broken-requires c κs = search rules
 
-not-found-requires-2 : tie.Need-not-found-requires-2
+not-found-requires-2 : tie.Need-not_found-requires-then-is_broken
 not-found-requires-2 c κs = search rules
 
-returns-2 : tie.Need-returns-2
+returns-2 : tie.Need-returns-then-is_broken
 returns-2 c =
     let b = c.before.before in
     let w = b.before.before in
-    let bad = sym b.is-broken.ensures ∙ c.before.if2.true in
-    seek_broken (table w) (packet w) (small w) (large b.before) _ bad c.not-found2.ensures
+    let bad = sym b.is_broken.ensures ∙ c.if-is_broken.true in
+    seek_broken (table w) (packet w) (small w) (large b.before) _ bad c.not_found-then-is_broken.ensures
 
-refuse-before-session-requires : tie.Need-refuse-before-session-requires
+refuse-before-session-requires : tie.Need-refuse_before_session-early-requires
 refuse-before-session-requires c κs = search rules
 
-not-found-requires-3 : tie.Need-not-found-requires-3
+not-found-requires-3 : tie.Need-not_found-requires-then-early-ne-NONE
 not-found-requires-3 c κs = search rules
 
-returns-3 : tie.Need-returns-3
+returns-3 : tie.Need-returns-then-early-ne-NONE
 returns-3 c =
     let early = c.before.before in
     let e = early.before in
     let w = e.before.before.before in
-    seek_early (table w) (packet w) (small w) (large e.before.before) (whole e) _ early.refuse-before-session.ensures _
-    c.before.if3.true c.not-found3.ensures
+    seek_early (table w) (packet w) (small w) (large e.before.before) (whole e) _ early.refuse_before_session-early.ensures _
+    c.if-early-ne-NONE.true c.not_found-then-early-ne-NONE.ensures
 
-session-id-requires : tie.Need-session-id-requires
+session-id-requires : tie.Need-session_id-requires
 session-id-requires c κs = id-inside c
 
-find-row-requires : tie.Need-find-row-requires
-find-row-requires c κs = (whole c.before.before.before, named c.before _ c.session-id.ensures)
+find-row-requires : tie.Need-find_row-row-requires
+find-row-requires c κs = (whole c.before.before.before, named c.before _ c.session_id.ensures)
 
-not-found-requires-4 : tie.Need-not-found-requires-4
+not-found-requires-4 : tie.Need-not_found-requires-then-row-ge-ROWS
 not-found-requires-4 c κs = search rules
 
-returns-4 : tie.Need-returns-4
+returns-4 : tie.Need-returns-then-row-ge-ROWS
 returns-4 c =
     let f = c.before.before in
     let e = f.before.before in
     let w = sizes e in
     seek_closed (table w) (packet w) (small w) (large e.before.before.before.before) (whole e.before.before) _
-    e.before.refuse-before-session.ensures e.if3.false _ _ f.before.session-id.ensures f.find-row.ensures _
-    c.before.if4.true c.not-found4.ensures
+    e.refuse_before_session-early.ensures e.if-early-ne-NONE.false _ _ f.session_id.ensures f.find_row-row.ensures _
+    c.if-row-ge-ROWS.true c.not_found-then-row-ge-ROWS.ensures
 
-returns-5 : tie.Need-returns-5
+returns-5 : tie.Need-returns
 returns-5 c =
     let f = c.before in
     let e = f.before.before in
     let w = sizes e in
     seek_there (table w) (packet w) (small w) (large e.before.before.before.before) (whole e.before.before) _
-    e.before.refuse-before-session.ensures e.if3.false _ _ f.before.session-id.ensures f.find-row.ensures c.if4.false
+    e.refuse_before_session-early.ensures e.if-early-ne-NONE.false _ _ f.session_id.ensures f.find_row-row.ensures c.if-row-ge-ROWS.false
 
-pub seek-spec : {M : Type 1} → statement M
-seek-spec =
+pub seek_spec : {M : Type 1} → statement M
+seek_spec =
     tie.close
     (tie.spec
     too-small-requires

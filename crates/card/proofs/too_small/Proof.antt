@@ -6,5 +6,5 @@ use Rattle.card.proofs.too_small.Tie as tie
 returns : tie.Need-returns
 returns c = refl
 
-pub too-small-spec : {M : Type 1} → statement M
-too-small-spec = tie.close (tie.spec returns)
+pub too_small_spec : {M : Type 1} → statement M
+too_small_spec = tie.close (tie.spec returns)

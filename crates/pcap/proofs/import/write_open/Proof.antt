@@ -20,7 +20,7 @@ same_length c = search rules
 
 returns : tie.Need-returns
 returns c =
-    open_lays c.args.session c.requires _ _ refl c.write_u32.ensures _ _ c.lay.ensures.value c.lay.ensures.file_after
+    open_lays c.args.session c.requires _ _ refl c.write_u32.ensures _ _ c.lay.ensures.0 c.lay.ensures.1
 
 pub write_open_spec : {M : Type 1} → statement M
 write_open_spec =
