@@ -1,5 +1,7 @@
 // A capture run entry by entry, from an empty table: where a run stands, one step of it, and rooms for the three slices that go along from
 // entry to entry. Who lists a capture, traces it or gathers its frames steps it here, and does its own work between the steps.
+#![tactic(auto)]
+
 pub mod run;
 
 ghost use Rattle.std.specs.Prelude.{◌≡◌, ◌<◌, replicate};

@@ -4,6 +4,8 @@
 // they refer to crosses as a copy, by `sklyapina_segment_copy` and `sklyapina_mpeg_hand_out`.
 //
 // A call is given all that it may touch and keeps none of it: there is no state here, no heap, and no pointer outlives its call.
+#![tactic(auto)]
+
 pub mod modulator;
 
 ghost use Rattle.packet.specs.Header.{packet_by};

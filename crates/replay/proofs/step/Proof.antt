@@ -7,68 +7,68 @@ use Rattle.replay.proofs.step.Statement.{statement}
 use Rattle.replay.proofs.step.Tie as tie
 
 -- from where the entry's kind was read back to the start; from its body to its kind; and from the end to where it was run, and to its body
-abbrev start : tie.After-kind-at → tie.Start
+abbrev start : tie.After-kind_at-kind → tie.Start
 start kind = kind.before.before.before.before.before.before
 
-abbrev kinded : tie.After-body-at → tie.After-kind-at
+abbrev kinded : tie.After-body_at-body → tie.After-kind_at-kind
 kinded body = body.before
 
-abbrev bodied : tie.After-run-entry → tie.After-body-at
+abbrev bodied : tie.After-run_entry-answer → tie.After-body_at-body
 bodied ran = ran.before.before.before.before
 
-abbrev ran : tie.After-table-after → tie.After-run-entry
+abbrev ran : tie.After-table_after-1 → tie.After-run_entry-answer
 ran c = c.before.before.before.before.before.before.before
 
-kind-at-requires : tie.Need-kind-at-requires
+kind-at-requires : tie.Need-kind_at-kind-requires
 kind-at-requires c κs =
     let begun = c.before.before.before.before.before in
     entry_inside (stands_at begun.requires.0 begun.requires.1)
 
-body-at-requires : tie.Need-body-at-requires
+body-at-requires : tie.Need-body_at-body-requires
 body-at-requires c κs = stands_at (start c).requires.0 (start c).requires.1
 
-run-entry-requires : tie.Need-run-entry-requires
+run-entry-requires : tie.Need-run_entry-answer-requires
 run-entry-requires c κs =
     let body = c.before.before.before in
     let kind = kinded body in
-    let given = (start kind).pre in
-    takes_length_lem given.0 given.1 kind.kind_at.result body.body_at.result.now kind.kind_at.ensures
-    body.body_at.ensures.its_bytes
+    let given = (start kind).requires in
+    takes_length_lem given.0 given.1 kind.kind_at-kind.result body.body_at-body.result.now kind.kind_at-kind.ensures
+    body.body_at-body.ensures.its_bytes
 
-add-t20 : tie.Need-overflow-add-t20
+add-t20 : tie.Need-overflow_add-further
 add-t20 c =
     let given = (start (kinded (bodied (ran c)))).requires in
     omega (arith, index_few given.0 given.1)
 
-add-t22 : tie.Need-overflow-add-t22
+add-t22 : tie.Need-overflow_add-further-2
 add-t22 c =
     let body = bodied (ran c) in
     let kind = kinded body in
-    let given = (start kind).pre in
+    let given = (start kind).requires in
     omega (
       arith,
-      body-fits given.0 given.1 kind.kind_at.result body.body_at.result.now kind.kind_at.ensures
-          body.body_at.ensures.its_bytes,
+      body-fits given.0 given.1 kind.kind_at-kind.result body.body_at-body.result.now kind.kind_at-kind.ensures
+          body.body_at-body.ensures.its_bytes,
     )
 
-same_length : tie.Need-same-length
+same_length : tie.Need-shape_of-holding
 same_length c = search rules
 
-same-length-2 : tie.Need-same-length-2
+same-length-2 : tie.Need-shape_of-output
 same-length-2 c = search rules
 
-same-length-3 : tie.Need-same-length-3
+same-length-3 : tie.Need-shape_of-lengths
 same-length-3 c = search rules
 
 returns : tie.Need-returns
 returns c =
-    let run = (ran c).run-entry in
+    let run = (ran c).run_entry-answer in
     let body = bodied (ran c) in
     let kind = kinded body in
-    let given = (start kind).pre in
-    steps given.0 given.1 kind.kind_at.result body.body_at.result.now kind.kind_at.ensures
-    body.body_at.ensures.its_bytes
-    run.result _ _ _ run.ensures run.kept.1.0 run.kept.1.1.0 run.kept.1.1.1.0
+    let given = (start kind).requires in
+    steps given.0 given.1 kind.kind_at-kind.result body.body_at-body.result.now kind.kind_at-kind.ensures
+    body.body_at-body.ensures.its_bytes
+    run.result _ _ _ run.ensures run.auto.holding run.auto.output run.auto.lengths
 
 pub step_spec : {M : Type 1} → statement M
 step_spec =

@@ -27,41 +27,41 @@ copied : (kind : ℕ) (p : Packet) (k : ℕ) (segment output left : List ℕ) �
 unfolding segment_copied
 copied kind p k segment output left given is-left = rw (is-left, given) refl
 
-segment-requires : tie.Need-segment-requires
+segment-requires : tie.Need-segment-segment-requires
 segment-requires c κs = search rules
 
 copy-requires : tie.Need-copy-requires
 copy-requires c κs = search rules
 
-same_length : tie.Need-same-length
+same_length : tie.Need-shape_of-output-then-room-length
 same_length c = search rules
 
-returns : tie.Need-returns
+returns : tie.Need-returns-then-room-length
 returns c =
     let found = c.before.before.before.before.before in
     let s = found.before.before.before in
     let a = s.args in
-    copied a.kind (packet s) a.k found.segment.result.now a.output.now _ found.segment.ensures.its_bytes
-    c.before.before.copy.ensures
+    copied a.kind (packet s) a.k found.segment-segment.result.now a.output.now _ found.segment-segment.ensures.its_bytes
+    c.copy.ensures
 
 copy-requires-2 : tie.Need-copy-requires-2
 copy-requires-2 c κs = search rules
 
-same-length-2 : tie.Need-same-length-2
+same-length-2 : tie.Need-shape_of-output
 same-length-2 c = search rules
 
-returns-2 : tie.Need-returns-2
+returns-2 : tie.Need-returns
 returns-2 c =
     let found = c.before.before.before.before.before in
     let s = found.before.before.before in
     let a = s.args in
-    let segment = found.segment.result.now in
-    let room : length segment ≤ length a.output.now = omega (arith, c.before.before.before.before.if1.false) in
-    copied a.kind (packet s) a.k segment a.output.now _ found.segment.ensures.its_bytes
-    (c.before.before.copy2.ensures ∙ ap (put a.output.now 0) (whole segment a.output.now room))
+    let segment = found.segment-segment.result.now in
+    let room : length segment ≤ length a.output.now = omega (arith, c.if-room-length.false) in
+    copied a.kind (packet s) a.k segment a.output.now _ found.segment-segment.ensures.its_bytes
+    (c.copy-2.ensures ∙ ap (put a.output.now 0) (whole segment a.output.now room))
 
-pub sklyapina-segment-copy-spec : {M : Type 1} → statement M
-sklyapina-segment-copy-spec =
+pub sklyapina_segment_copy_spec : {M : Type 1} → statement M
+sklyapina_segment_copy_spec =
     tie.close
     (tie.spec
     segment-requires

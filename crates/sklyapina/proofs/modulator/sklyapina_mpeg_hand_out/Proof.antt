@@ -15,14 +15,14 @@ use Rattle.sklyapina.proofs.modulator.sklyapina_mpeg_hand_out.Statement.{stateme
 use Rattle.sklyapina.proofs.modulator.sklyapina_mpeg_hand_out.Tie as tie
 
 -- what the code was given
-abbrev queue : tie.After-hand-out → List ℕ
-queue c = c.before.before.before.before.args.queue.now
+abbrev queue : tie.After-hand_out-packet → List ℕ
+queue c = c.args.queue.now
 
 -- what is handed out, and how long it is
-handed : (c : tie.After-hand-out) → c.hand-out.result.now ≡ handed_out (queue c)
-handed c = handed-bytes _ _ c.hand-out.result c.before.before.null-packet.ensures c.hand-out.ensures
+handed : (c : tie.After-hand_out-packet) → c.hand_out-packet.result.now ≡ handed_out (queue c)
+handed c = handed-bytes _ _ c.hand_out-packet.result c.null_packet-null.ensures c.hand_out-packet.ensures
 
-long : (c : tie.After-hand-out) → length c.hand-out.result.now ≡ mpeg_length
+long : (c : tie.After-hand_out-packet) → length c.hand_out-packet.result.now ≡ mpeg_length
 long c = ap length (handed c) ∙ handed_long (queue c)
 
 -- a packet put over bytes that are as many is that packet
@@ -30,16 +30,16 @@ copied : (bytes packet : List ℕ) → length bytes ≡ mpeg_length → length p
 copied bytes packet few many =
     ap (λ (n : ℕ). put bytes 0 (part packet 0 n)) (sym many) ∙ ap (put bytes 0) (part_all packet) ∙ put_whole bytes packet (few ∙ sym many)
 
-null-packet-requires : tie.Need-null-packet-requires
+null-packet-requires : tie.Need-null_packet-null-requires
 null-packet-requires c κs = search rules
 
-slice-aggregate-hand-out : tie.Need-slice-aggregate-hand-out
+slice-aggregate-hand-out : tie.Need-slice_bounds-hand_out-end
 slice-aggregate-hand-out c = search rules
 
-hand-out-requires : tie.Need-hand-out-requires
+hand-out-requires : tie.Need-hand_out-packet-requires
 hand-out-requires c κs = search rules
 
-slice-aggregate-copy : tie.Need-slice-aggregate-copy
+slice-aggregate-copy : tie.Need-slice_bounds-copy-end
 slice-aggregate-copy c = search rules
 
 copy-requires : tie.Need-copy-requires
@@ -48,10 +48,10 @@ copy-requires c κs = (omega arith, omega (arith, long c.before))
 returns : tie.Need-returns
 returns c =
     let out = c.before.before.before in
-    c.before.copy.ensures ∙ copied _ out.hand-out.result.now refl (long out) ∙ handed out
+    c.copy.ensures ∙ copied _ out.hand_out-packet.result.now refl (long out) ∙ handed out
 
-pub sklyapina-mpeg-hand-out-spec : {M : Type 1} → statement M
-sklyapina-mpeg-hand-out-spec =
+pub sklyapina_mpeg_hand_out_spec : {M : Type 1} → statement M
+sklyapina_mpeg_hand_out_spec =
     tie.close
     (tie.spec
     null-packet-requires
