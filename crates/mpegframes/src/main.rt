@@ -5,27 +5,32 @@
 // skipped, and an unfinished last frame is not handed out. Packets that no run of the writer gives come to one line, `refused 53`.
 //
 // A file of more than 65,536 bytes is not read: that is said on standard error, and nothing is written on standard output.
+#![tactic(auto)]
+
 mod back;
 
 ghost use Rattle.std.specs.Prelude.{◌≡◌, ◌+◌, length};
 ghost use Rattle.mpegframes.specs.Rooms.{most_read, text_room};
 
-fn too_long() {
+use std::io::Write;
+
+fn too_long(stderr: &mut impl Write) {
     tool::write_error(
+        stderr,
         b"mpegframes: more than 65536 bytes on standard input, and that is all that it has room for\n",
     );
 }
 
-fn main() {
+fn main(rt: HostRuntime) {
     let mut file = file_room();
-    let read = tool::read_input(&mut file);
+    let read = tool::read_input(&mut rt.stdin(), &mut file);
     if back::MOST_READ < read {
-        too_long();
+        too_long(&mut rt.stderr());
         return;
     }
     let mut text = text_room();
     let length = back::get_back(&file[..read], &mut text);
-    tool::write_output(&text[..length]);
+    tool::write_output(&mut rt.stdout(), &text[..length]);
 }
 
 // Rooms of zeros. The contracts say how long they are, which lending one as a slice needs. That for the file has one byte more than is

@@ -6,39 +6,51 @@
 // it says on standard error, in two lines.
 //
 // A capture that is refused (41 to 45) comes to one line on standard error, `refused` and the number, with nothing on standard output.
+#![tactic(auto)]
+
 mod counts;
 
 ghost use Rattle.std.specs.Prelude.{◌≡◌, length};
 ghost use Rattle.pspexport.specs.Rooms.{output_room};
 
 use pcap::{Addresses, export};
+use std::io::{Read, Write};
 
 // Room for the longest file: 60,000 bytes of a capture, 58 for each of 1,000 entries, and 24, and more.
 const OUTPUT_ROOM: usize = 131072;
 
-fn usage() {
-    tool::write_error(b"usage: pspexport FROM-MAC TO-MAC FROM-IP TO-IP < CAPTURE > FILE.pcap   ");
-    tool::write_error(b"(addresses as 02:00:00:00:00:01 and 192.0.2.1)\n");
+fn usage(stderr: &mut impl Write) {
+    tool::write_error(
+        stderr,
+        b"usage: pspexport FROM-MAC TO-MAC FROM-IP TO-IP < CAPTURE > FILE.pcap   ",
+    );
+    tool::write_error(stderr, b"(addresses as 02:00:00:00:00:01 and 192.0.2.1)\n");
 }
 
-fn main() {
-    let sender = tool::mac_argument(1);
-    let receiver = tool::mac_argument(2);
-    let source = tool::ipv4_argument(3);
-    let target = tool::ipv4_argument(4);
+fn main(rt: HostRuntime) {
+    let sender = tool::mac_argument(&rt, 1);
+    let receiver = tool::mac_argument(&rt, 2);
+    let source = tool::ipv4_argument(&rt, 3);
+    let target = tool::ipv4_argument(&rt, 4);
     let all_good = sender.good & receiver.good & source.good & target.good;
-    if (os::arg_count() != 5) | !all_good {
-        usage();
+    if (tool::argument_count(&rt) != 5) | !all_good {
+        usage(&mut rt.stderr());
         return;
     }
     let from = sender.bytes;
     let to = receiver.bytes;
-    run(Addresses {
+    let addresses = Addresses {
         sender: from,
         receiver: to,
         source: source.value as u32,
         target: target.value as u32,
-    });
+    };
+    run(
+        &mut rt.stdin(),
+        &mut rt.stdout(),
+        &mut rt.stderr(),
+        addresses,
+    );
 }
 
 // Room for the file. The contract says how long it is, which lending it as a slice needs.
@@ -49,18 +61,23 @@ fn output_room() -> [u8; OUTPUT_ROOM]
 }
 
 // Reads the capture, and writes the file with what was left out, or says why not.
-fn run(addresses: Addresses) {
+fn run(
+    stdin: &mut impl Read,
+    stdout: &mut impl Write,
+    stderr: &mut impl Write,
+    addresses: Addresses,
+) {
     let mut file = tool::capture_room();
-    let read = tool::read_input(&mut file);
+    let read = tool::read_input(stdin, &mut file);
     let mut output = output_room();
     let exported = export::export(addresses, &file[..read], &mut output);
     if exported.code != refusal::NONE {
-        tool::refuse(exported.code);
+        tool::refuse(stderr, exported.code);
         return;
     }
     let length = exported.length;
-    tool::write_output(&output[..length]);
+    tool::write_output(stdout, &output[..length]);
     let mut text = [0u8; counts::COUNTS_ROOM];
     let written = counts::write_counts(exported, &mut text);
-    tool::write_error(&text[..written]);
+    tool::write_error(stderr, &text[..written]);
 }

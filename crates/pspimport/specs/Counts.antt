@@ -7,7 +7,7 @@ use Rattle.pcap.specs.declared.import.Imported.{Imported}
 
 unfoldable pub counts_of : Imported → List ℕ
 counts_of imported =
-    line_of (ascii "not_ipv4") imported.foreign
+    line_of (ascii "not-ipv4") imported.foreign
     ++ line_of (ascii "bad-lengths") imported.misfits
     ++ line_of (ascii "fragment") imported.fragments
     ++ line_of (ascii "other") imported.others

@@ -15,7 +15,7 @@ pub fn write_counts(imported: Imported, text: &mut [u8]) -> usize
     requires counts_room_in_bounds { counts_room ≤ length text.old }
     ensures { Wrote text.old text.new 0 result (counts_of imported) }
 {
-    let foreign = tool::write_line(text, 0, b"not_ipv4", imported.foreign as u32);
+    let foreign = tool::write_line(text, 0, b"not-ipv4", imported.foreign as u32);
     let misfits = tool::write_line(text, foreign, b"bad-lengths", imported.misfits as u32);
     let fragments = tool::write_line(text, misfits, b"fragment", imported.fragments as u32);
     tool::write_line(text, fragments, b"other", imported.others as u32)

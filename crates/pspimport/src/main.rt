@@ -8,6 +8,8 @@
 // What it refuses comes to one line on standard error, `refused` and the number, with nothing on standard output: 61 a bad file header, 62
 // a record that runs past the end, 63 a capture of over 60,000 bytes or over 1,000 entries. A file of more than 4 MiB is not read: that is
 // said on standard error too.
+#![tactic(auto)]
+
 mod counts;
 mod sessions;
 
@@ -16,37 +18,45 @@ ghost use Rattle.capture.specs.File.{longest_file};
 ghost use Rattle.pspimport.specs.Rooms.{most_read, most_sessions};
 
 use pcap::import;
+use std::io::Write;
 
 // The most bytes that are read: 4 MiB.
 const MOST_READ: usize = 4194304;
 
-fn usage() {
+fn usage(stderr: &mut impl Write) {
     tool::write_error(
+        stderr,
         b"usage: pspimport [ID ...] < FILE.pcap > CAPTURE   (each ID in decimal, or in hexadecimal behind 0x, to 4294967295)\n",
     );
 }
 
-fn too_long() {
+fn too_long(stderr: &mut impl Write) {
     tool::write_error(
+        stderr,
         b"pspimport: more than 4194304 bytes on standard input, and that is all that it has room for\n",
     );
 }
 
-fn main() {
+fn main(rt: HostRuntime) {
     let mut sessions = sessions_room();
-    let named = sessions::take_sessions(&mut sessions);
+    let named = sessions::take_sessions(&rt, &mut sessions);
     if !named.good {
-        usage();
+        usage(&mut rt.stderr());
         return;
     }
     let mut file = file_room();
-    let read = tool::read_input(&mut file);
+    let read = tool::read_input(&mut rt.stdin(), &mut file);
     if MOST_READ < read {
-        too_long();
+        too_long(&mut rt.stderr());
         return;
     }
     let count = named.value;
-    run(&sessions[..count], &file[..read]);
+    run(
+        &mut rt.stdout(),
+        &mut rt.stderr(),
+        &sessions[..count],
+        &file[..read],
+    );
 }
 
 // Rooms of zeros. The contracts say how long they are, which lending one as a slice needs. That for the file has one byte more than is
@@ -70,18 +80,18 @@ fn output_room() -> [u8; capture::LONGEST_FILE]
 }
 
 // Makes the capture, and writes it with what was skipped, or says why not.
-fn run(sessions: &[u32], file: &[u8])
+fn run(stdout: &mut impl Write, stderr: &mut impl Write, sessions: &[u32], file: &[u8])
     requires { length file.now ≤ most_read }
 {
     let mut output = output_room();
     let imported = import::import(sessions, file, &mut output);
     if imported.code != refusal::NONE {
-        tool::refuse(imported.code);
+        tool::refuse(stderr, imported.code);
         return;
     }
     let length = imported.length;
-    tool::write_output(&output[..length]);
+    tool::write_output(stdout, &output[..length]);
     let mut text = [0u8; counts::COUNTS_ROOM];
     let written = counts::write_counts(imported, &mut text);
-    tool::write_error(&text[..written]);
+    tool::write_error(stderr, &text[..written]);
 }

@@ -6,6 +6,8 @@
 // delivers no frames, and nothing of it is written.
 //
 // A capture that is refused (41 to 45), and a frame that W3 does not let travel (52), come to one line, `refused` and the number.
+#![tactic(auto)]
+
 mod gather;
 mod packets;
 
@@ -16,27 +18,29 @@ ghost use Rattle.outputs.specs.Stream.{stream};
 ghost use Rattle.pspmpeg.specs.Inside.{most_gathered, stream_room};
 
 use capture::reader;
+use std::io::{Read, Write};
 
 // The greatest session ID.
 const GREATEST_ID: usize = 4294967295;
 
-fn usage() {
+fn usage(stderr: &mut impl Write) {
     tool::write_error(
+        stderr,
         b"usage: pspmpeg SESSION < CAPTURE > FILE.ts   (SESSION in decimal, or in hexadecimal behind 0x, to 4294967295)\n",
     );
 }
 
-fn main() {
-    let session = tool::argument(1);
-    if (os::arg_count() != 2) | !session.good {
-        usage();
+fn main(rt: HostRuntime) {
+    let session = tool::argument(&rt, 1);
+    if (tool::argument_count(&rt) != 2) | !session.good {
+        usage(&mut rt.stderr());
         return;
     }
     if GREATEST_ID < session.value {
-        usage();
+        usage(&mut rt.stderr());
         return;
     }
-    run(session.value as u32);
+    run(&mut rt.stdin(), &mut rt.stdout(), session.value as u32);
 }
 
 // Rooms of zeros. The contracts say how long they are, which lending one as a slice needs.
@@ -59,12 +63,12 @@ fn sizes_room() -> [u16; gather::MOST_GATHERED]
 }
 
 // Reads the capture and writes the packets.
-fn run(session: u32) {
+fn run(stdin: &mut impl Read, stdout: &mut impl Write, session: u32) {
     let mut file = tool::capture_room();
-    let read = tool::read_input(&mut file);
+    let read = tool::read_input(stdin, &mut file);
     let mut text = stream_room();
     let length = write_stream(&file[..read], session, &mut text);
-    tool::write_output(&text[..length]);
+    tool::write_output(stdout, &text[..length]);
 }
 
 // Writes the packets of a capture's frames, or the line of a refusal, and answers how long that is.

@@ -8,6 +8,8 @@
 // What it cannot do it refuses by one line on standard error, `refused` and document 01's number, and writes nothing on standard output:
 // 31 to 33 and 35 are the sender's (a frames file that is cut short has lengths that do not add up to its bytes, 33; an empty one leaves
 // nothing to send, 35), 41 and 43 a capture's (over 60,000 bytes, over 1,000 entries).
+#![tactic(auto)]
+
 mod input;
 mod series;
 
@@ -15,6 +17,8 @@ ghost use Rattle.std.specs.Prelude.{◌≡◌, ◌+◌, ◌*◌, ◌≤◌, leng
 ghost use Rattle.capture.specs.File.{head_length, entry_length, longest_file, most_entries};
 ghost use Rattle.outputs.specs.Sent.{most};
 ghost use Rattle.pspsend.specs.Inside.{most_bytes};
+
+use std::io::{Read, Write};
 
 // Room for the longest frames file that is not refused, 127 frames of 2,048 bytes with their lengths, and more: a longer one is refused.
 const FILE_ROOM: usize = 262144;
@@ -24,28 +28,35 @@ const GREATEST_ID: usize = 4294967295;
 
 const GREATEST_NUMBER: usize = 65535;
 
-fn usage() {
-    tool::write_error(b"usage: pspsend SESSION FLOW NUMBER L < FRAMES > CAPTURE   ");
+fn usage(stderr: &mut impl Write) {
     tool::write_error(
+        stderr,
+        b"usage: pspsend SESSION FLOW NUMBER L < FRAMES > CAPTURE   ",
+    );
+    tool::write_error(
+        stderr,
         b"(numbers in decimal, or in hexadecimal behind 0x; SESSION to 4294967295, NUMBER to 65535)\n",
     );
 }
 
-fn main() {
-    let session = tool::argument(1);
-    let flow = tool::argument(2);
-    let number = tool::argument(3);
-    let limit = tool::argument(4);
+fn main(rt: HostRuntime) {
+    let session = tool::argument(&rt, 1);
+    let flow = tool::argument(&rt, 2);
+    let number = tool::argument(&rt, 3);
+    let limit = tool::argument(&rt, 4);
     let all_good = session.good & flow.good & number.good & limit.good;
-    if (os::arg_count() != 5) | !all_good {
-        usage();
+    if (tool::argument_count(&rt) != 5) | !all_good {
+        usage(&mut rt.stderr());
         return;
     }
     if (GREATEST_ID < session.value) | (GREATEST_NUMBER < number.value) {
-        usage();
+        usage(&mut rt.stderr());
         return;
     }
     run(
+        &mut rt.stdin(),
+        &mut rt.stdout(),
+        &mut rt.stderr(),
         session.value as u32,
         flow.value,
         number.value as u16,
@@ -79,15 +90,25 @@ fn bodies_room() -> [u8; capture::LONGEST_FILE]
 }
 
 // Reads the frames and sends them.
-fn run(session: u32, flow: usize, number: u16, limit: usize) {
+fn run(
+    stdin: &mut impl Read,
+    stdout: &mut impl Write,
+    stderr: &mut impl Write,
+    session: u32,
+    flow: usize,
+    number: u16,
+    limit: usize,
+) {
     let mut file = file_room();
-    let read = tool::read_input(&mut file);
+    let read = tool::read_input(stdin, &mut file);
     let mut bytes = file_room();
     let mut lengths = lengths_room();
     let taken = input::take_frames(&file[..read], &mut bytes, &mut lengths);
     let count = taken.count;
     let total = taken.bytes;
     send(
+        stdout,
+        stderr,
         session,
         flow,
         number,
@@ -98,7 +119,16 @@ fn run(session: u32, flow: usize, number: u16, limit: usize) {
 }
 
 // Makes the capture, and writes it or says why not.
-fn send(session: u32, flow: usize, number: u16, limit: usize, bytes: &[u8], lengths: &[u16])
+fn send(
+    stdout: &mut impl Write,
+    stderr: &mut impl Write,
+    session: u32,
+    flow: usize,
+    number: u16,
+    limit: usize,
+    bytes: &[u8],
+    lengths: &[u16],
+)
     requires { length bytes.now ≤ most_bytes }
 {
     let mut contents = contents_room();
@@ -114,11 +144,11 @@ fn send(session: u32, flow: usize, number: u16, limit: usize, bytes: &[u8], leng
         &mut bodies,
     );
     if made.code != refusal::NONE {
-        tool::refuse(made.code);
+        tool::refuse(stderr, made.code);
         return;
     }
     let front = made.contents;
     let behind = made.bodies;
-    tool::write_output(&contents[..front]);
-    tool::write_output(&bodies[..behind]);
+    tool::write_output(stdout, &contents[..front]);
+    tool::write_output(stdout, &bodies[..behind]);
 }

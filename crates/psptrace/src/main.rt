@@ -3,17 +3,20 @@
 // Lists a capture as psplist does, and behind each entry's line shows what the card did: the frames that the entry delivered, and how the
 // open rows and their flows stand afterwards, with the bytes that they hold. A trace may be long, so it is written entry by entry; the
 // text of each is what `trace::trace_entry` made.
+#![tactic(auto)]
+
 ghost use Rattle.std.specs.Prelude.{◌≡◌, ◌≤◌, length};
 ghost use Rattle.replay.specs.Inside.{Unused};
 ghost use Rattle.trace.specs.Inside.{entry_room};
 
 use capture::reader;
+use std::io::Write;
 
-fn main() {
+fn main(rt: HostRuntime) {
     let mut file = tool::capture_room();
-    let read = tool::read_input(&mut file);
+    let read = tool::read_input(&mut rt.stdin(), &mut file);
     let mut text = text_room();
-    trace(&file[..read], &mut text);
+    trace(&mut rt.stdout(), &file[..read], &mut text);
 }
 
 // Room for the text of an entry. The contract says how long it is, which lending it as a slice needs.
@@ -24,25 +27,26 @@ fn text_room() -> [u8; trace::ENTRY_ROOM]
 }
 
 // Traces a capture; or says that it is refused.
-fn trace(file: &[u8], text: &mut [u8])
+fn trace(stdout: &mut impl Write, file: &[u8], text: &mut [u8])
     requires { entry_room ≤ length text.old }
 {
     let refused = reader::check(file);
     if refused != refusal::NONE {
         let length = tool::write_refused(text, 0, refused);
-        tool::write_output(&text[..length]);
+        tool::write_output(stdout, &text[..length]);
         return;
     }
     let length = listing::line::write_heading(text, 0);
-    tool::write_output(&text[..length]);
+    tool::write_output(stdout, &text[..length]);
     let mut holding = replay::holding_room();
     let mut output = replay::output_room();
     let mut lengths = replay::lengths_room();
-    trace_entries(file, &mut holding, &mut output, &mut lengths, text);
+    trace_entries(stdout, file, &mut holding, &mut output, &mut lengths, text);
 }
 
 // Traces the entries of a sound file, one after another.
 fn trace_entries(
+    stdout: &mut impl Write,
     file: &[u8],
     holding: &mut [u8],
     output: &mut [u8],
@@ -56,7 +60,7 @@ fn trace_entries(
     while walk.index < count {
         let traced = trace::trace_entry(file, walk, holding, output, lengths, text);
         let length = traced.next;
-        tool::write_output(&text[..length]);
+        tool::write_output(stdout, &text[..length]);
         walk = traced.walk;
     }
 }

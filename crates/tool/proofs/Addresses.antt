@@ -1,6 +1,6 @@
 -- How addresses are read: of one of Ethernet the groups so far (`Grouping`, the loop's invariant), of one of IPv4 the numbers between the
 -- dots.
-use Prim.Native.Nat.{ℕ, ◌+◌, ◌-◌, ◌*◌, ◌<◌, ◌≤◌}
+use Prim.Native.Nat.{ℕ, ◌+◌, ◌*◌, ◌<◌, ◌≤◌}
 use mathlib.Core.Path.{◌≡◌, refl, sym, ap, ◌∙◌}
 use mathlib.Core.Bool.{Bool, true, false, cond, not, ◌&&◌, ◌||◌, and-eq-true_iff, and-false, or-false}
 use mathlib.Core.List.{List, [], ◌∷◌}
@@ -119,14 +119,14 @@ dot_behind text from there =
 
 -- the four together
 module _ (a b c d : Given) where
-  pub together_bad : not (a.good && b.good && c.well-formed && d.good) ≡ true → none ≡ together a b c d
+  pub together_bad : (a.good && b.good && c.good && d.good) ≡ false → none ≡ together a b c d
   unfolding together
-  together_bad bad = rw (not-true (a.good && b.good && c.well-formed && d.good) bad) refl
+  together_bad bad = rw bad refl
 
-  pub together-good : not (a.good && b.good && c.well-formed && d.good) ≡ false →
+  pub together-good : (a.good && b.good && c.good && d.good) ≡ true →
       record { good = true; value = ((a.value * 256 + b.value) * 256 + c.value) * 256 + d.value } ≡ together a b c d
   unfolding together
-  together-good good = rw (not-false (a.good && b.good && c.well-formed && d.good) good) refl
+  together-good good = rw good refl
 
 pub four_octets : (x y z w : ℕ) → x ≤ 255 → y ≤ 255 → z ≤ 255 → w ≤ 255 → ((x * 256 + y) * 256 + z) * 256 + w ≤ 4294967295
 four_octets x y z w hx hy hz hw = omega arith

@@ -1,18 +1,22 @@
 // What the programs share: the number or the address that an argument says, standard input read into its room, text written out, and lines
 // of a word and a number, that of a refusal among them.
+#![tactic(auto)]
+
 pub mod address;
 pub mod number;
 
-ghost use Rattle.std.specs.Prelude.{◌≡◌, ◌+◌, ◌≤◌, length};
-ghost use Rattle.io.specs.Counts.{IsPrefixLen};
+ghost use Rattle.std.specs.Prelude.{◌≡◌, ◌+◌, ◌≤◌, length, take};
+ghost use Rattle.std.specs.Counts.{IsPrefixLen};
+ghost use Rattle.std.specs.Io.KnownBytes.{Consumes};
 ghost use Rattle.text.specs.Text.{Wrote};
 ghost use Rattle.capture.specs.File.{longest_file};
 ghost use Rattle.tool.specs.Line.{line_of, number_room};
 ghost use Rattle.tool.specs.Refused.{refused_line, refused_room};
 
 use address::GivenMac;
-use libc::{STDERR_FILENO, STDIN_FILENO, STDOUT_FILENO};
 use number::Given;
+use std::env::{Env, FillError};
+use std::io::{Read, Write};
 
 // Room for an argument. A longer one says no number, and no address.
 const ARGUMENT_ROOM: usize = 32;
@@ -21,25 +25,46 @@ const ARGUMENT_ROOM: usize = 32;
 const REFUSED_ROOM: usize = 19;
 
 // The number that argument i of the program says, or none.
-pub fn argument(i: usize) -> Given {
+pub fn argument(env: &impl Env, i: usize) -> Given {
     let mut text = [0u8; ARGUMENT_ROOM];
-    let length = os::arg(i, &mut text);
+    let length = read_argument(env, i, &mut text);
     number::number(&text[..length])
 }
 
 // The addresses that arguments say, of Ethernet and of IPv4, or none.
-pub fn mac_argument(i: usize) -> GivenMac {
+pub fn mac_argument(env: &impl Env, i: usize) -> GivenMac {
     let mut text = [0u8; ARGUMENT_ROOM];
-    let length = os::arg(i, &mut text);
+    let length = read_argument(env, i, &mut text);
     address::mac(&text[..length])
 }
 
-pub fn ipv4_argument(i: usize) -> Given
+pub fn ipv4_argument(env: &impl Env, i: usize) -> Given
     ensures { result.value ≤ 4294967295 }
 {
     let mut text = [0u8; ARGUMENT_ROOM];
-    let length = os::arg(i, &mut text);
+    let length = read_argument(env, i, &mut text);
     address::ipv4(&text[..length])
+}
+
+// Puts argument i at the start of a room and answers how long it is: 0 where there is no such argument, or it is longer than the room.
+fn read_argument(env: &impl Env, i: usize, room: &mut [u8]) -> usize
+    ensures { IsPrefixLen result room.new }
+{
+    match env.arg(i, room) {
+        Ok(length) => length,
+        Err(_) => 0,
+    }
+}
+
+// How many arguments the program was started with, its own name among them.
+pub fn argument_count(env: &impl Env) -> usize {
+    let mut room = [0u8; ARGUMENT_ROOM];
+    for i in 0..usize::MAX {
+        if let Err(FillError::NotPresent) = env.arg(i, &mut room) {
+            return i;
+        }
+    }
+    usize::MAX
 }
 
 // Room for a capture, and one byte more, so that a longer one is seen to be too long. The contract says how long it is, which lending it
@@ -50,20 +75,28 @@ pub fn capture_room() -> [u8; capture::LONGEST_FILE + 1]
     [0; capture::LONGEST_FILE + 1]
 }
 
-// Reads standard input into a room, as far as there is room, and answers how many bytes it read.
-pub fn read_input(room: &mut [u8]) -> usize
-    ensures { IsPrefixLen result room.new }
+// Reads an input into a room until there is no more room, the input ends or a read fails, and answers how many bytes it read.
+pub fn read_input<R: Read>(input: &mut R, room: &mut [u8]) -> usize
+    ensures prefix { IsPrefixLen result room.new }
+    ensures bytes { Consumes (R.remaining input.old) (R.remaining input.new) (take result room.new) }
 {
-    io::read_full(STDIN_FILENO, room)
+    let mut done = 0;
+    while done < room.len() {
+        match input.read(&mut room[done..]) {
+            Ok(0) | Err(_) => break,
+            Ok(more) => done += more,
+        }
+    }
+    done
 }
 
-// Writes on standard output, and on standard error.
-pub fn write_output(text: &[u8]) {
-    io::write_all(STDOUT_FILENO, text);
+// Writes on standard output, and on standard error, up to the first write that fails.
+pub fn write_output(output: &mut impl Write, text: &[u8]) {
+    let _ = output.write_all(text);
 }
 
-pub fn write_error(text: &[u8]) {
-    io::write_all(STDERR_FILENO, text);
+pub fn write_error(errors: &mut impl Write, text: &[u8]) {
+    let _ = errors.write_all(text);
 }
 
 // Writes a line of a word and a number into a text.
@@ -86,8 +119,8 @@ pub fn write_refused(text: &mut [u8], at: usize, number: u32) -> usize
 }
 
 // Writes that line on standard error.
-pub fn refuse(number: u32) {
+pub fn refuse(errors: &mut impl Write, number: u32) {
     let mut text = [0u8; REFUSED_ROOM];
     let length = write_refused(&mut text, 0, number);
-    write_error(&text[..length]);
+    write_error(errors, &text[..length]);
 }

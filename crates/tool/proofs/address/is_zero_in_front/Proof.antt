@@ -7,14 +7,14 @@ use borrow.Author.Rules.{rules}
 use Rattle.tool.proofs.address.is_zero_in_front.Statement.{statement}
 use Rattle.tool.proofs.address.is_zero_in_front.Tie as tie
 
-returns : tie.Need-returns
-returns c = rw (lt-leb 2 (length c.before.args.text.now) c.if1.true) refl
+returns : tie.Need-returns-then-text-lt2
+returns c = rw (lt-leb 2 (length c.before.args.text.now) c.if-text-lt2.true) refl
 
-shared-slice-read-result : tie.Need-shared-slice-read-result
+shared-slice-read-result : tie.Need-bounds-text-0
 shared-slice-read-result c = search rules
 
-returns-2 : tie.Need-returns-2
-returns-2 c = let t = c.before in rw (le-leb 2 (length t.before.args.text.now) (omega (arith, t.if1.false))) refl
+returns-2 : tie.Need-returns
+returns-2 c = let t = c.before in rw (le-leb 2 (length t.before.args.text.now) (omega (arith, t.if-text-lt2.false))) refl
 
-pub is-zero-in-front-spec : {M : Type 1} → statement M
-is-zero-in-front-spec = tie.close (tie.spec returns shared-slice-read-result returns-2)
+pub is_zero_in_front_spec : {M : Type 1} → statement M
+is_zero_in_front_spec = tie.close (tie.spec returns shared-slice-read-result returns-2)

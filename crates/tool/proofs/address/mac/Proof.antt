@@ -6,61 +6,61 @@ use borrow.Author.Rules.{rules}
 use Rattle.tool.proofs.address.mac.Statement.{statement}
 use Rattle.tool.proofs.address.mac.Tie as tie
 
-abbrev invariant-loop : tie.invariant-loop
+abbrev invariant-loop : tie.invariant-loop-k
 invariant-loop text bytes₀ k₀ bytes k = Grouping text bytes k
 
-abbrev decreases-loop : tie.decreases-loop
+abbrev decreases-loop : tie.decreases-loop-k
 decreases-loop text bytes₀ k₀ bytes k = 6 - k
 
-no-mac-requires : tie.Need-no-mac-requires invariant-loop decreases-loop
+no-mac-requires : tie.Need-no_mac-requires invariant-loop decreases-loop
 no-mac-requires c κs = search rules
 
-returns : tie.Need-returns invariant-loop decreases-loop
-returns c = c.no-mac.ensures ∙ mac_length _ c.before.if1.true
+returns : tie.Need-returns-then-text-ne-MAC_TEXT invariant-loop decreases-loop
+returns c = c.no_mac.ensures ∙ mac_length _ c.before.if-text-ne-MAC_TEXT.true
 
-loop-holds : tie.Need-loop-init invariant-loop decreases-loop
+loop-holds : tie.Need-loop-k-init invariant-loop decreases-loop
 loop-holds c = grouping_begin _
 
-is-bad-group-requires : tie.Need-is-bad-group-requires invariant-loop decreases-loop
-is-bad-group-requires c κs = (c.before.before.if1.false, c.loop-test.true)
+is-bad-group-requires : tie.Need-is_bad_group-requires invariant-loop decreases-loop
+is-bad-group-requires c κs = (c.before.before.if-text-ne-MAC_TEXT.false, c.loop-k-test.true)
 
-no-mac-requires-2 : tie.Need-no-mac-requires-2 invariant-loop decreases-loop
+no-mac-requires-2 : tie.Need-no_mac-requires-then-is_bad_group invariant-loop decreases-loop
 no-mac-requires-2 c κs = search rules
 
-returns-2 : tie.Need-returns-2 invariant-loop decreases-loop
+returns-2 : tie.Need-returns-then-is_bad_group invariant-loop decreases-loop
 returns-2 c =
     let seen = c.before.before in
     let turn = seen.before in
-    c.no-mac2.ensures
-    ∙ mac_bad turn.before.loop.invariant turn.loop-test.true (sym seen.is-bad-group.ensures ∙ c.before.if2.true)
+    c.no_mac-then-is_bad_group.ensures
+    ∙ mac_bad turn.before.loop-k.invariant turn.loop-k-test.true (sym seen.is_bad_group.ensures ∙ c.before.if-is_bad_group.true)
 
 group-requires : tie.Need-group-requires invariant-loop decreases-loop
 group-requires c κs =
     let seen = c.before in
     let turn = seen.before in
-    (turn.before.before.if1.false, turn.loop-test.true, sym seen.is-bad-group.ensures ∙ c.if2.false)
+    (turn.before.before.if-text-ne-MAC_TEXT.false, turn.loop-k-test.true, sym seen.is_bad_group.ensures ∙ c.if-is_bad_group.false)
 
-array-write-bytes : tie.Need-array-write-bytes invariant-loop decreases-loop
-array-write-bytes c = c.before.before.before.loop-test.true
+array-write-bytes : tie.Need-bounds-bytes-k invariant-loop decreases-loop
+array-write-bytes c = c.before.before.before.loop-k-test.true
 
-add-k : tie.Need-overflow-add-k invariant-loop decreases-loop
+add-k : tie.Need-overflow_add-k invariant-loop decreases-loop
 add-k c = search rules
 
-loop-less : tie.Need-loop-smaller invariant-loop decreases-loop
+loop-less : tie.Need-loop-k-smaller invariant-loop decreases-loop
 loop-less c = search rules
 
-loop-again : tie.Need-loop-preserved invariant-loop decreases-loop
+loop-again : tie.Need-loop-k-preserved invariant-loop decreases-loop
 loop-again c =
     let seen = c.before.before in
     let turn = seen.before in
-    grouping_turn turn.before.loop.invariant _ turn.loop-test.true (sym seen.is-bad-group.ensures ∙ c.before.if2.false)
+    grouping_turn turn.before.loop-k.invariant _ turn.loop-k-test.true (sym seen.is_bad_group.ensures ∙ c.before.if-is_bad_group.false)
     c.group.ensures
 
-returns-3 : tie.Need-returns-3 invariant-loop decreases-loop
-returns-3 c = mac_good c.before.loop.invariant c.loop-test.false c.before.before.if1.false
+returns-3 : tie.Need-returns invariant-loop decreases-loop
+returns-3 c = mac_good c.before.loop-k.invariant c.loop-k-test.false c.before.before.if-text-ne-MAC_TEXT.false
 
-pub mac-spec : {M : Type 1} → statement M
-mac-spec =
+pub mac_spec : {M : Type 1} → statement M
+mac_spec =
     tie.close
     (tie.spec
     invariant-loop
