@@ -1,4 +1,6 @@
 // The listing of a capture: a heading, and a line for each entry that is run (`replay`).
+#![tactic(auto)]
+
 pub mod line;
 
 ghost use Rattle.std.specs.Prelude.{◌≡◌, ◌+◌, ◌<◌, ◌≤◌, length};
