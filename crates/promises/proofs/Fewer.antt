@@ -26,11 +26,13 @@ in_time_arrives (x ∷ xs) k e = pick (ltb x k) (in_time_arrives xs k) e
     pick false later e' = Memᴰ.head (sym (eqb-true x k e'))
 
 rises_from : (n : ℕ) (xs : List ℕ) (k : ℕ) → Rising n xs → Memᴰ k xs → n ≤ k
+rises_from n [] k r m = elim m [ ]
 rises_from n (x ∷ xs) k r (Memᴰ.head e) = omega arith
 rises_from n (x ∷ xs) k r (Memᴰ.tail m) = omega (arith, rises_from (suc x) xs k r.1 m)
 
 arrives_in_time : (n : ℕ) (xs : List ℕ) (k : ℕ) → Rising n xs → Memᴰ k xs → in_time xs k ≡ true
 unfolding in_time
+arrives_in_time n [] k r m = elim m [ ]
 arrives_in_time n (x ∷ xs) k r (Memᴰ.head e) = rw (le-ltb x k (omega arith)) (eq-eqb x k (sym e))
 arrives_in_time n (x ∷ xs) k r (Memᴰ.tail m) =
     rw (lt-ltb x k (rises_from (suc x) xs k r.1 m)) (arrives_in_time (suc x) xs k r.1 m)

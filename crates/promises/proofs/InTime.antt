@@ -40,7 +40,7 @@ test_means (x ∷ xs) k e = pick (ltb x k) refl (test_means xs k) e
           arrival = suc r.arrival;
           there = omega (arith, r.there);
           of_it = r.of_it;
-          none_later = λ j. elim j [ zero ↦ λ i. omega (arith, ltb-true x k l) | suc j' ↦ λ i. r.none_later j' (omega arith) ];
+          none_later = λ j. elim j as (λ j. j < suc r.arrival → get_or (x ∷ xs) j 0 ≤ k) [ zero ↦ λ i. omega (arith, ltb-true x k l) | suc j' ↦ λ i. r.none_later j' (omega arith) ];
         }
     pick false l later e' = record { arrival = 0; there = omega arith; of_it = eqb-true x k e'; none_later = λ j i. absurd (omega arith) }
 

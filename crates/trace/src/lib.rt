@@ -1,5 +1,7 @@
 // The trace of an entry: its line in the listing, and behind it what the card did: the frames that the entry delivered, and the open rows
 // with what their flows hold.
+#![tactic(auto)]
+
 mod frames;
 mod rows;
 

@@ -9,77 +9,77 @@ use Rattle.trace.proofs.trace_entry.Statement.{statement}
 use Rattle.trace.proofs.trace_entry.Tie as tie
 
 -- from the step back to where it was lent its slices, and to the start
-abbrev start : tie.After-step-arg → tie.Start
+abbrev start : tie.After-step-arg-1 → tie.Start
 start lent = lent.before.before.before.before.before.before
 
-abbrev lent : tie.After-step → tie.After-step-arg
+abbrev lent : tie.After-step-stepped → tie.After-step-arg-1
 lent stepped = stepped.before.before.before
 
 -- and from each piece that is written back to the one before it: the rows, the frames, the line, the answer, the step
-abbrev stepped : tie.After-answer → tie.After-step
+abbrev stepped : tie.After-answer-1 → tie.After-step-stepped
 stepped answered = answered.before.before.before.before.before.before.before
 
-abbrev answered : tie.After-write-line → tie.After-answer
+abbrev answered : tie.After-write_line-behind_line → tie.After-answer-1
 answered lined = lined.before.before
 
-abbrev lined : tie.After-write-frames-arg3 → tie.After-write-line
-lined framing = framing.before.before.before.before.before.before
+abbrev lined : tie.After-write_frames-arg-1 → tie.After-write_line-behind_line
+lined framing = framing.before.before.before.before
 
-abbrev framed : tie.After-write-rows-arg2 → tie.After-write-frames
-framed rowing = rowing.before.before.before.before.before.before
+abbrev framed : tie.After-write_rows-arg-1 → tie.After-write_frames-behind_frames
+framed rowing = rowing.before.before.before.before.before
 
-step-requires : tie.Need-step-requires
+step-requires : tie.Need-step-stepped-requires
 step-requires c κs = search rules
 
-cast-write-line : tie.Need-overflow-cast-write-line
+cast-write-line : tie.Need-overflow_cast-index
 cast-write-line c =
     let given = (start (lent (stepped c.before))).requires.0 in
     omega (arith, index_few given.0 given.1)
 
-write-line-requires : tie.Need-write-line-requires
+write-line-requires : tie.Need-write_line-behind_line-requires
 write-line-requires c κs = search rules
 
-cast-count : tie.Need-overflow-cast-count
+cast-count : tie.Need-overflow_cast-count
 cast-count c = search rules
 
-write-frames-requires : tie.Need-write-frames-requires
+write-frames-requires : tie.Need-write_frames-behind_frames-requires
 write-frames-requires c κs =
     let line = lined c in
     let step = stepped (answered line) in
     let room = (start (lent step)).requires.1 in
-    (frames_findable step.step.ensures, omega (arith, room, line.write-line.ensures.1, line.write-line.kept.0))
+    (frames_findable step.step-stepped.ensures, omega (arith, room, line.write_line-behind_line.ensures.1, line.write_line-behind_line.auto.text))
 
-write-rows-requires : tie.Need-write-rows-requires
+write-rows-requires : tie.Need-write_rows-behind_rows-requires
 write-rows-requires c κs =
     let frames = framed c in
     let line = lined frames.before in
     let step = stepped (answered line) in
     let room = (start (lent step)).requires.1 in
-    let stands = step.step.ensures.goes_on.stands in (
+    let stands = step.step-stepped.ensures.goes_on.stands in (
       table-whole stands,
       (
         omega (arith, stands.sized.holding_size),
         omega (
           arith,
           room,
-          line.write-line.ensures.1,
-          line.write-line.kept.0,
-          frames.write_frames.ensures.1,
-          frames.write_frames.kept.0,
+          line.write_line-behind_line.ensures.1,
+          line.write_line-behind_line.auto.text,
+          frames.write_frames-behind_frames.ensures.1,
+          frames.write_frames-behind_frames.auto.text,
         ),
       ),
     )
 
-same_length : tie.Need-same-length
+same_length : tie.Need-shape_of-holding
 same_length c = search rules
 
-same-length-2 : tie.Need-same-length-2
+same-length-2 : tie.Need-shape_of-output
 same-length-2 c = search rules
 
-same-length-3 : tie.Need-same-length-3
+same-length-3 : tie.Need-shape_of-lengths
 same-length-3 c = search rules
 
-same-length-4 : tie.Need-same-length-4
+same-length-4 : tie.Need-shape_of-text
 same-length-4 c = search rules
 
 returns : tie.Need-returns
@@ -87,13 +87,13 @@ returns c =
     let rows = c.before.before in
     let frames = framed rows.before in
     let line = lined frames.before in
-    let did = (stepped (answered line)).step.ensures in (
-      entry_traced did line.write-line.ensures.0 frames.write_frames.ensures.0 rows.write-rows.ensures.0,
+    let did = (stepped (answered line)).step-stepped.ensures in (
+      entry_traced did line.write_line-behind_line.ensures.0 frames.write_frames-behind_frames.ensures.0 rows.write_rows-behind_rows.ensures.0,
       did.goes_on,
     )
 
-pub trace-entry-spec : {M : Type 1} → statement M
-trace-entry-spec =
+pub trace_entry_spec : {M : Type 1} → statement M
+trace_entry_spec =
     tie.close
     (tie.spec
     step-requires

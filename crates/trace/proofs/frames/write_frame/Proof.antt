@@ -5,42 +5,38 @@ use Rattle.trace.proofs.frames.write_frame.Statement.{statement}
 use Rattle.trace.proofs.frames.write_frame.Tie as tie
 
 -- from the end of the line back to the frame's bytes, from there to the word before them, and to the start
-abbrev start : tie.After-write-words → tie.Start
-start word = word.before.before.before.before.before
+abbrev start : tie.After-write_words-behind_word → tie.Start
+start word = word.before.before.before.before.before.before
 
-abbrev word : tie.After-write-hex → tie.After-write-words
+abbrev word : tie.After-write_hex-behind_bytes → tie.After-write_words-behind_word
 word shown = shown.before.before.before.before
 
-abbrev shown : tie.After-slice-known4 → tie.After-write-hex
+abbrev shown : tie.After-slice_known-4-1 → tie.After-write_hex-behind_bytes
 shown c = c.before.before.before.before.before.before
 
-slice-aggregate-write-words : tie.Need-slice-aggregate-write-words
-slice-aggregate-write-words c = search rules
-
-write-words-requires : tie.Need-write-words-requires
+write-words-requires : tie.Need-write_words-behind_word-requires
 write-words-requires c κs = search rules
 
-write-hex-requires : tie.Need-write-hex-requires
+write-hex-requires : tie.Need-write_hex-behind_bytes-requires
 write-hex-requires c κs = search rules
 
-write-byte-requires : tie.Need-write-byte-requires
+write-byte-requires : tie.Need-write_byte-requires
 write-byte-requires c κs = search rules
 
-same_length : tie.Need-same-length
+same_length : tie.Need-shape_of-text
 same_length c = search rules
 
 returns : tie.Need-returns
 returns c =
     let h = shown c in
     let a = (start (word h)).args in
-    frame-written a.bytes.now a.from a.size (word h).write-words.ensures h.write-hex.ensures.0 h.write-hex.ensures.1
-    c.before.before.write_byte.ensures
+    frame-written a.bytes.now a.from a.size (word h).write_words-behind_word.ensures h.write_hex-behind_bytes.ensures.0 h.write_hex-behind_bytes.ensures.1
+    c.write_byte.ensures
 
-pub write-frame-spec : {M : Type 1} → statement M
-write-frame-spec =
+pub write_frame_spec : {M : Type 1} → statement M
+write_frame_spec =
     tie.close
     (tie.spec
-    slice-aggregate-write-words
     write-words-requires
     write-hex-requires
     write-byte-requires

@@ -10,50 +10,50 @@ use borrow.Author.Rules.{rules}
 use Rattle.trace.proofs.rows.write_rows.Statement.{statement}
 use Rattle.trace.proofs.rows.write_rows.Tie as tie
 
-abbrev invariant-loop : tie.invariant-loop
+abbrev invariant-loop : tie.invariant-loop-r
 invariant-loop text₀ at holding table next₀ r₀ text next r = Pieces (rows_of holding table) rows row_room text₀ at text next r
 
-abbrev decreases-loop : tie.decreases-loop
+abbrev decreases-loop : tie.decreases-loop-r
 decreases-loop text₀ at holding table next₀ r₀ text next r = rows - r
 
-loop-holds : tie.Need-loop-init invariant-loop decreases-loop
-loop-holds c = pieces-begin _ _ _ _ _ (omega (arith, c.before.before.requires.1.1))
+loop-holds : tie.Need-loop-r-init invariant-loop decreases-loop
+loop-holds c = pieces-begin _ _ _ _ _ (omega (arith, c.requires.1.1))
 
-mul-write-row : tie.Need-overflow-mul-write-row invariant-loop decreases-loop
+mul-write-row : tie.Need-offset_bounds-table-r invariant-loop decreases-loop
 mul-write-row c = search rules
 
-element-copy-out-write-row : tie.Need-element-copy-out-write-row invariant-loop decreases-loop
+element-copy-out-write-row : tie.Need-bounds-table-r invariant-loop decreases-loop
 element-copy-out-write-row c = search rules
 
-write-row-requires : tie.Need-write-row-requires invariant-loop decreases-loop
+write-row-requires : tie.Need-write_row-next-requires invariant-loop decreases-loop
 write-row-requires c κs =
-    let p = c.before.before.before.before.before.before.requires in
-    let more = c.before.before.loop-test.true in (
-      (more, held-few c.before.before.before.before.before.before.args.t3 p.0 c.before.before.before.loop.r more),
-      (p.1.0, pieces_room c.before.before.before.loop.invariant more (omega (arith, p.1.1))),
+    let p = c.requires in
+    let more = c.loop-r-test.true in (
+      (more, held-few c.args.table p.0 c.loop-r.r more),
+      (p.1.0, pieces_room c.loop-r.invariant more (omega (arith, p.1.1))),
     )
 
-add_r : tie.Need-overflow-add-r invariant-loop decreases-loop
+add_r : tie.Need-overflow_add-r invariant-loop decreases-loop
 add_r c = search rules
 
-loop-less : tie.Need-loop-smaller invariant-loop decreases-loop
+loop-less : tie.Need-loop-r-smaller invariant-loop decreases-loop
 loop-less c = search rules
 
-loop-again : tie.Need-loop-preserved invariant-loop decreases-loop
+loop-again : tie.Need-loop-r-preserved invariant-loop decreases-loop
 loop-again c =
-    pieces_turn c.before.before.before.before.before.before.loop.invariant c.before.before.before.before.before.loop-test.true
-    c.before.before.write-row.ensures.0 c.before.before.write-row.ensures.1
+    pieces_turn c.loop-r.invariant c.loop-r-test.true
+    c.write_row-next.ensures.0 c.write_row-next.ensures.1
 
-same_length : tie.Need-same-length invariant-loop decreases-loop
-same_length c = wrote-length c.before.loop.invariant.wrote
+same_length : tie.Need-shape_of-text invariant-loop decreases-loop
+same_length c = wrote-length c.loop-r.invariant.wrote
 
 returns : tie.Need-returns invariant-loop decreases-loop
 returns c =
-    rows_written c.before.before.before.before.args.holding.now c.before.before.before.before.args.t3
-    (pieces_end c.before.loop.invariant c.loop-test.false)
+    rows_written c.args.holding.now c.args.table
+    (pieces_end c.loop-r.invariant c.loop-r-test.false)
 
-pub write-rows-spec : {M : Type 1} → statement M
-write-rows-spec =
+pub write_rows_spec : {M : Type 1} → statement M
+write_rows_spec =
     tie.close
     (tie.spec
     invariant-loop
