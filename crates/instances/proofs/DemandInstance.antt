@@ -453,6 +453,7 @@ better_comes_out =
 
 -- And so it is for no other numbers: two lists that rise and have the same members are the same.
 at_least : (from : ℕ) (xs : List ℕ) → Rising from xs → (k : ℕ) → Memᴰ k xs → from ≤ k
+at_least from [] r k m = elim m [ ]
 at_least from (x ∷ xs) r k (Memᴰ.head e) = omega (arith, r.0, e)
 at_least from (x ∷ xs) r k (Memᴰ.tail m) = omega (arith, r.0, at_least (suc x) xs r.1 k m)
 
@@ -476,6 +477,7 @@ same_members from (x ∷ xs) (y ∷ ys) r s there back =
     rw (same, more) refl
 
 each_of : (P : ℕ → Type 0) (xs : List ℕ) → Each P xs → (k : ℕ) → Memᴰ k xs → P k
+each_of P [] e k m = elim m [ ]
 each_of P (x ∷ xs) e k (Memᴰ.head s) = subst P (sym s) e.0
 each_of P (x ∷ xs) e k (Memᴰ.tail m) = each_of P xs e.1 k m
 
