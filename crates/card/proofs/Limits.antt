@@ -13,7 +13,7 @@ use Rattle.octets.specs.Count.{sum_to, up_to}
 use Rattle.octets.proofs.Counts.{sum-none, sum_same}
 use Rattle.octets.proofs.Stretches.{length_part, part_none, length-put, part-put, length-lengths_of, total, total-part, total-lengths_of}
 use Rattle.flow.specs.declared.Flow.{Flow}
-use Rattle.flow.specs.Flow.{longest, half, accepted}
+use Rattle.flow.specs.Flow.{longest, half}
 use Rattle.flow.proofs.Judging.{judge-sound}
 use Rattle.ts.specs.Packet.{mpeg_length}
 use Rattle.packet.specs.Header.{Packet, id_length, s_set, number, segment_count, longest_packet, sub}

@@ -2,8 +2,8 @@
 -- definitions alone, so that they can be held against wrong ones.
 use Prim.Native.Nat.{ℕ}
 use mathlib.Core.Path.{◌≡◌, refl, sym, ap, ◌∙◌}
-use mathlib.Core.Bool.{true, false, true≢false}
-use mathlib.Core.List.{List, [], ◌∷◌, ◌++◌}
+use mathlib.Core.Bool.{false, true≢false}
+use mathlib.Core.List.{List, [], ◌∷◌}
 use lib.ListN.{set, replicate}
 use Rattle.octets.specs.Stretch.{part, rest, put, joined, lengths_of}
 use Rattle.octets.specs.Count.{any, least, sum_to, up_to}

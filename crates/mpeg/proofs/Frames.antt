@@ -1,5 +1,5 @@
 -- Frames that may be written, and fronts of them (W3): what `good` and `may_begin` say, what makes each true, and what makes each false.
-use Prim.Native.Nat.{ℕ, ◌+◌, ◌-◌, ◌≤◌, ◌<◌}
+use Prim.Native.Nat.{ℕ, ◌-◌, ◌≤◌, ◌<◌}
 use mathlib.Core.Path.{◌≡◌, refl, sym, ap, ◌∙◌}
 use mathlib.Core.Bool.{Bool, true, false, not, ◌&&◌, and-eq-true_iff, and-false}
 use mathlib.Core.Logic.{⊎_elim}

@@ -1,6 +1,6 @@
 -- How a packet with the flag cuts the frames that wait (W3): it takes whole ones, and then the front of one, or nothing and is filled up;
 -- and the reader finds just this (`split`).
-use Prim.Native.Nat.{ℕ, zero, suc, ◌+◌, ◌-◌, ◌≤◌, ◌<◌}
+use Prim.Native.Nat.{ℕ, zero, suc, ◌-◌, ◌≤◌, ◌<◌}
 use mathlib.Core.Path.{◌≡◌, refl, sym, ap, ◌∙◌}
 use mathlib.Core.Bool.{true, false}
 use mathlib.Core.Logic.{⊎_elim}

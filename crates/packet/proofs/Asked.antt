@@ -1,6 +1,6 @@
 -- Segment k of a packet, asked for by its number. Where the request is not refused, the segment's entry and its body lie in the packet,
 -- and what is given is the body of that segment; where it is refused, nothing is given.
-use Prim.Native.Nat.{ℕ, zero, suc, ◌+◌, ◌-◌, ◌*◌, ◌<◌, ◌≤◌}
+use Prim.Native.Nat.{ℕ, zero, suc, ◌+◌, ◌*◌, ◌<◌, ◌≤◌}
 use mathlib.Core.Path.{◌≡◌, refl, sym, ap, ◌∙◌}
 use mathlib.Core.List.{List, []}
 use native.Mathlib.Omega.{arith}

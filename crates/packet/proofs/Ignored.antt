@@ -14,7 +14,6 @@ use Rattle.octets.specs.Stretch.{part, rest}
 use Rattle.octets.specs.Count.{any, sum_to, up_to}
 use Rattle.octets.proofs.Counts.{any_same, sum_agree, up_to_agree}
 use Rattle.octets.proofs.Stretches.{length_rest, byte_rest, part-rest}
-use Rattle.flow.specs.Flow.{top_flow}
 use Rattle.ts.specs.Packet.{mpeg_length, sync_byte}
 use Rattle.packet.specs.Header.{h_bit, h_values, h_bits, v_bit, v_set, s_bit, s_set, flow_id, segment_count, number, header_length, not_plain}
 use Rattle.packet.specs.Header.{Packet, over_ip, over_udp, lead_of, lead, id_length, not_version3, session_id, sub, shortest_packet}
@@ -25,8 +24,8 @@ use Rattle.packet.specs.Check.{kind_psp, kind_unknown, segmentless, check_refusa
 use Rattle.packet.specs.Check.{extent_by, segment_extent, segment_given}
 use Rattle.packet.proofs.Asked.{given_is_segment, given_none}
 use Rattle.packet.specs.Segments.{Segment, entry_width, entry_at, length_at, begins_in, ends_in, body_at, segment_at, segments}
-use Rattle.packet.specs.Psp.{wanted, bad_entry, bad_at, segment_refusals, psp_refusals}
-use Rattle.packet.specs.Dmpt.{carried, mpeg_count, mpeg_at, mpegs, mpeg_refusals, dmpt_refusals}
+use Rattle.packet.specs.Psp.{wanted, bad_entry, bad_at, psp_refusals}
+use Rattle.packet.specs.Dmpt.{carried, mpeg_count, mpeg_at, mpegs, dmpt_refusals}
 
 module _ (sub sub' : List ℕ) (long : length sub ≡ length sub') (high : byte_at sub 0 / h_bit ≡ byte_at sub' 0 / h_bit)
     (flow : flow_id sub ≡ flow_id sub') (behind : rest sub 2 ≡ rest sub' 2) where

@@ -1,7 +1,7 @@
 -- What nobody reads of a packet (document 01, "Packet layout": X and the reserved bits are ignored): X in each of the first two bytes
 -- behind the session ID; of a D-MPT packet the whole second byte, since there the count of segments is reserved too; and over UDP, of the
 -- four bytes before the session ID, all but T and the version. The header is drawn in Header.antt.
-use Rattle.std.specs.Prelude.{ℕ, ◌/◌, ◌≡◌, length}
+use Rattle.std.specs.Prelude.{◌/◌, ◌≡◌, length}
 use Rattle.octets.specs.Bytes.{byte_at}
 use Rattle.octets.specs.Stretch.{rest}
 use Rattle.packet.specs.Header.{Packet, not_version3, session_id, sub, h_bit, flow_id, segment_count}

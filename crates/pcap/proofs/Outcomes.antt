@@ -2,7 +2,7 @@
 -- and of the bytes of a record, one outcome is permitted.
 use Prim.Native.Nat.{ℕ, zero, suc, ◌+◌, ◌≤◌}
 use mathlib.Core.Path.{◌≡◌, refl, sym, ap, ◌∙◌}
-use mathlib.Core.Bool.{Bool, false}
+use mathlib.Core.Bool.{Bool}
 use mathlib.Core.List.{List, [], ◌∷◌}
 use native.Mathlib.Omega.{arith}
 use lib.Dec.{ltb}
@@ -11,12 +11,12 @@ use denote.Ref.{Bor}
 use borrow.Author.Tests.{ltb-false}
 use Rattle.refusal.specs.Refusal.{first, ◌when◌}
 use Rattle.refusal.proofs.Laws.{none-applies, none_apart, none_first}
-use Rattle.octets.specs.Stretch.{part, put}
+use Rattle.octets.specs.Stretch.{part}
 use Rattle.octets.proofs.Stretches.{part-put}
 use Rattle.octets.proofs.Counts.{or-false-left, or-false-right}
 use Rattle.capture.specs.File.{head_length, entry_length, longest_file, most_entries, entries, file_of, file_refusals, file_refusal}
 use Rattle.pcap.specs.declared.Addresses.{Addresses}
-use Rattle.pcap.specs.File.{bad_header, last_place, start, bytes_at}
+use Rattle.pcap.specs.File.{start, bytes_at}
 use Rattle.pcap.specs.Import.{all_entries, import_refusals, imported_by, imported, ImportOutcome, PermitsImport}
 use Rattle.pcap.specs.Export.{export_of, export_refusals, exported_by, exported, ExportOutcome, PermitsExport}
 use Rattle.pcap.specs.Reader.{PermitsBytes}

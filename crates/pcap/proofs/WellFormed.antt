@@ -1,12 +1,11 @@
 -- What is exported is well formed for any reader: each packet, by what its headers say, and the file.
 use Prim.Native.Nat.{ℕ, ◌+◌, ◌≤◌, ◌<◌}
 use mathlib.Core.Path.{◌≡◌, refl, sym, ap, subst, ◌∙◌}
-use mathlib.Core.Bool.{Bool, true, false, cond, true≢false}
+use mathlib.Core.Bool.{Bool, true, false, true≢false}
 use mathlib.Core.List.{List, ◌++◌, map}
 use native.Mathlib.Omega.{arith}
-use lib.Dec.{eqb}
 use lib.ListN.{length, length-map}
-use Rattle.octets.specs.Bytes.{byte_at, be16_at}
+use Rattle.octets.specs.Bytes.{be16_at}
 use Rattle.octets.specs.Stretch.{part}
 use Rattle.octets.specs.Each.{Each}
 use Rattle.octets.specs.Those.{those}
@@ -14,10 +13,10 @@ use Rattle.octets.proofs.Elements.{each_too, each_map}
 use Rattle.octets.proofs.Stretches.{part-between}
 use Rattle.capture.specs.File.{Entry}
 use Rattle.pcap.specs.declared.Addresses.{Addresses}
-use Rattle.pcap.specs.Ethernet.{ethernet_length, ipv4_type, ether_type, ethernet_header}
-use Rattle.pcap.specs.Ipv4.{ipv4_at, ipv4_length, l2tp_protocol, udp_protocol, version, header_length, total_length, fragment_bits}
-use Rattle.pcap.specs.Ipv4.{payload_at, payload_length, ones_sum, ipv4_header}
-use Rattle.pcap.specs.Udp.{udp_length, l2tp_port, target_port, length_said}
+use Rattle.pcap.specs.Ethernet.{ethernet_header}
+use Rattle.pcap.specs.Ipv4.{ipv4_at, ipv4_length, l2tp_protocol, udp_protocol}
+use Rattle.pcap.specs.Ipv4.{payload_at, ones_sum, ipv4_header}
+use Rattle.pcap.specs.Udp.{l2tp_port}
 use Rattle.pcap.specs.Judge.{is_udp}
 use Rattle.pcap.specs.Export.{is_over_udp, is_data, packet_of, export_of}
 use Rattle.pcap.specs.WellFormed.{WellFormed, WellFormedFile}

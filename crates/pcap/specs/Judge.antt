@@ -2,7 +2,7 @@
 -- fragment, another protocol or port. A packet ends where its IP length says, and over UDP where the UDP length says, not where the record
 -- does: Ethernet pads short ones. UDP lengths are judged of whole packets alone, since a later fragment has no UDP header. Checksums, D and
 -- the source port are read by nobody.
-use Rattle.std.specs.Prelude.{ℕ, zero, suc, ◌+◌, ◌-◌, Bool, cond, not, ◌&&◌, ◌||◌, List, [], ◌∷◌, eqb, ltb, leb, length}
+use Rattle.std.specs.Prelude.{ℕ, zero, suc, ◌+◌, ◌-◌, Bool, cond, not, ◌&&◌, ◌||◌, List, [], ◌∷◌, eqb, ltb, length}
 use Rattle.refusal.specs.Refusal.{Refusal, ◌when◌, first}
 use Rattle.octets.specs.Stretch.{part}
 use Rattle.capture.specs.File.{dataEntry, dataOverUdp, Entry}

@@ -2,7 +2,7 @@
 -- one call changes of it is told for all three at once: a row replaced by one that holds nothing, or one flow of one row.
 use Prim.Native.Nat.{ℕ, ◌+◌, ◌-◌, ◌<◌, ◌≤◌}
 use mathlib.Core.Path.{◌≡◌, refl, sym, ap, ◌∙◌}
-use mathlib.Core.List.{List, []}
+use mathlib.Core.List.{List}
 use native.Mathlib.Omega.{arith}
 use lib.ListN.{length, get_or-replicate}
 use lib.Seq.{get_or-set_same, get_or-set_other}

@@ -1,7 +1,7 @@
 -- Demand 3 for one flow by itself: what comes out of a fresh flow that hears a sender's packets, each with a number, as the network
 -- brings them, is the frames whose every packet arrived before any packet sent after it. In steps: the arrivals are a walk along the
 -- sender's packets, that is one along their segments, and of these the whole frames survive.
-use Prim.Native.Nat.{ℕ, ◌≤◌, ◌<◌}
+use Prim.Native.Nat.{ℕ, ◌≤◌}
 use mathlib.Core.Path.{◌≡◌, ap, ◌∙◌}
 use mathlib.Core.Bool.{true}
 use mathlib.Core.List.{List, [], ◌++◌, map}

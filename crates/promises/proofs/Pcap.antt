@@ -3,8 +3,8 @@
 -- written, so that it is sound and has these entries; each has come from a record, and each record is counted.
 use Prim.Native.Nat.{ℕ, zero, suc, ◌+◌, ◌≤◌, ◌<◌}
 use mathlib.Core.Path.{◌≡◌, refl, sym, ap, subst, ◌∙◌}
-use mathlib.Core.Bool.{Bool, true, false, cond, ◌||◌}
-use mathlib.Core.List.{List, [], ◌∷◌, ◌++◌, map}
+use mathlib.Core.Bool.{Bool, true, false, cond}
+use mathlib.Core.List.{List, [], ◌∷◌, map}
 use native.Mathlib.Omega.{arith}
 use lib.Dec.{ltb}
 use lib.ListN.{length}
@@ -15,7 +15,7 @@ use Rattle.octets.specs.Stretch.{part, put}
 use Rattle.octets.specs.Count.{up_to}
 use Rattle.octets.specs.Each.{Each}
 use Rattle.octets.specs.Those.{those}
-use Rattle.octets.proofs.Elements.{each_both, each_map}
+use Rattle.octets.proofs.Elements.{each_both}
 use Rattle.octets.proofs.Those.{those-few, joined-those-short}
 use Rattle.octets.proofs.Counts.{length-up_to}
 use Rattle.capture.specs.File.{head_length, longest_file, most_entries, Entry, body_of, entry_count, nth_entry, entries, opening, file_of}
@@ -27,8 +27,8 @@ use Rattle.capture.proofs.ReadsBack.{length_reads_back, bodies-short, written_re
 use Rattle.pcap.specs.declared.Addresses.{Addresses}
 use Rattle.pcap.specs.File.{bad_header, records, last_place, pcap_of}
 use Rattle.pcap.specs.Judge.{is_udp, dataAt, dataLength, entry_of}
-use Rattle.pcap.specs.Import.{is_for, entries_of, skipped, all_entries, import_refusals, imported_by, imported, ImportOutcome}
-use Rattle.pcap.specs.Export.{is_data, export_of, exported}
+use Rattle.pcap.specs.Import.{is_for, entries_of, skipped, all_entries, import_refusals, imported_by, imported}
+use Rattle.pcap.specs.Export.{is_data, export_of}
 use Rattle.pcap.specs.WellFormed.{WellFormedFile}
 use Rattle.pcap.proofs.WellFormed.{export_formed}
 use Rattle.pcap.proofs.Walk.{walk_hands_out}
@@ -36,7 +36,7 @@ use Rattle.pcap.proofs.ReadsBack.{header_reads_back, records_read_back, walk_end
 use Rattle.pcap.proofs.ComesBack.{export_header, export_ends, export_comes_back, export_none-skipped}
 use Rattle.pcap.proofs.Account.{adds_up, stretches}
 use Rattle.pcap.proofs.Outcomes.{import_code, import_done, importable, import_at_front, export_code, exportable, export_at_front}
-use Rattle.promises.specs.Pcap.{Addressed, pcap_in, capture_in, dataIn, PcapComesBack, ExportWellFormed, NothingInvented}
+use Rattle.promises.specs.Pcap.{Addressed, capture_in, dataIn, PcapComesBack, ExportWellFormed, NothingInvented}
 use Rattle.promises.specs.Pcap.{ImportNeverInvents, ImportAddsUp, EitherOrder, ReaderHandsOut}
 
 -- The data entries of a sound capture are no more than it has, and the file of them is no longer.

@@ -46,7 +46,6 @@ use Rattle.mpeg.proofs.Frames.{good-some}
 use Rattle.mpeg.proofs.RunsRead.{some-carried, runs_are_read, all_come_back}
 use Rattle.capture.specs.File.{opening as opening-entry, file_refusal}
 use Rattle.replay.specs.Run.{Running, run_one, begin}
-use Rattle.outputs.specs.Sent as entry
 use Rattle.outputs.specs.Sent.{most, frames_in, spoilt, packets_for, entries_for, make_refusal}
 use Rattle.outputs.specs.Stream.{delivered, drain, packets_of, all_good, stream_by, stream}
 use Rattle.outputs.specs.Back.{got_back}

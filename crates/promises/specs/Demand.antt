@@ -3,7 +3,7 @@
 -- limits; the network loses, repeats and delays packets within the bound. What comes out is precisely the frames whose every packet arrived
 -- before any packet sent after it, unaltered and in sending order. So where packets are only lost, one lost fewer never takes away or
 -- alters a frame.
-use Rattle.std.specs.Prelude.{ℕ, suc, ◌-◌, ◌≤◌, ◌<◌, ◌≡◌, true, length, get_or}
+use Rattle.std.specs.Prelude.{ℕ, suc, ◌≤◌, ◌<◌, ◌≡◌, true, length, get_or}
 use mathlib.Core.List.{List, [], ◌∷◌, map, Memᴰ, Sublistᴰ}
 use Rattle.octets.specs.Stretch.{joined}
 use Rattle.octets.specs.Each.{Each}

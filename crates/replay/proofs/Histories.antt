@@ -1,6 +1,6 @@
 -- A run of a capture is a history: the answers listed are those of the calls one after another, and the card goes on as they leave it. So
 -- what is proved of histories of calls holds of captures.
-use Prim.Native.Nat.{ℕ, zero, suc, ◌+◌}
+use Prim.Native.Nat.{ℕ, zero, suc}
 use mathlib.Core.Path.{◌≡◌, refl, ap, ◌∙◌}
 use mathlib.Core.List.{List, [], ◌∷◌, ◌++◌}
 use lib.ListN.{replicate}

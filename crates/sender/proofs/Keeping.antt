@@ -14,7 +14,7 @@ use Rattle.octets.specs.Stretch.{joined}
 use Rattle.octets.proofs.Stretches.{part-put, length-joined}
 use Rattle.flow.specs.Numbers.{next}
 use Rattle.packet.specs.Header.{ip, sub, s_set, session_id, flow_id, header_length, number as number_in}
-use Rattle.packet.specs.Segments.{Segment, entry_width, segments}
+use Rattle.packet.specs.Segments.{Segment, entry_width}
 use Rattle.packet.specs.Check.{kind_psp, check}
 use Rattle.sender.specs.Cut.{index_of, goes_on, least_room}
 use Rattle.sender.specs.Packet.{body_of}

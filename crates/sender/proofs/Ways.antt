@@ -1,6 +1,6 @@
 -- A packet that goes over UDP is the packet that would have gone over IP (`Transports` of crate `packet`). So a sender that keeps the rules
 -- over IP keeps them over UDP too, and over both in any mixture.
-use Prim.Native.Nat.{ℕ, zero, suc, ◌<◌}
+use Prim.Native.Nat.{ℕ, zero, suc}
 use mathlib.Core.Path.{◌≡◌, refl, ap, ◌∙◌}
 use mathlib.Core.Bool.{Bool, true, false, cond}
 use mathlib.Core.List.{List, [], ◌∷◌, ◌++◌, map}

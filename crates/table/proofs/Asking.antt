@@ -1,7 +1,7 @@
 -- Rule 13 as the code asks it (specs/Inside.antt) is rule 13 as defined: a flow that heard a packet is held to what its row's kind allows,
 -- and any other to zeros. Where no row is broken by itself the open rows are those whose ID is not 0, so that IDs alone tell whether a
 -- session is open twice, and where it is open.
-use Prim.Native.Nat.{ℕ, zero, suc, ◌<◌, ◌≤◌}
+use Prim.Native.Nat.{ℕ, zero, suc, ◌<◌}
 use mathlib.Core.Path.{◌≡◌, refl, sym, ◌∙◌}
 use mathlib.Core.Bool.{Bool, true, false, not, ◌&&◌, ◌||◌, or-true, or-false, and-false, true≢false}
 use mathlib.Core.Logic.{◌⊎◌, inl, inr, ⊎_elim}

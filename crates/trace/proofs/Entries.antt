@@ -1,6 +1,6 @@
 -- The trace of one entry: its line, its frames and the rows afterwards are those of the run.
 use Prim.Native.Nat.{ℕ}
-use mathlib.Core.Path.{◌≡◌, ap, ◌∙◌}
+use mathlib.Core.Path.{◌≡◌, ap}
 use mathlib.Core.List.{List, map}
 use Rattle.octets.specs.Stretch.{joined}
 use Rattle.card.specs.Receive.{frames_found}

@@ -4,7 +4,6 @@ use Prim.Native.Nat.{◌-◌}
 use mathlib.Core.List.{[]}
 use mathlib.Core.Path.{◌≡◌, ap}
 use native.Mathlib.Omega.{arith}
-use borrow.Author.Tests.{not-true, not-false}
 use Rattle.mpeg.specs.declared.reader.Front.{Front}
 use Rattle.mpeg.proofs.Finding.{Finding, finding_begin, finding_end, finding_filled, finding_spoilt, finding_long, finding_open}
 use Rattle.mpeg.proofs.Finding.{finding_turn}

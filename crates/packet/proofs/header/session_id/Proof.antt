@@ -1,5 +1,4 @@
 -- `packet::header::session_id` reads the four bytes behind what the transport puts before them.
-use Prim.Native.Nat.{ℕ}
 use mathlib.Core.Path.{ap, ◌∙◌}
 use Rattle.octets.specs.Bytes.{be32_at}
 use borrow.Author.Rules.{rules}
