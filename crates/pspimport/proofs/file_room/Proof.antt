@@ -12,5 +12,5 @@ long n e = sym (ap length e ∙ length-replicate n 0)
 returns : tie.Need-returns
 returns c = long 4194305 refl
 
-pub file-room-spec : {M : Type 1} → statement M
-file-room-spec = tie.close (tie.spec returns)
+pub file_room_spec : {M : Type 1} → statement M
+file_room_spec = tie.close (tie.spec returns)

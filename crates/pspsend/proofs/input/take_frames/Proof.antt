@@ -6,41 +6,41 @@ use Rattle.pspsend.proofs.input.take_frames.Tie as tie
 
 -- the places: the frames read, seen from the test behind them, and the start
 abbrev Read : Type 0
-Read = tie.After-unpack
+Read = tie.After-unpack-unpacked
 
-abbrev read : tie.After-struct-known2 → Read
+abbrev read : tie.After-struct_known-2-1 → Read
 read c = c.before.before.before.before.before.before
 
 abbrev start : Read → tie.Start
 start r = r.before.before.before.before.before.before
 
-unpack-requires : tie.Need-unpack-requires
+unpack-requires : tie.Need-unpack-unpacked-requires
 unpack-requires c κs = search rules
 
-same_length : tie.Need-same-length
+same_length : tie.Need-shape_of-bytes-then-unpacked
 same_length c = search rules
 
-same-length-2 : tie.Need-same-length-2
+same-length-2 : tie.Need-shape_of-lengths-then-unpacked
 same-length-2 c = search rules
 
-returns : tie.Need-returns
+returns : tie.Need-returns-then-unpacked
 returns c =
     let r = read c.before in
-    take-spoilt _ _ _ _ _ r.unpack.result (start r).pre.0 (start r).pre.1 r.unpack.ensures c.if1.true
+    take-spoilt _ _ _ _ _ r.unpack-unpacked.result (start r).requires.0 (start r).requires.1 r.unpack-unpacked.ensures c.if-unpacked.true
 
-same-length-3 : tie.Need-same-length-3
+same-length-3 : tie.Need-shape_of-bytes
 same-length-3 c = search rules
 
-same-length-4 : tie.Need-same-length-4
+same-length-4 : tie.Need-shape_of-lengths
 same-length-4 c = search rules
 
-returns-2 : tie.Need-returns-2
+returns-2 : tie.Need-returns
 returns-2 c =
     let r = read c.before in
-    take_whole _ _ _ _ _ r.unpack.result (start r).pre.0 (start r).pre.1 r.unpack.ensures c.if1.false
+    take_whole _ _ _ _ _ r.unpack-unpacked.result (start r).requires.0 (start r).requires.1 r.unpack-unpacked.ensures c.if-unpacked.false
 
-pub take-frames-spec : {M : Type 1} → statement M
-take-frames-spec =
+pub take_frames_spec : {M : Type 1} → statement M
+take_frames_spec =
     tie.close
     (tie.spec
     unpack-requires
