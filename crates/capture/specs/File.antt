@@ -43,11 +43,11 @@ abbrev pub closing : ℕ
 closing = 3
 
 -- a packet that came over IP, and one that came over UDP (document 02, W1)
-abbrev pub dataEntry : ℕ
-dataEntry = 4
+abbrev pub data_entry : ℕ
+data_entry = 4
 
-abbrev pub dataOverUdp : ℕ
-dataOverUdp = 5
+abbrev pub data_over_udp : ℕ
+data_over_udp = 5
 
 -- how long a session ID is, as the body of an entry
 abbrev pub id_body : ℕ
@@ -68,8 +68,8 @@ kinds =
     record { number = open_psp; its_body = exactly id_body }
     ∷ record { number = open_dmpt; its_body = exactly id_body }
     ∷ record { number = closing; its_body = exactly id_body }
-    ∷ record { number = dataEntry; its_body = any_length }
-    ∷ record { number = dataOverUdp; its_body = any_length }
+    ∷ record { number = data_entry; its_body = any_length }
+    ∷ record { number = data_over_udp; its_body = any_length }
     ∷ []
 
 abbrev pub body_in : List KindRow → ℕ → Body

@@ -18,7 +18,7 @@ use Rattle.table.specs.Broken.{broken}
 use Rattle.table.specs.Calls.{is_open}
 use Rattle.join.specs.Slices.{Slices}
 use Rattle.card.specs.Hear.{judged_of}
-use Rattle.card.specs.Receive.{row_of, flow_to, flow_of, heard_by, too_small, early_refusals, packet_refusals, flow_refusals, dataRefusals}
+use Rattle.card.specs.Receive.{row_of, flow_to, flow_of, heard_by, too_small, early_refusals, packet_refusals, flow_refusals, data_refusals}
 use Rattle.card.specs.Receive.{carried_out, refused, received_by, received}
 use Rattle.card.proofs.ByKind.{numbered-packet, flow_in_row}
 
@@ -29,9 +29,9 @@ by_code zero t r sub s = refl
 by_code (suc c) t r sub s = refl
 
 module _ (t : Table) (p : Packet) (s : Slices) where
-  pub received-code : (received t p s).answer.code ≡ first (dataRefusals t p s)
+  pub received-code : (received t p s).answer.code ≡ first (data_refusals t p s)
   unfolding received
-  received-code = by_code (first (dataRefusals t p s)) t (row_of t p) (sub p) s
+  received-code = by_code (first (data_refusals t p s)) t (row_of t p) (sub p) s
 
   -- 0: what the flow hears, carried out
   pub received-accepted : (received t p s).answer.code ≡ 0 →
@@ -39,14 +39,14 @@ module _ (t : Table) (p : Packet) (s : Slices) where
       ≡ carried_out (row_of t p) (flow_to t (row_of t p) (sub p)) (heard_by t (row_of t p) (sub p) s) t s
   unfolding received received_by
   received-accepted z =
-      let none : first (dataRefusals t p s) ≡ 0 = sym (by_code (first (dataRefusals t p s)) t (row_of t p) (sub p) s) ∙ z in
+      let none : first (data_refusals t p s) ≡ 0 = sym (by_code (first (data_refusals t p s)) t (row_of t p) (sub p) s) ∙ z in
       rw none refl
 
   -- any other: all counts 0, and everything as it was
   pub received-refused : (c : ℕ) → (received t p s).answer.code ≡ suc c → received t p s ≡ refused (suc c) t s
   unfolding received received_by
   received-refused c z =
-      let given : first (dataRefusals t p s) ≡ suc c = sym (by_code (first (dataRefusals t p s)) t (row_of t p) (sub p) s) ∙ z in
+      let given : first (data_refusals t p s) ≡ suc c = sym (by_code (first (data_refusals t p s)) t (row_of t p) (sub p) s) ∙ z in
       rw given refl
 
 -- One record for each stretch of the order, so that a number more in one of them moves nothing elsewhere. Refusals 13, 24, 2, 3, 15 and 4
@@ -87,7 +87,7 @@ accepted t p s z =
     let late = 12 when (judged_of (flow_of t r (sub p)) (sub p)).late ∷ [] in
     let unopened = 5 when not (is_open t (session_id p)) ∷ [] in
     let some = numbered_both (packet_refusals (terms_at t r) (sub p)) late (numbered-packet (terms_at t r) (sub p)) refl in
-    let none = none-applies (dataRefusals t p s) some (sym (received-code t p s) ∙ z) in
+    let none = none-applies (data_refusals t p s) some (sym (received-code t p s) ∙ z) in
     let parts = none_apart (early_refusals t p) (unopened ++ flow_refusals t r (sub p)) none.1 in
     let early = early_of t p parts.0 in
     let behind = none_apart unopened (flow_refusals t r (sub p)) parts.1 in

@@ -24,7 +24,7 @@ use Rattle.join.specs.Slices.{Slices}
 use Rattle.pass.specs.Pass.{dmpt_fate}
 use Rattle.card.specs.Hear.{width_in, judged_by, judged_of, segments_fate, fate_of, Heard, hear}
 use Rattle.card.specs.Receive.{row_of, flow_for, held_for, heard_in, packet_refusals, row_refusals, flow_refusals, too_small}
-use Rattle.card.specs.Receive.{place_of, dataRefusals, carried_out, received_by, received, flow_to, heard_by}
+use Rattle.card.specs.Receive.{place_of, data_refusals, carried_out, received_by, received, flow_to, heard_by}
 
 module _ (p p' : Packet) (same : SameRead p p') where
   abbrev here : List ℕ
@@ -89,7 +89,7 @@ module _ (p p' : Packet) (same : SameRead p p') where
     abbrev r : ℕ
     r = row_of t p
 
-    numbers_alike : first (dataRefusals t p s) ≡ first (dataRefusals t p' s)
+    numbers_alike : first (data_refusals t p s) ≡ first (data_refusals t p' s)
     numbers_alike =
         let order : List Refusal → ℕ → List Refusal → ℕ =
         λ early session behind. first (1 when too_small s ∷ (13 when broken t ∷ early) ++ (5 when not (is_open t session) ∷ []) ++ behind) in
@@ -107,6 +107,6 @@ module _ (p p' : Packet) (same : SameRead p p') where
     pub received_alike : received t p s ≡ received t p' s
     unfolding received
     received_alike =
-        by_number (first (dataRefusals t p s))
+        by_number (first (data_refusals t p s))
         ∙ ap (λ (n : ℕ). received_by n t r there s) numbers_alike
-        ∙ ap (λ (id : ℕ). received_by (first (dataRefusals t p' s)) t (find t id) there s) same.sessions
+        ∙ ap (λ (id : ℕ). received_by (first (data_refusals t p' s)) t (find t id) there s) same.sessions

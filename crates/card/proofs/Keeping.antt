@@ -26,7 +26,7 @@ use Rattle.table.specs.Broken.{broken}
 use Rattle.table.proofs.Keeping.{accepted_keeps, emptied-flow_keeps}
 use Rattle.join.specs.Slices.{Slices}
 use Rattle.pass.proofs.Carrying.{unnumbered_holds_none, dmpt_holds_none}
-use Rattle.card.specs.Hear.{width_in, hear, recordAfter}
+use Rattle.card.specs.Hear.{width_in, hear, record_after}
 use Rattle.card.specs.Receive.{row_of, flow_to, flow_of, held_by, heard_by, carried_out, refused, received}
 use Rattle.card.proofs.ByKind.{refusals_dmpt}
 use Rattle.card.proofs.Taking.{dmpt_bare}
@@ -69,7 +69,7 @@ module _ (t : Table) (p : Packet) (s : Slices) (a : Accepted t p s) where
       (unnumbered_holds_none (terms_at t r).longest (held_by t r after s) (segments (width_in (terms_at t r).kind) after)))
       (true-or-false (is_dmpt (terms_at t r).kind))
 
-  clear_record : s_set after ≡ false → recordAfter (heard_by t r after s) ≡ emptied flow
+  clear_record : s_set after ≡ false → record_after (heard_by t r after s) ≡ emptied flow
   unfolding hear
   clear_record c =
       let none : length (heard_by t r after s).fate.held ≡ 0 = ap (λ (l : List ℕ). length l) (clear_after c) in
@@ -81,23 +81,23 @@ module _ (t : Table) (p : Packet) (s : Slices) (a : Accepted t p s) where
       ap (λ (n : ℕ). record { heard = flow.heard; expected = flow.expected; held = n })
       (sym (dmpt_bare t r (flow_to t r after) a.whole a.found (flow-there t p s a) d))
 
-  same-table : recordAfter (heard_by t r after s) ≡ flow → with_flow t r (flow_to t r after) (recordAfter (heard_by t r after s)) ≡ t
+  same-table : record_after (heard_by t r after s) ≡ flow → with_flow t r (flow_to t r after) (record_after (heard_by t r after s)) ≡ t
   same-table e =
       rw (e, set-get_or (row_at t r).flows (flow_to t r after))
       (ap (λ (l : List Row). record { rows = l }) (set-get_or t.rows r no_row))
 
   -- a number that was accepted was heard
-  set_heard : s_set after ≡ true → (recordAfter (heard_by t r after s)).heard ≡ heard_mark
+  set_heard : s_set after ≡ true → (record_after (heard_by t r after s)).heard ≡ heard_mark
   unfolding hear
   set_heard set =
       let in_time_lem : (judge flow (number after)).late ≡ false = rw set at a.in_time_lem in
       rw set (ap (λ (j : Judged). j.flow.heard) ((judge-sound flow (number after)).accepts in_time_lem))
 
-  pub step_keeps : broken (with_flow t r (flow_to t r after) (recordAfter (heard_by t r after s))) ≡ false
+  pub step_keeps : broken (with_flow t r (flow_to t r after) (record_after (heard_by t r after s))) ≡ false
   step_keeps =
       ⊎_elim
       (λ (set : s_set after ≡ true).
-      accepted_keeps t r (flow_to t r after) (recordAfter (heard_by t r after s)) a.whole a.found row_open
+      accepted_keeps t r (flow_to t r after) (record_after (heard_by t r after s)) a.whole a.found row_open
       (set_heard set) (accepted_bounded t p s a).held-few (λ d. (dmpt_flow d, ap (λ (l : List ℕ). length l) (dmpt_after d))))
       (λ (clear : s_set after ≡ false).
       rw (clear_record clear) (emptied-flow_keeps t r (flow_to t r after) a.whole a.found (flow-there t p s a)))

@@ -19,7 +19,7 @@ use Rattle.packet.specs.Header.{Packet, sub}
 use Rattle.table.specs.declared.Table.{Table}
 use Rattle.table.specs.Rows.{rows, no_row, row_at, row_with, flow_at, terms_at}
 use Rattle.join.specs.Slices.{most_frames, most_bytes, Slices}
-use Rattle.card.specs.Hear.{Heard, recordAfter}
+use Rattle.card.specs.Hear.{Heard, record_after}
 use Rattle.card.specs.Receive.{place_of, Outcome, row_of, flow_to, heard_by, carried_out, received, frames_found}
 use Rattle.card.proofs.Taking.{Large, large-enough}
 use Rattle.card.proofs.Accepted.{accepted, flow-there, received-accepted}
@@ -43,7 +43,7 @@ pub record StepOf (r k : ℕ) (h : Heard) (t : Table) (s : Slices) (o : Outcome)
   pub dropped_are : o.answer.dropped ≡ length h.fate.dropped
   pub gap_is : o.answer.gap ≡ h.judged.gap
   -- the table
-  pub its_record : flow_at (row_at o.answer.table r) k ≡ recordAfter h
+  pub its_record : flow_at (row_at o.answer.table r) k ≡ record_after h
   pub its_session : ((row_at o.answer.table r).id ≡ (row_at t r).id) × ((row_at o.answer.table r).kind ≡ (row_at t r).kind)
       × (terms_at o.answer.table r ≡ terms_at t r)
   pub other_flows : (j : ℕ) → (j ≡ k → ⊥) → flow_at (row_at o.answer.table r) j ≡ flow_at (row_at t r) j
@@ -100,11 +100,11 @@ module _ (r k : ℕ) (h : Heard) (t : Table) (s : Slices) (shaped : Shaped t) (t
     where
       four_at : (r' : ℕ) → r' < rows → (eqb r' r ≡ true) ⊎ (eqb r' r ≡ false) → length (row_at done.answer.table r').flows ≡ flows
       four_at r' l (inl e) =
-          rw (eqb-true r' r e, get_or-set_same t.rows r (row_with (row_at t r) k (recordAfter h)) no_row (omega (arith, shaped.six)))
-          (length-set (row_at t r).flows k (recordAfter h) ∙ shaped.four r there)
+          rw (eqb-true r' r e, get_or-set_same t.rows r (row_with (row_at t r) k (record_after h)) no_row (omega (arith, shaped.six)))
+          (length-set (row_at t r).flows k (record_after h) ∙ shaped.four r there)
       four_at r' l (inr e) = rw (get_or-set_other t.rows r r' _ no_row (eqb-false r' r e)) (shaped.four r' l)
 
-  row_there : row_at done.answer.table r ≡ row_with (row_at t r) k (recordAfter h)
+  row_there : row_at done.answer.table r ≡ row_with (row_at t r) k (record_after h)
   unfolding carried_out
   row_there = get_or-set_same t.rows r _ _ (omega (arith, shaped.six))
 
@@ -122,9 +122,9 @@ module _ (r k : ℕ) (h : Heard) (t : Table) (s : Slices) (shaped : Shaped t) (t
         bytes_are = refl;
         dropped_are = refl;
         gap_is = refl;
-        its_record = rw row_there (get_or-set_same (row_at t r).flows k (recordAfter h) _ (omega (arith, shaped.four r there)));
+        its_record = rw row_there (get_or-set_same (row_at t r).flows k (record_after h) _ (omega (arith, shaped.four r there)));
         its_session = rw row_there (refl, refl, refl);
-        other_flows = λ j other. rw row_there (get_or-set_other (row_at t r).flows k j (recordAfter h) _ other);
+        other_flows = λ j other. rw row_there (get_or-set_other (row_at t r).flows k j (record_after h) _ other);
         other_rows = λ r' other. get_or-set_other t.rows r r' _ _ other;
         same_shape = shape_kept;
         its_place = part-put s.holding (place_of r k) h.fate.held place-room;

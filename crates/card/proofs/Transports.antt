@@ -15,8 +15,8 @@ use Rattle.card.specs.Receive.{Outcome, row_of, too_small, flow_refusals, receiv
 
 module _ (t : Table) (a b c d : ℕ) (bytes : List ℕ) (s : Slices) where
   -- the outcome, by what is judged before the session is sought and by what follows the session ID
-  abbrev outcomeBy : List Refusal → List ℕ → Outcome
-  outcomeBy early behind =
+  abbrev outcome_by : List Refusal → List ℕ → Outcome
+  outcome_by early behind =
       let r = row_of t (ip bytes) in
       let unopened = 5 when not (is_open t (session_id (ip bytes))) ∷ [] in
       received_by (first (1 when too_small s ∷ (13 when broken t ∷ early) ++ unopened ++ flow_refusals t r behind)) t r behind s
@@ -25,5 +25,5 @@ module _ (t : Table) (a b c d : ℕ) (bytes : List ℕ) (s : Slices) where
       received t (udp (a ∷ b ∷ c ∷ d ∷ bytes)) s ≡ received t (ip bytes) s
   unfolding received
   same_received version =
-      ap (λ (early : List Refusal). outcomeBy early (sub (udp (a ∷ b ∷ c ∷ d ∷ bytes)))) (same_early a b c d bytes version)
-      ∙ ap (outcomeBy (before_session (ip bytes))) (same-sub a b c d bytes)
+      ap (λ (early : List Refusal). outcome_by early (sub (udp (a ∷ b ∷ c ∷ d ∷ bytes)))) (same_early a b c d bytes version)
+      ∙ ap (outcome_by (before_session (ip bytes))) (same-sub a b c d bytes)

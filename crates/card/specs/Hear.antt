@@ -51,8 +51,8 @@ unfoldable pub hear : Terms → Flow → List ℕ → List ℕ → Heard
 hear terms f held sub = record { judged = judged_of f sub; fate = fate_of terms (judged_of f sub).gap held sub }
 
 -- the flow's record afterwards: the number as judged, and how many bytes are held now
-abbrev pub recordAfter : Heard → Flow
-recordAfter h =
+abbrev pub record_after : Heard → Flow
+record_after h =
     record {
       heard = h.judged.flow.heard;
       expected = h.judged.flow.expected;

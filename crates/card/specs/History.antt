@@ -40,8 +40,8 @@ pub record Answer : Type 0 where
 abbrev pub plain_answer : ℕ → ℕ → Answer
 plain_answer code dropped = record { code = code; frames = 0; bytes = 0; dropped = dropped; gap = 0; output = []; lengths = [] }
 
-abbrev pub dataAnswer : Outcome → Answer
-dataAnswer o =
+abbrev pub data_answer : Outcome → Answer
+data_answer o =
     record {
       code = o.answer.code;
       frames = o.answer.frames;
@@ -72,7 +72,7 @@ takes_in c a = eqb (handed c a).answer.code 0
 unfoldable pub answer : Card → Call → Answer
 answer c (opens q) = plain_answer (opened c.table q).code 0
 answer c (closes id) = plain_answer (closed c.table id).code (closed c.table id).dropped
-answer c (hands a) = dataAnswer (handed c a)
+answer c (hands a) = data_answer (handed c a)
 
 unfoldable pub after : Card → Call → Card
 after c (opens q) = record { table = (opened c.table q).table; holding = c.holding }

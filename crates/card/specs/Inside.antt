@@ -19,7 +19,7 @@ use Rattle.join.specs.Inside.{nothing_yet, Placed, Within}
 use Rattle.card.specs.declared.Found.{Found}
 use Rattle.card.specs.declared.Hearing.{Hearing}
 use Rattle.card.specs.declared.Taken.{Taken}
-use Rattle.card.specs.Hear.{judged_of, fate_of, Heard, recordAfter}
+use Rattle.card.specs.Hear.{judged_of, fate_of, Heard, record_after}
 use Rattle.card.specs.Receive.{holding_size, row_of, flow_number, heard_in, slices_after}
 use Rattle.card.specs.Receive.{too_small, early_refusals, packet_refusals, row_refusals}
 
@@ -57,7 +57,7 @@ hears_in k h row =
       bytes = length (joined h.fate.delivered);
       dropped = length h.fate.dropped;
       gap = h.judged.gap;
-      row = row_with row k (recordAfter h);
+      row = row_with row k (record_after h);
     }
 
 abbrev pub taken_as : ℕ → ℕ → Row → List ℕ → Slices → TakenOutcome

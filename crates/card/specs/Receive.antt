@@ -18,7 +18,7 @@ use Rattle.table.specs.Broken.{broken}
 use Rattle.table.specs.Calls.{is_open}
 use Rattle.join.specs.Slices.{Slices, most_frames, most_bytes}
 use Rattle.card.specs.declared.Received.{Received}
-use Rattle.card.specs.Hear.{width_in, flow_in, Heard, judged_of, hear, recordAfter}
+use Rattle.card.specs.Hear.{width_in, flow_in, Heard, judged_of, hear, record_after}
 
 -- A place of 2,048 bytes for each flow of each row, row by row: 49,152 bytes, and the place of row r, flow k starts at (4r + k) x 2,048.
 abbrev pub holding_size : ℕ
@@ -82,8 +82,8 @@ row_refusals row sub = packet_refusals (terms_of row) sub ++ (12 when (judged_of
 abbrev pub flow_refusals : Table → ℕ → List ℕ → List Refusal
 flow_refusals t r sub = row_refusals (row_at t r) sub
 
-abbrev pub dataRefusals : Table → Packet → Slices → List Refusal
-dataRefusals t p s =
+abbrev pub data_refusals : Table → Packet → Slices → List Refusal
+data_refusals t p s =
     1 when too_small s
     ∷ early_refusals t p
     ++ (5 when not (is_open t (session_id p)) ∷ [])
@@ -109,7 +109,7 @@ carried_out r k h t s =
         bytes = length (joined h.fate.delivered);
         dropped = length h.fate.dropped;
         gap = h.judged.gap;
-        table = with_flow t r k (recordAfter h);
+        table = with_flow t r k (record_after h);
       };
       slices = slices_after r k h s;
     }
@@ -127,7 +127,7 @@ received_by zero t r sub s = carried_out r (flow_to t r sub) (heard_by t r sub s
 received_by (suc c) t r sub s = refused (suc c) t s
 
 unfoldable pub received : Table → Packet → Slices → Outcome
-received t p s = received_by (first (dataRefusals t p s)) t (row_of t p) (sub p) s
+received t p s = received_by (first (data_refusals t p s)) t (row_of t p) (sub p) s
 
 -- the frames that the caller finds: as many as the answer says, of the lengths that stand in the lengths slice, back to back in the output
 abbrev pub frames_found : ℕ → List ℕ → List ℕ → List (List ℕ)

@@ -15,7 +15,7 @@ use Rattle.octets.specs.Each.{Each}
 use Rattle.octets.specs.Those.{those}
 use Rattle.capture.specs.File.{body_start, file_refusal, Entry, nth_entry, entries, file_of}
 use Rattle.pcap.specs.declared.Addresses.{Addresses}
-use Rattle.pcap.specs.File.{is_little, wrong_fields, bad_header, whole, start, size, after, bytes_at, recordsFrom, place_from, first_place}
+use Rattle.pcap.specs.File.{is_little, wrong_fields, bad_header, whole, start, size, after, bytes_at, records_from, place_from, first_place}
 use Rattle.pcap.specs.File.{records, last_place, wire_lengths, pcap_of}
 use Rattle.pcap.specs.Ethernet.{ether_type}
 use Rattle.pcap.specs.Ipv4.{version, header_length, total_length, fragment_bits, payload_at, payload_length, ones_sum}
@@ -25,7 +25,7 @@ use Rattle.pcap.specs.Import.{entries_of, skipped, all_entries, imported_by, imp
 use Rattle.pcap.specs.Export.{is_data, packet_of, export_of, exported_by, exported}
 use Rattle.pcap.specs.Reader.{opened, handed_out}
 use Rattle.pcap.specs.WellFormed.{WellFormed}
-use Rattle.promises.specs.Pcap.{Addressed, pcap_in, capture_in, dataIn, PcapComesBack, ExportWellFormed}
+use Rattle.promises.specs.Pcap.{Addressed, pcap_in, capture_in, data_in, PcapComesBack, ExportWellFormed}
 use Rattle.promises.specs.Pcap.{ImportNeverInvents, ImportAddsUp, EitherOrder, ReaderHandsOut}
 
 abbrev by : Addresses
@@ -73,8 +73,8 @@ unfolding any sum_to up_to part put joined those body_start nth_entry entries pc
 export_instance = (refl, refl, refl)
 
 -- imported again: its three data entries, written as a capture
-abbrev data-alone : List ℕ
-data-alone =
+abbrev data_alone : List ℕ
+data_alone =
     0x00 ∷ 0x03 ∷ 0x04 ∷ 0x00 ∷ 0x00 ∷ 0x03 ∷ 0x05 ∷ 0x00 ∷ 0x00 ∷ 0x02 ∷ 0x04 ∷ 0x00 ∷ 0x00 ∷ 0x00 ∷ 0xAA ∷ 0xBB ∷ 0xCC ∷ 0x11
     ∷ 0x22 ∷ []
 
@@ -82,9 +82,9 @@ back_instance :
     imported [] outward (replicate 20 7)
     ≡ record {
       answer = record { code = 0; length = 19; packets = 3; foreign = 0; misfits = 0; fragments = 0; others = 0 };
-      output = data-alone ++ (7 ∷ []);
+      output = data_alone ++ (7 ∷ []);
     }
-unfolding part put joined those sum_to is_little wrong_fields bad_header whole start size after bytes_at recordsFrom place_from first_place records
+unfolding part put joined those sum_to is_little wrong_fields bad_header whole start size after bytes_at records_from place_from first_place records
     last_place skip_of entry_of entries_of skipped all_entries file_of imported_by imported
 back_instance = refl
 
@@ -169,7 +169,7 @@ import_instance :
     × ((imported (0x101 ∷ 0 ∷ []) site (replicate 28 7)).answer.code ≡ 64)
     × ((imported [] (take 450 site) (replicate 31 7)).answer.code ≡ 62)
     × ((imported [] (set site 23 2) (replicate 31 7)).answer.code ≡ 61)
-unfolding part put joined those sum_to is_little wrong_fields bad_header whole start size after bytes_at recordsFrom place_from first_place records
+unfolding part put joined those sum_to is_little wrong_fields bad_header whole start size after bytes_at records_from place_from first_place records
     last_place skip_of entry_of entries_of skipped all_entries file_of imported_by imported
 import_instance = (refl, refl, refl, refl)
 
@@ -182,7 +182,7 @@ too_large_instance :
     ((imported (replicate 1001 1) no_records []).answer.code ≡ 63)
     × ((imported (replicate 1000 1) no_records []).answer.code ≡ 64)
     × ((imported (replicate 1001 1) (take 25 site) []).answer.code ≡ 62)
-unfolding part put joined those sum_to is_little wrong_fields bad_header whole start size after bytes_at recordsFrom place_from first_place records
+unfolding part put joined those sum_to is_little wrong_fields bad_header whole start size after bytes_at records_from place_from first_place records
     last_place skip_of entry_of entries_of skipped all_entries file_of imported_by imported
 too_large_instance = (refl, refl, refl)
 
@@ -197,7 +197,7 @@ goes_out : (exported by capture there).answer.code ≡ 0
 unfolding any sum_to up_to part put joined those body_start nth_entry entries pcap_of packet_of export_of exported_by exported
 goes_out = refl
 
-enough-room : length (file_of (dataIn capture)) ≤ length here
+enough-room : length (file_of (data_in capture)) ≤ length here
 unfolding sum_to up_to part joined those body_start nth_entry entries file_of
 enough-room = omega arith
 
@@ -206,7 +206,7 @@ PcapComesBackHere =
     imported [] (pcap_in (exported by capture there)) here
     ≡ record {
       answer = record { code = 0; length = 19; packets = 3; foreign = 0; misfits = 0; fragments = 0; others = 0 };
-      output = data-alone ++ (7 ∷ []);
+      output = data_alone ++ (7 ∷ []);
     }
 
 pub pcap_comes_back_applied : PcapComesBack → PcapComesBackHere
@@ -260,7 +260,7 @@ abbrev site_room : List ℕ
 site_room = replicate 31 7
 
 comes_in : (imported (0x101 ∷ 0 ∷ []) site site_room).answer.code ≡ 0
-unfolding part put joined those sum_to is_little wrong_fields bad_header whole start size after bytes_at recordsFrom place_from first_place records
+unfolding part put joined those sum_to is_little wrong_fields bad_header whole start size after bytes_at records_from place_from first_place records
     last_place skip_of entry_of entries_of skipped all_entries file_of imported_by imported
 comes_in = refl
 
@@ -332,5 +332,5 @@ abbrev pub ReaderHandsOutHere : Type 0
 ReaderHandsOutHere = handed_out 187 (opened outward_lies) ≡ part outward 40 37 ∷ part outward 93 44 ∷ part outward 153 34 ∷ []
 
 pub reader_hands_out_applied : ReaderHandsOut → ReaderHandsOutHere
-unfolding part is_little wrong_fields bad_header whole start size after bytes_at recordsFrom first_place records
+unfolding part is_little wrong_fields bad_header whole start size after bytes_at records_from first_place records
 reader_hands_out_applied theorem = theorem outward_lies

@@ -37,7 +37,7 @@ use Rattle.sender.specs.Packet.{packet_of}
 use Rattle.sender.specs.Send as sender
 use Rattle.capture.specs.File as capture
 use Rattle.pcap.specs.declared.Addresses.{Addresses}
-use Rattle.pcap.specs.File.{is_little, wrong_fields, bad_header, whole, start, size, after, bytes_at, recordsFrom, place_from, first_place}
+use Rattle.pcap.specs.File.{is_little, wrong_fields, bad_header, whole, start, size, after, bytes_at, records_from, place_from, first_place}
 use Rattle.pcap.specs.File.{records, last_place, pcap_of}
 use Rattle.pcap.specs.Judge.{skip_of, entry_of}
 use Rattle.pcap.specs.Import.{entries_of, skipped, all_entries, imported_by, imported, ImportOutcome, PermitsImport}
@@ -365,7 +365,7 @@ bytes_lie = record { ref_ptr = (5, 240); now = 1 ∷ 2 ∷ 3 ∷ 4 ∷ [] }
 
 taken_in_so : PermitsImport (0x101 ∷ []) pcap_lies.now (replicate 11 7) taken_in
 unfolding part put joined those is_little wrong_fields bad_header whole start size after bytes_at
-    recordsFrom place_from first_place records last_place skip_of entry_of entries_of skipped all_entries
+    records_from place_from first_place records last_place skip_of entry_of entries_of skipped all_entries
     capture.file_of imported_by imported
 taken_in_so = refl
 

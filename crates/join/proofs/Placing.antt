@@ -144,8 +144,8 @@ way_fits false size a b e f = rw e f
 module _ (most place : ℕ) (a : Tally) (s : Slices) (sub : List ℕ) (from entry count : ℕ) (ends : Bool) (sized : count ≡ length_in entry)
     (marked : ends ≡ ends_in entry)
     (r : Tally) (s' : Slices) (inside : place + a.held ≤ length s.holding) where
-  abbrev heldNow : List ℕ
-  heldNow = part s.holding place a.held
+  abbrev held_by_now : List ℕ
+  held_by_now = part s.holding place a.held
 
   abbrev read : Segment
   read = record { begins = begins_in entry; ends = ends_in entry; body = part sub from (length_in entry) }
@@ -154,36 +154,36 @@ module _ (most place : ℕ) (a : Tally) (s : Slices) (sub : List ℕ) (from entr
       b ≡ record { held = 0; frames = a.frames; bytes = a.bytes; dropped = a.dropped + a.held } →
       a.bytes ≤ length s.output → a.frames ≤ length s.lengths →
       Placed (settled most ends (part s.holding place b.held ++ part sub from count)) place b s r s' →
-      Placed (fate most heldNow read) place a s r s'
+      Placed (fate most held_by_now read) place a s r s'
   segment_begins b begins alone room places q =
       let n = length_part s.holding place a.held inside in
-      let first : Placed (dropping heldNow) place a s b s = rw alone (placed_dropping place a s heldNow _ refl refl refl (omega arith)) in
+      let first : Placed (dropping held_by_now) place a s b s = rw alone (placed_dropping place a s held_by_now _ refl refl refl (omega arith)) in
       let none : part s.holding place b.held ≡ [] = rw alone (part_none s.holding place) in
       let then : Placed (settled most (ends_in entry) (part sub from (length_in entry))) place b s r s' = rw (none, sized, marked) at q in
-      rw (fate-begins most heldNow read begins)
+      rw (fate-begins most held_by_now read begins)
       (placed_then (rw alone room) (rw alone places) first refl then)
 
   pub segment_orphan : begins_in entry ≡ false → a.held ≡ 0 → from + length_in entry ≤ length sub →
       r.held ≡ 0 → r.frames ≡ a.frames → r.bytes ≡ a.bytes → r.dropped ≡ a.dropped + count →
-      Placed (fate most heldNow read) place a s r s
+      Placed (fate most held_by_now read) place a s r s
   segment_orphan begins none whole h f b d =
       let n = length_part s.holding place a.held inside in
       let m = length_part sub from (length_in entry) whole in
-      rw (fate_orphan most heldNow read begins (n ∙ none))
+      rw (fate_orphan most held_by_now read begins (n ∙ none))
       (placed_dropping place a s read.body r h f b (omega arith))
 
   pub segment_joins : begins_in entry ≡ false → (a.held ≡ 0 → ⊥) →
-      Placed (settled most ends (heldNow ++ part sub from count)) place a s r s' →
-      Placed (fate most heldNow read) place a s r s'
+      Placed (settled most ends (held_by_now ++ part sub from count)) place a s r s' →
+      Placed (fate most held_by_now read) place a s r s'
   segment_joins begins some q =
       let n = length_part s.holding place a.held inside in
-      rw (fate_joins most heldNow read begins (λ z. some (sym n ∙ z))) (rw (sized, marked) at q)
+      rw (fate_joins most held_by_now read begins (λ z. some (sym n ∙ z))) (rw (sized, marked) at q)
 
   -- .. where what is held has made way for a segment with B
   pub segment_lost : (begins : Bool) (b : Tally) → begins ≡ begins_in entry → b ≡ made_way begins a → (not begins && eqb b.held 0) ≡ true →
       from + length_in entry ≤ length sub →
       r.held ≡ 0 → r.frames ≡ b.frames → r.bytes ≡ b.bytes → r.dropped ≡ b.dropped + count →
-      Placed (fate most heldNow read) place a s r s
+      Placed (fate most held_by_now read) place a s r s
   segment_lost true b mark e t whole h f n d = absurd (true≢false (sym t))
   segment_lost false b mark e t whole h f n d =
       segment_orphan (sym mark) (rw e at (eqb-true b.held 0 t)) whole h (rw e at f) (rw e at n) (rw e at d)
@@ -192,7 +192,7 @@ module _ (most place : ℕ) (a : Tally) (s : Slices) (sub : List ℕ) (from entr
       (not begins && eqb b.held 0) ≡ false →
       a.bytes ≤ length s.output → a.frames ≤ length s.lengths →
       Placed (settled most ends (part s.holding place b.held ++ part sub from count)) place b s r s' →
-      Placed (fate most heldNow read) place a s r s'
+      Placed (fate most held_by_now read) place a s r s'
   segment_settles true b mark e t room places q = segment_begins b (sym mark) e room places q
   segment_settles false b mark e t room places q =
       segment_joins (sym mark) (λ z. true≢false (sym (eq-eqb b.held 0 (ap (λ (x : Tally). x.held) e ∙ z)) ∙ t)) (rw e at q)

@@ -217,39 +217,39 @@ module _ (t : Task) (ready : Ready t) where
 
   -- Whole frames behind a segment, placed together.
   module _ {s' : Slices} {tally : Tally} {from k : ℕ} (w : Walking t s' tally from k) (behind : 1 ≤ k) where
-    abbrev behindAt : ℕ → ℕ
-    behindAt i = size_at t (k + i)
+    abbrev behind_at : ℕ → ℕ
+    behind_at i = size_at t (k + i)
 
-    abbrev runOutput : ℕ → List ℕ
-    runOutput bytes = put s'.output tally.bytes (part t.sub from bytes)
+    abbrev run_output : ℕ → List ℕ
+    run_output bytes = put s'.output tally.bytes (part t.sub from bytes)
 
-    abbrev runSlices : ℕ → ℕ → Slices
-    runSlices n bytes = as_slices s'.holding (runOutput bytes) (put s'.lengths tally.frames (up_to behindAt n))
+    abbrev run_slices : ℕ → ℕ → Slices
+    run_slices n bytes = as_slices s'.holding (run_output bytes) (put s'.lengths tally.frames (up_to behind_at n))
 
-    abbrev runTally : ℕ → ℕ → Tally
-    runTally n bytes = record { held = tally.held; frames = tally.frames + n; bytes = tally.bytes + bytes; dropped = tally.dropped }
+    abbrev run_tally : ℕ → ℕ → Tally
+    run_tally n bytes = record { held = tally.held; frames = tally.frames + n; bytes = tally.bytes + bytes; dropped = tally.dropped }
 
     abbrev After : ℕ → ℕ → Type 0
-    After n bytes = Walking t (runSlices n bytes) (runTally n bytes) (from + bytes) (k + n)
+    After n bytes = Walking t (run_slices n bytes) (run_tally n bytes) (from + bytes) (k + n)
 
     none-held : (j : ℕ) → 1 ≤ j → j < segment_count t.sub → (fate_at t j).held ≡ []
     none-held zero l there = absurd (omega arith)
     none-held (suc j) l there = ended j there
 
-    run_none : After 0 (sum_to behindAt 0)
+    run_none : After 0 (sum_to behind_at 0)
     unfolding up_to
     run_none =
         let a : k + 0 ≡ k = omega arith in
         let b : from + 0 ≡ from = omega arith in
         let c : tally.frames + 0 ≡ tally.frames = omega arith in
         let d : tally.bytes + 0 ≡ tally.bytes = omega arith in
-        rw (sum-none behindAt, part_none t.sub from, put-nil s'.output tally.bytes)
+        rw (sum-none behind_at, part_none t.sub from, put-nil s'.output tally.bytes)
         (rw (put-nil s'.lengths tally.frames, a, b, c, d) w)
 
     run_more : (n bytes : ℕ) → After n bytes → k + n < segment_count t.sub → Whole t.most (entry_at t.width t.sub (k + n)) →
-        After (n + 1) (bytes + behindAt n)
+        After (n + 1) (bytes + behind_at n)
     run_more n bytes u there whole =
-        let size = behindAt n in
+        let size = behind_at n in
         let here : k < segment_count t.sub = omega arith in
         let none : tally.held ≡ 0 = w.placed.held_now ∙ ap length (none-held k behind here) in
         let inside : from + bytes + size ≤ length t.sub = walk_body u there in
@@ -259,29 +259,29 @@ module _ (t : Task) (ready : Ready t) where
         let places : tally.frames + n < length s'.lengths =
         omega (arith, (walk_fits u there).frames-few, (walk_lengths w).2, ready.roomy.lengths_long) in
         let more = part t.sub (from + bytes) size in
-        let out : runOutput (bytes + size) ≡ put (runOutput bytes) (tally.bytes + bytes) more =
+        let out : run_output (bytes + size) ≡ put (run_output bytes) (tally.bytes + bytes) more =
         rw (← part-part t.sub from bytes size)
-        (sym (ap (λ (i : ℕ). put (runOutput bytes) (tally.bytes + i) more) (sym body)
+        (sym (ap (λ (i : ℕ). put (run_output bytes) (tally.bytes + i) more) (sym body)
         ∙ put-put s'.output tally.bytes (part t.sub from bytes) more (rw body room))) in
-        let lengths = sym (put-up_to_more s'.lengths tally.frames behindAt n places refl) in
+        let lengths = sym (put-up_to_more s'.lengths tally.frames behind_at n places refl) in
         let entry = entry_at t.width t.sub (k + n) in
-        let q = whole_placed t.most t.place (runTally n bytes) (runSlices n bytes) t.sub (from + bytes) entry whole none inside
-        (runTally (n + 1) (bytes + size)) (runSlices (n + 1) (bytes + size)) refl out lengths none (omega arith) (omega arith) refl in
-        let turned = walk_turn u there entry size (runTally (n + 1) (bytes + size)) (runSlices (n + 1) (bytes + size)) refl refl q in
+        let q = whole_placed t.most t.place (run_tally n bytes) (run_slices n bytes) t.sub (from + bytes) entry whole none inside
+        (run_tally (n + 1) (bytes + size)) (run_slices (n + 1) (bytes + size)) refl out lengths none (omega arith) (omega arith) refl in
+        let turned = walk_turn u there entry size (run_tally (n + 1) (bytes + size)) (run_slices (n + 1) (bytes + size)) refl refl q in
         let a : from + bytes + size ≡ from + (bytes + size) = omega arith in
         let b : k + n + 1 ≡ k + (n + 1) = omega arith in
         rw (← a, ← b) turned
 
     run_at : (n : ℕ) → k + n ≤ segment_count t.sub → ((i : ℕ) → i < n → Whole t.most (entry_at t.width t.sub (k + i))) →
-        After n (sum_to behindAt n)
+        After n (sum_to behind_at n)
     run_at zero l each = run_none
     run_at (suc n) l each =
-        rw (← add-one n, sum_more behindAt n)
-        (run_more n (sum_to behindAt n) (run_at n (omega arith) (λ i h. each i (omega arith))) (omega arith) (each n (omega arith)))
+        rw (← add-one n, sum_more behind_at n)
+        (run_more n (sum_to behind_at n) (run_at n (omega arith) (λ i h. each i (omega arith))) (omega arith) (each n (omega arith)))
 
     pub walk_run : {lengths' : List ℕ} {frames bytes : ℕ} → k + frames ≤ segment_count t.sub →
         Ran t.most t.width t.sub k tally.frames s'.lengths lengths' frames bytes →
-        Walking t (as_slices s'.holding (runOutput bytes) lengths') (runTally frames bytes) (from + bytes) (k + frames)
+        Walking t (as_slices s'.holding (run_output bytes) lengths') (run_tally frames bytes) (from + bytes) (k + frames)
     walk_run {lengths'} {frames} {bytes} l r = rw (r.written, r.total) (run_at frames l r.each)
 
     -- there is room for them

@@ -16,7 +16,7 @@ use Rattle.octets.proofs.Stretches.{rest-append, rest-joined-append, joined-none
 use Rattle.octets.proofs.Stretches.{length-joined-none, lengths_of-none, lengths_of-cons}
 use Rattle.ts.specs.Packet.{payload_length, next_count, header, fill_byte}
 use Rattle.mpeg.specs.Packet.{frames_pid, pointed_length, filled_to}
-use Rattle.mpeg.specs.Write.{left_at, packet_of, carried, count_after, dataPacket, carries}
+use Rattle.mpeg.specs.Write.{left_at, packet_of, carried, count_after, data_packet, carries}
 use Rattle.mpeg.specs.Run.{Backlog, Burst, added, waiting_in, left_in, packet_next, after_next, sent_whole}
 
 -- What has been sent of a frame, and what has not: of one that has begun both are some bytes, and where none has begun there are no bytes.
@@ -72,7 +72,7 @@ left-begun waiting (within x b y t) =
     rw (lengths_of-cons (x ∷ b ++ y ∷ t) waiting, lt-leb (length (x ∷ b ++ y ∷ t)) (suc (length b)) more, ne_eqb (suc (length b)) 0 no) left
 
 -- The packet of t and what waits behind it, where t is left of the frame that has begun.
-pub packet-some : (count r : ℕ) (waiting : List ℕ) → 0 < length waiting → packet_of count r waiting ≡ dataPacket count r waiting
+pub packet-some : (count r : ℕ) (waiting : List ℕ) → 0 < length waiting → packet_of count r waiting ≡ data_packet count r waiting
 unfolding packet_of
 packet-some count r [] h = absurd (not-suc-le-zero h)
 packet-some count r (x ∷ waiting) h = refl

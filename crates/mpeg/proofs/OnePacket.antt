@@ -30,7 +30,7 @@ use Rattle.mpeg.proofs.Fronts.{says_of}
 use Rattle.mpeg.proofs.Frames.{starts_append, begin_says, good_is, not-good_says, not-good_over, may_begin_is, not-begin_long}
 use Rattle.mpeg.proofs.Frames.{not-begin-whole}
 use Rattle.mpeg.proofs.Ways.{longer, after_finished, after_went_on, read_null, read_misfit, read_without, read_with, read_neither}
-use Rattle.mpeg.proofs.Ways.{without_none, without_good, without_more, without_bad, flagPasses, with_fails}
+use Rattle.mpeg.proofs.Ways.{without_none, without_good, without_more, without_bad, flag_passes, with_fails}
 
 -- five numbers are those of a reading
 pub standing_is : (s : Reading) {expected frames bytes : ℕ} {front : Front} → s.sound ≡ true → expected ≡ s.expected →
@@ -156,7 +156,7 @@ module _ (packets : List ℕ) (at : ℕ) (inside : at + mpeg_length ≤ length p
           (rw frame_is (may_begin_is frame less (omega arith) flagless_starts)) ∙ on))
 
 -- With the flag.
-flag_spoilt : (s : Reading) (packet : List ℕ) → flagPasses s packet ≡ false → spoilt ≡ standing_of (with_flag s packet)
+flag_spoilt : (s : Reading) (packet : List ℕ) → flag_passes s packet ≡ false → spoilt ≡ standing_of (with_flag s packet)
 flag_spoilt s packet e = ap standing_of (sym (with_fails s packet e))
 
 by_found : (expected : ℕ) (before : List (List ℕ)) (f : Found) (t : Bool) →

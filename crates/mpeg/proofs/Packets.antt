@@ -18,7 +18,7 @@ use Rattle.octets.proofs.Stretches.{put-nil, put-put, put_more, put_on, set-put}
 use Rattle.ts.specs.Packet.{mpeg_length, head_length, payload_length, header, fill_byte, null_packet}
 use Rattle.mpeg.specs.Packet.{pointed_length, frames_pid}
 use Rattle.mpeg.specs.HandOut.{source, handed_length, handed_out, PermitsHandOut}
-use Rattle.mpeg.specs.Write.{dataPacket, carries}
+use Rattle.mpeg.specs.Write.{data_packet, carries}
 use Rattle.mpeg.specs.Inside.Writing.{behind_pointer, Waiting}
 
 -- The hand-out.
@@ -171,10 +171,10 @@ module _ (d bytes : List ℕ) (place left count : ℕ) (w : Waiting bytes place 
     unpointed_carries = rw (le-leb payload_length left far) refl
 
     pub unpointed_written : (first last : List ℕ) → first ≡ put d 0 (header false frames_pid count) →
-        last ≡ put first head_length (part bytes place payload_length) → last ≡ put d 0 (dataPacket count left waiting)
+        last ≡ put first head_length (part bytes place payload_length) → last ≡ put d 0 (data_packet count left waiting)
     unpointed_written first last e f =
         let stretch : part waiting 0 payload_length ≡ part bytes place payload_length = part-rest_front bytes place payload_length in
-        let whole : dataPacket count left waiting ≡ header false frames_pid count ++ part bytes place payload_length =
+        let whole : data_packet count left waiting ≡ header false frames_pid count ++ part bytes place payload_length =
         rw (le-leb payload_length left far, stretch) refl in
         put_more d 0 (header false frames_pid count) (part bytes place payload_length) head_length (omega (arith, w.room)) e refl f
         ∙ ap (put d 0) (sym whole)
@@ -185,12 +185,12 @@ module _ (d bytes : List ℕ) (place left count : ℕ) (w : Waiting bytes place 
     pointed-carries size found = rw (lt-leb payload_length left near, length_rest bytes place) found
 
     pub pointed-written : (first last : List ℕ) → first ≡ put d 0 (header true frames_pid count) →
-        last ≡ put (set first head_length left) (head_length + 1) (behind_pointer waiting) → last ≡ put d 0 (dataPacket count left waiting)
+        last ≡ put (set first head_length left) (head_length + 1) (behind_pointer waiting) → last ≡ put d 0 (data_packet count left waiting)
     pointed-written first last e f =
         let h = header true frames_pid count in
         let p = h ++ (left ∷ []) in
         let long-front : length (put d 0 h) ≡ length d = length-put d 0 h (omega (arith, w.room)) in
-        let whole : dataPacket count left waiting ≡ p ++ behind_pointer waiting = rw (lt-leb payload_length left near) refl in
+        let whole : data_packet count left waiting ≡ p ++ behind_pointer waiting = rw (lt-leb payload_length left near) refl in
         let stored : set first head_length left ≡ put first head_length (left ∷ []) =
         set-put first head_length left (omega (arith, w.room, long-front, ap length e)) in
         let pointed : set first head_length left ≡ put d 0 p =

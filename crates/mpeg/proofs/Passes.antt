@@ -245,23 +245,23 @@ pub end_behind : (end behind total : ℕ) → end ≡ behind → behind ≤ tota
 end_behind end behind total e l = e ∙ sym (min-eq_left l)
 
 module _ (packets : List ℕ) (at : ℕ) where
-  abbrev packetFrom : List ℕ
-  packetFrom = part packets at mpeg_length
+  abbrev packet_from : List ℕ
+  packet_from = part packets at mpeg_length
 
-  pub bytes_at-header : byte_at packets (at + 1) ≡ frames_pid / 256 → head_length ≡ bytes_at packetFrom
+  pub bytes_at-header : byte_at packets (at + 1) ≡ frames_pid / 256 → head_length ≡ bytes_at packet_from
   unfolding bytes_at
   bytes_at-header e =
-      let second : byte_at packetFrom 1 ≡ frames_pid / 256 = byte_part packets at mpeg_length 1 (omega arith) ∙ e in
+      let second : byte_at packet_from 1 ≡ frames_pid / 256 = byte_part packets at mpeg_length 1 (omega arith) ∙ e in
       rw second refl
 
-  pub bytes_at-pointer : (byte_at packets (at + 1) ≡ frames_pid / 256 → ⊥) → head_length + 1 ≡ bytes_at packetFrom
+  pub bytes_at-pointer : (byte_at packets (at + 1) ≡ frames_pid / 256 → ⊥) → head_length + 1 ≡ bytes_at packet_from
   unfolding bytes_at
   bytes_at-pointer s =
-      let other : eqb (byte_at packetFrom 1) (frames_pid / 256) ≡ false =
-      ne_eqb (byte_at packetFrom 1) (frames_pid / 256) (λ e. s (sym (byte_part packets at mpeg_length 1 (omega arith)) ∙ e)) in
+      let other : eqb (byte_at packet_from 1) (frames_pid / 256) ≡ false =
+      ne_eqb (byte_at packet_from 1) (frames_pid / 256) (λ e. s (sym (byte_part packets at mpeg_length 1 (omega arith)) ∙ e)) in
       rw other refl
 
-  module _ {output : List ℕ} {before behind total : ℕ} (w : Writable packets packetFrom output at before behind total) (end : ℕ)
+  module _ {output : List ℕ} {before behind total : ℕ} (w : Writable packets packet_from output at before behind total) (end : ℕ)
       (least : end ≡ min behind total) where
     end_room : end ≤ total
     end_room = omega (arith, least, min-le_right behind total)
@@ -269,7 +269,7 @@ module _ (packets : List ℕ) (at : ℕ) where
     pub copy_to : before < end → before + (end - before) ≤ length output
     copy_to l = omega (arith, end_room, w.room)
 
-    module _ (from : ℕ) (f : from ≡ bytes_at packetFrom) where
+    module _ (from : ℕ) (f : from ≡ bytes_at packet_from) where
       from-inside : from + (end - before) ≤ mpeg_length
       from-inside = omega (arith, least, min-le_left behind total, w.bytes_inside)
 
@@ -277,16 +277,16 @@ module _ (packets : List ℕ) (at : ℕ) where
       copy_from = omega (arith, from-inside, w.packet-inside)
 
       pub copied : (output' : List ℕ) → output' ≡ put output before (part packets (at + from) (end - before)) →
-          output' ≡ put output before (part packetFrom (bytes_at packetFrom) (min behind total - before))
+          output' ≡ put output before (part packet_from (bytes_at packet_from) (min behind total - before))
       copied output' e =
           e ∙ ap (put output before) (sym (part_of_part packets at mpeg_length from (end - before) w.packet-inside from-inside)
-          ∙ ap (λ (n : ℕ). part packetFrom n (end - before)) f ∙ ap (λ (n : ℕ). part packetFrom (bytes_at packetFrom) (n - before)) least)
+          ∙ ap (λ (n : ℕ). part packet_from n (end - before)) f ∙ ap (λ (n : ℕ). part packet_from (bytes_at packet_from) (n - before)) least)
 
-    pub not_copied : end ≤ before → output ≡ put output before (part packetFrom (bytes_at packetFrom) (min behind total - before))
+    pub not_copied : end ≤ before → output ≡ put output before (part packet_from (bytes_at packet_from) (min behind total - before))
     not_copied l =
         let none : min behind total - before ≡ 0 = omega (arith, least) in
-        sym (ap (λ (n : ℕ). put output before (part packetFrom (bytes_at packetFrom) n)) none
-        ∙ ap (put output before) (part_none packetFrom (bytes_at packetFrom)) ∙ put-nil output before)
+        sym (ap (λ (n : ℕ). put output before (part packet_from (bytes_at packet_from) n)) none
+        ∙ ap (put output before) (part_none packet_from (bytes_at packet_from)) ∙ put-nil output before)
 
 -- how many bytes the code says have come
 pub so_far : (s : Reading) → (standing_of s).bytes + (standing_of s).begun.size ≡ length (stream s)

@@ -92,8 +92,8 @@ module _ (s : Reading) (packet : List ℕ) (more : List (List ℕ)) (may : may_b
     abbrev tail : List ℕ
     tail = part (pointed packet) 0 (pointer packet)
 
-    abbrev behindIt : List ℕ
-    behindIt = rest (pointed packet) (pointer packet)
+    abbrev behind_it : List ℕ
+    behind_it = rest (pointed packet) (pointer packet)
 
     long_pointed : length (pointed packet) ≡ pointed_length
     long_pointed = omega (arith, length_rest packet (head_length + 1), is_whole.0)
@@ -104,10 +104,10 @@ module _ (s : Reading) (packet : List ℕ) (more : List (List ℕ)) (may : may_b
     bytes-pointed : AllBytes (pointed packet)
     bytes-pointed = bytes_rest packet (head_length + 1) is_whole.1
 
-    its_apart : Apart behindIt (found_in packet)
-    its_apart = found_apart pointed_length behindIt started.well
+    its_apart : Apart behind_it (found_in packet)
+    its_apart = found_apart pointed_length behind_it started.well
 
-    bytes_behind : AllBytes behindIt
+    bytes_behind : AllBytes behind_it
     bytes_behind = bytes_rest (pointed packet) (pointer packet) bytes-pointed
 
     -- the pieces are the packet

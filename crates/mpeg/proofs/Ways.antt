@@ -87,14 +87,14 @@ module _ (s : Reading) (packet : List ℕ) where
     unfolding without_flag
     without_bad b d = rw (begun, b, d) refl
 
-  abbrev pub flagPasses : Bool
-  flagPasses = leb (pointer packet) pointed_length && (ends_well s packet && (found_in packet).well)
+  abbrev pub flag_passes : Bool
+  flag_passes = leb (pointer packet) pointed_length && (ends_well s packet && (found_in packet).well)
 
-  pub with_passes : flagPasses ≡ true → with_flag s packet ≡ after_started s packet
+  pub with_passes : flag_passes ≡ true → with_flag s packet ≡ after_started s packet
   unfolding with_flag
   with_passes a = rw a refl
 
-  pub with_fails : flagPasses ≡ false → with_flag s packet ≡ unsound
+  pub with_fails : flag_passes ≡ false → with_flag s packet ≡ unsound
   unfolding with_flag
   with_fails a = rw a refl
 
@@ -166,7 +166,7 @@ module _ (s : Reading) (packet : List ℕ) where
       let ends = ends_well s packet in
       let well = (found_in packet).well in
       ⊎_elim
-      (λ (a : flagPasses s packet ≡ true).
+      (λ (a : flag_passes s packet ≡ true).
       let both = and_right near (ends && well) a in
       was_started h
       (record {
@@ -175,8 +175,8 @@ module _ (s : Reading) (packet : List ℕ) where
         well = and_right ends well both;
       })
       (e ∙ with_passes s packet a))
-      (λ (a : flagPasses s packet ≡ false). was_refused (e ∙ with_fails s packet a))
-      (true-or-false (flagPasses s packet))
+      (λ (a : flag_passes s packet ≡ false). was_refused (e ∙ with_fails s packet a))
+      (true-or-false (flag_passes s packet))
 
   way_null : same packet null_packet ≡ true → read_packet s packet ≡ cond (none s.begun) s unsound → Way s packet
   way_null a e =

@@ -14,7 +14,7 @@ use Rattle.octets.proofs.Counts.{true-or-false}
 use Rattle.octets.proofs.Stretches.{length_rest, rest_past, part_all}
 use Rattle.octets.proofs.Tests.{none-some}
 use Rattle.ts.specs.Packet.{mpeg_length, payload_length, next_count, null_packet}
-use Rattle.mpeg.specs.Write.{Asked, WriteOutcome, bad_frames, dataPacket, carries, packet_of, carried, count_after}
+use Rattle.mpeg.specs.Write.{Asked, WriteOutcome, bad_frames, data_packet, carries, packet_of, carried, count_after}
 use Rattle.mpeg.specs.Write.{waiting_for, left_for, wrote, refused, written_by, written}
 use Rattle.mpeg.specs.Inside.Writing.{Waiting}
 use Rattle.mpeg.proofs.Surveying.{left_there}
@@ -86,7 +86,7 @@ module _ (a : Asked) where
             omega (arith, e, long, some, carries_waiting left (waiting_for a) (omega (arith, long, waits.all_there)))
 
         pub write_frames : (n count : ℕ) (output : List ℕ) → n ≡ carries left (waiting_for a) → count ≡ next_count a.count →
-            output ≡ put a.output 0 (dataPacket a.count left (waiting_for a)) →
+            output ≡ put a.output 0 (data_packet a.count left (waiting_for a)) →
             ◌≡◌ {A = WriteOutcome} (record {
               answer = record { code = 0; place = a.place + n; count = count; null = false };
               output = output;
@@ -98,7 +98,7 @@ module _ (a : Asked) where
             let carrying : n ≡ carried r w = e ∙ ap (λ (k : ℕ). carries k w) found ∙ sym (carried_some r w waiting_some) in
             let counting : count ≡ count_after a.count w = f ∙ sym (count-some a.count w waiting_some) in
             let packet : output ≡ put a.output 0 (packet_of a.count r w) =
-            g ∙ ap (λ (k : ℕ). put a.output 0 (dataPacket a.count k w)) found
+            g ∙ ap (λ (k : ℕ). put a.output 0 (data_packet a.count k w)) found
             ∙ ap (put a.output 0) (sym (packet-some a.count r w waiting_some)) in
             let this : wrote a ≡ record {
               answer = record { code = 0; place = a.place + n; count = count; null = false };

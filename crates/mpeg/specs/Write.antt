@@ -39,8 +39,8 @@ left_at (n ∷ more) place = cond (leb n place) (left_at more (place - n)) (cond
 -- The packet of the bytes that wait, r of which belong to a frame that has begun. With r of 184 or more: no pointer, and 184 bytes of that
 -- frame. Else the flag, the pointer, which is r, and as many bytes as wait and fit: the rest of that frame and then whole or begun frames;
 -- and then 0xFF to the end.
-abbrev pub dataPacket : ℕ → ℕ → List ℕ → List ℕ
-dataPacket count r waiting =
+abbrev pub data_packet : ℕ → ℕ → List ℕ → List ℕ
+data_packet count r waiting =
     cond (leb payload_length r)
     (header false frames_pid count ++ part waiting 0 payload_length)
     (header true frames_pid count ++ (r ∷ filled_to pointed_length (part waiting 0 pointed_length)))
@@ -52,7 +52,7 @@ carries r waiting = cond (leb payload_length r) payload_length (min pointed_leng
 -- with nothing waiting, the null packet, which carries nothing
 unfoldable pub packet_of : ℕ → ℕ → List ℕ → List ℕ
 packet_of count r [] = null_packet
-packet_of count r (x ∷ waiting) = dataPacket count r (x ∷ waiting)
+packet_of count r (x ∷ waiting) = data_packet count r (x ∷ waiting)
 
 unfoldable pub carried : ℕ → List ℕ → ℕ
 carried r [] = 0

@@ -4,7 +4,7 @@ ghost use Rattle.std.specs.Prelude.{◌≡◌, ◌+◌, ◌-◌, ◌<◌, ◌≤
 ghost use Rattle.octets.specs.Stretch.{part, rest, put};
 ghost use Rattle.ts.specs.Packet.{mpeg_length, head_length, fill_byte};
 ghost use Rattle.mpeg.specs.Packet.{pointed_length};
-ghost use Rattle.mpeg.specs.Write.{bad_frames, left_at, dataPacket, carries, PermitsWrite};
+ghost use Rattle.mpeg.specs.Write.{bad_frames, left_at, data_packet, carries, PermitsWrite};
 ghost use Rattle.mpeg.specs.Inside.Writing.{bad_first, not_all, behind_pointer, Waiting};
 
 use crate::{BESIDE_FIELD, FIELD_AT, FRAMES_PID, LONGEST, POINTED_LENGTH};
@@ -149,7 +149,7 @@ fn write_pointed(output: &mut [u8], frames: &[u8], place: usize) -> usize
 fn write_data(output: &mut [u8], frames: &[u8], place: usize, left: usize, count: u8) -> usize
     requires { Waiting frames.now place left output.old }
     ensures value { result ≡ carries left (rest frames.now place) }
-    ensures output_after { output.new ≡ put output.old 0 (dataPacket count left (rest frames.now place)) }
+    ensures output_after { output.new ≡ put output.old 0 (data_packet count left (rest frames.now place)) }
 {
     if ts::PAYLOAD_LENGTH <= left {
         ts::write_header(output, false, FRAMES_PID, count);

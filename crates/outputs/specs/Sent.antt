@@ -12,7 +12,7 @@ use Rattle.packet.specs.Header.{id_length}
 use Rattle.sender.specs.declared.Position.{Position}
 use Rattle.sender.specs.Send.{most_frames, sent, SendOutcome}
 use Rattle.sender.specs.Series.{Job, Turn, asked_for, series_packets}
-use Rattle.capture.specs.File.{longest_file, most_entries, dataEntry, Entry, opening, file_of}
+use Rattle.capture.specs.File.{longest_file, most_entries, data_entry, Entry, opening, file_of}
 
 -- one frame more than a send takes, so that too many are seen to be too many
 abbrev pub most : ℕ
@@ -25,7 +25,7 @@ abbrev pub spoilt : List ℕ → Bool
 spoilt file = ltb (length (frames_in file)) most && ltb 0 (length (left_behind most file))
 
 abbrev pub data_of : List ℕ → Entry
-data_of packet = record { kind = dataEntry; body = packet }
+data_of packet = record { kind = data_entry; body = packet }
 
 -- every call of the series has the same limit, and an output that is long enough for it
 abbrev pub turn_for : ℕ → Turn

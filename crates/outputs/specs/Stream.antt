@@ -11,7 +11,7 @@ use Rattle.table.specs.declared.Table.{Table}
 use Rattle.table.specs.Rows.{is_dmpt, terms_at, find}
 use Rattle.table.specs.Calls.{is_open}
 use Rattle.card.specs.History.{frames_of}
-use Rattle.capture.specs.File.{Entry, dataEntry, dataOverUdp, head_length, entry_count, file_refusal, nth_entry}
+use Rattle.capture.specs.File.{Entry, data_entry, data_over_udp, head_length, entry_count, file_refusal, nth_entry}
 use Rattle.replay.specs.Run.{packet_of, standing, answer_at}
 use Rattle.tool.specs.Refused.{refused_line}
 use Rattle.mpeg.specs.Frame.{good}
@@ -24,7 +24,7 @@ open_as_psp t id = is_open t id && not (is_dmpt (terms_at t (find t id)).kind)
 
 abbrev pub is_for : ℕ → Table → Entry → Bool
 is_for session t e =
-    (eqb e.kind dataEntry || eqb e.kind dataOverUdp)
+    (eqb e.kind data_entry || eqb e.kind data_over_udp)
     && (eqb (first (before_session (packet_of e))) 0 && (eqb (session_id (packet_of e)) session && open_as_psp t session))
 
 -- the frames that entry k delivers on the session; those of all entries before entry k; and those of the whole capture

@@ -15,8 +15,8 @@ use Rattle.octets.specs.Those.{those}
 use Rattle.octets.proofs.Elements.{each_too, each_map}
 use Rattle.octets.proofs.Stretches.{length_part, part_of_part}
 use Rattle.octets.proofs.Those.{those-none, length-those-cons, each-those}
-use Rattle.pcap.specs.File.{is_little, start, after, bytes_at, recordsFrom, first_place, records}
-use Rattle.pcap.specs.Judge.{not_ipv4, bad_ipv4_lengths, is_fragment, is_udp, bad_udp_lengths, is_l2tp, skip_of, dataAt, dataLength, entry_of}
+use Rattle.pcap.specs.File.{is_little, start, after, bytes_at, records_from, first_place, records}
+use Rattle.pcap.specs.Judge.{not_ipv4, bad_ipv4_lengths, is_fragment, is_udp, bad_udp_lengths, is_l2tp, skip_of, data_at, data_length, entry_of}
 use Rattle.pcap.specs.Import.{is_for, entries_of, skipped, Stretch}
 use Rattle.pcap.proofs.Reading.{bytes_inside, length_bytes}
 use Rattle.pcap.proofs.Walk.{records_more, records_end, whole-or-not}
@@ -92,8 +92,8 @@ record_within file at little =
       its_bytes = ap (part file (start file at little)) (sym long);
     }
 
-records_within : (file : List ℕ) (little : Bool) (n at : ℕ) → Each (Within file) (recordsFrom n file at little)
-unfolding recordsFrom
+records_within : (file : List ℕ) (little : Bool) (n at : ℕ) → Each (Within file) (records_from n file at little)
+unfolding records_from
 records_within file little zero at = tt
 records_within file little (suc n) at =
     whole-or-not file at little
@@ -105,15 +105,15 @@ records_within file little (suc n) at =
 taken_stretch : (file r : List ℕ) → (is_for 0 r ≡ true) × Within file r → Stretch file (entry_of r)
 unfolding entry_of
 taken_stretch file r (taken, lies) =
-    let there : dataAt r + dataLength r ≤ length r = judged-inside r (eqb-true (skip_of r) 0 taken) in
-    let long : length (part r (dataAt r) (dataLength r)) ≡ dataLength r = length_part r (dataAt r) (dataLength r) there in
+    let there : data_at r + data_length r ≤ length r = judged-inside r (eqb-true (skip_of r) 0 taken) in
+    let long : length (part r (data_at r) (data_length r)) ≡ data_length r = length_part r (data_at r) (data_length r) there in
     record {
-      from = lies.from + dataAt r;
+      from = lies.from + data_at r;
       inside = omega (arith, long, there, lies.inside);
       its_bytes =
-          ap (λ (l : List ℕ). part l (dataAt r) (dataLength r)) lies.its_bytes
-          ∙ part_of_part file lies.from (length r) (dataAt r) (dataLength r) lies.inside there
-          ∙ ap (part file (lies.from + dataAt r)) (sym long);
+          ap (λ (l : List ℕ). part l (data_at r) (data_length r)) lies.its_bytes
+          ∙ part_of_part file lies.from (length r) (data_at r) (data_length r) lies.inside there
+          ∙ ap (part file (lies.from + data_at r)) (sym long);
     }
 
 pub stretches : (file : List ℕ) → Each (Stretch file) (entries_of (records file))

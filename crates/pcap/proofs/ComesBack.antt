@@ -20,7 +20,7 @@ use Rattle.octets.proofs.Those.{those_all, those_nothing, each-those}
 use Rattle.octets.proofs.Stretches.{part_all, part-append_behind}
 use Rattle.octets.proofs.Bytes.{byte_append_at}
 use Rattle.octets.proofs.Numbers.{be16_append_at}
-use Rattle.capture.specs.File.{dataEntry, dataOverUdp, Entry}
+use Rattle.capture.specs.File.{data_entry, data_over_udp, Entry}
 use Rattle.pcap.specs.declared.Addresses.{Addresses}
 use Rattle.pcap.specs.Ethernet.{ethernet_length, ipv4_type, ether_type, ethernet_header}
 use Rattle.pcap.specs.Ipv4.{ipv4_at, ipv4_length, l2tp_protocol, udp_protocol, header_length, total_length, protocol}
@@ -153,7 +153,7 @@ module _ (by : Addresses) (six-sender : length by.sender ≡ 6) (six-receiver : 
           ),
         )
 
-    ip_entry : entry_of over_ip ≡ record { kind = dataEntry; body = body }
+    ip_entry : entry_of over_ip ≡ record { kind = data_entry; body = body }
     unfolding entry_of
     ip_entry =
         let at = payload_at over_ip in
@@ -214,7 +214,7 @@ module _ (by : Addresses) (six-sender : length by.sender ≡ 6) (six-receiver : 
           ),
         )
 
-    udp_entry : entry_of over_udp_lem ≡ record { kind = dataOverUdp; body = body }
+    udp_entry : entry_of over_udp_lem ≡ record { kind = data_over_udp; body = body }
     unfolding entry_of
     udp_entry =
         let at = payload_at over_udp_lem + udp_length in
@@ -242,13 +242,13 @@ module _ (by : Addresses) (six-sender : length by.sender ≡ 6) (six-receiver : 
       entry_by : (over : Bool) → is_over_udp e ≡ over → entry_of (packet_of by e) ≡ e
       entry_by true is =
           ap entry_of (packet_by true is) ∙ udp_entry e.body short
-          ∙ rw (sym (eqb-true e.kind dataOverUdp is)) refl
+          ∙ rw (sym (eqb-true e.kind data_over_udp is)) refl
       entry_by false is =
-          let came-over-ip = eqb e.kind dataEntry in
+          let came-over-ip = eqb e.kind data_entry in
           let it-did : came-over-ip ≡ true =
           or_true_right (is_over_udp e) came-over-ip (or_comm (is_over_udp e) came-over-ip ∙ data-entry) is in
           ap entry_of (packet_by false is) ∙ ip_entry e.body short
-          ∙ rw (sym (eqb-true e.kind dataEntry it-did)) refl
+          ∙ rw (sym (eqb-true e.kind data_entry it-did)) refl
 
       pub packet_comes_back : entry_of (packet_of by e) ≡ e
       packet_comes_back = entry_by (is_over_udp e) refl

@@ -20,8 +20,8 @@ use Rattle.capture.specs.File.{Entry, body_of}
 use Rattle.pcap.specs.declared.judge.Judged.{Judged}
 use Rattle.pcap.specs.declared.import.Tally.{Tally}
 use Rattle.pcap.specs.declared.import.Found.{Found}
-use Rattle.pcap.specs.File.{is_little, whole, after, bytes_at, recordsFrom, place_from, first_place, records, last_place, stops}
-use Rattle.pcap.specs.Judge.{skip_of, dataAt, dataLength, entry_of, judged}
+use Rattle.pcap.specs.File.{is_little, whole, after, bytes_at, records_from, place_from, first_place, records, last_place, stops}
+use Rattle.pcap.specs.Judge.{skip_of, data_at, data_length, entry_of, judged}
 use Rattle.pcap.specs.Import.{is_for, entries_of, skipped}
 use Rattle.pcap.specs.Inside.Importing.{tally_of, plus, count_limit, Countable, found_in}
 use Rattle.pcap.proofs.Judging.{judged-inside, cause_is, four_causes, taken_as}
@@ -140,7 +140,7 @@ module _ (r : List ℕ) (t : Tally) (j : Judged) (e : j ≡ judged r) where
       let its_length = ap (λ (x : Judged). x.length) (taken_as r j e none) in (
         ap length one,
         ap (λ (es : List Entry). length (joined (map body_of es))) one ∙ ap length (joined_one (entry_of r).body)
-            ∙ length_part r (dataAt r) (dataLength r) (judged-inside r none)
+            ∙ length_part r (data_at r) (data_length r) (judged-inside r none)
             ∙ sym its_length,
       )
 
@@ -212,7 +212,7 @@ few_of_one r =
     ⊎_elim
     (λ (z : is_for 0 r ≡ true).
     let long = ap (λ (es : List Entry). length (joined (map body_of es))) (entry_taken r (eqb-true (skip_of r) 0 z)) in
-    omega (arith, long, ap length (joined_one (entry_of r).body), part-within r (dataAt r) (dataLength r)))
+    omega (arith, long, ap length (joined_one (entry_of r).body), part-within r (data_at r) (data_length r)))
     (λ (z : is_for 0 r ≡ false).
     let long = ap (λ (es : List Entry). length (joined (map body_of es))) (entry_skipped r (eqb-false (skip_of r) 0 z)) in
     omega (arith, long, length-joined-none))
@@ -225,7 +225,7 @@ few_bytes (r ∷ more) = omega (arith, bytes-cons r more, few_of_one r, few_byte
 -- The walk.
 pub record Surveying (file : List ℕ) (little : Bool) (at : ℕ) (t : Tally) : Type 0 where
   pub order : little ≡ is_little file
-  pub counted : plus t (tally_of (recordsFrom (length file) file at little)) ≡ tally_of (records file)
+  pub counted : plus t (tally_of (records_from (length file) file at little)) ≡ tally_of (records file)
   pub ends : place_from (length file) file at little ≡ last_place file
 
 pub survey_begin : (file : List ℕ) (little : Bool) (at : ℕ) → little ≡ is_little file → at ≡ first_place file →
@@ -234,14 +234,14 @@ unfolding records last_place
 survey_begin file little at order first-at =
     record {
       order = order;
-      counted = none-plus (tally_of (recordsFrom (length file) file at little)) ∙ rw (order, first-at) refl;
+      counted = none-plus (tally_of (records_from (length file) file at little)) ∙ rw (order, first-at) refl;
       ends = rw (order, first-at) refl;
     }
 
 module _ {file : List ℕ} {little : Bool} {at : ℕ} {t : Tally} (s : Surveying file little at t) where
   module _ (there : whole file at little ≡ true) (packet : List ℕ) (e : packet ≡ bytes_at file at little) where
     abbrev next : List (List ℕ)
-    next = recordsFrom (length file) file (after file at little) little
+    next = records_from (length file) file (after file at little) little
 
     counted_more : plus (plus t (tally_of (packet ∷ []))) (tally_of next) ≡ tally_of (records file)
     counted_more =

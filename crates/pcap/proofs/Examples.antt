@@ -11,7 +11,7 @@ use Rattle.octets.specs.Count.{any, sum_to, up_to}
 use Rattle.octets.specs.Those.{those}
 use Rattle.capture.specs.File.{Entry, nth_entry, entries, body_start, file_of}
 use Rattle.pcap.specs.declared.Addresses.{Addresses}
-use Rattle.pcap.specs.File.{is_little, wrong_fields, bad_header, whole, start, size, after, bytes_at, recordsFrom, place_from}
+use Rattle.pcap.specs.File.{is_little, wrong_fields, bad_header, whole, start, size, after, bytes_at, records_from, place_from}
 use Rattle.pcap.specs.File.{first_place, records, last_place, stops, pcap_of}
 use Rattle.pcap.specs.Ipv4.{ipv4_header}
 use Rattle.pcap.specs.Judge.{skip_of, entry_of}
@@ -59,7 +59,7 @@ there_and_back :
     × (entries_of (records (pcap_of false (map (packet_of by) (over_ip ∷ over_udp_lem ∷ empty ∷ [])))) ≡ over_ip ∷ over_udp_lem ∷ empty ∷ [])
     × (length (export_of by (opens ∷ over_ip ∷ [])) ≡ 24 + 16 + 14 + 20 + 2)
 unfolding sum_to part joined those
-    is_little wrong_fields bad_header whole start size after bytes_at recordsFrom first_place records pcap_of
+    is_little wrong_fields bad_header whole start size after bytes_at records_from first_place records pcap_of
     skip_of entry_of entries_of packet_of export_of
 there_and_back = (refl, refl, refl)
 
@@ -138,7 +138,7 @@ bad_headers :
     × (code [] (0xD4 ∷ 0xC3 ∷ 0xB2 ∷ 0xA1 ∷ 0 ∷ 2 ∷ 0 ∷ 4 ∷ (replicate 12 0 ++ (1 ∷ 0 ∷ 0 ∷ 0 ∷ []))) 8 ≡ 61)
     × (code [] (set big 5 3) 8 ≡ 61) × (code [] (set big 7 3) 8 ≡ 61) × (code [] (set big 23 2) 8 ≡ 61) × (code [] (set big 20 1) 8 ≡ 61)
 unfolding sum_to part put joined those
-    is_little wrong_fields bad_header whole start size after bytes_at recordsFrom place_from first_place records last_place
+    is_little wrong_fields bad_header whole start size after bytes_at records_from place_from first_place records last_place
     skip_of entry_of entries_of skipped packet_of file_of all_entries imported_by imported
 bad_headers = (refl, refl, refl, refl, refl, refl, refl, refl, refl)
 
@@ -147,7 +147,7 @@ refused-imports :
     × (code [] (set big 32 0xFF) 8 ≡ 62) × (code (replicate 1001 1) (take 25 big) 0 ≡ 62) × (code (replicate 1001 1) (take 24 big) 0 ≡ 63)
     × (code (replicate 1000 1) (take 24 big) 0 ≡ 64) × (code [] big 7 ≡ 64) × (code [] big 8 ≡ 0)
 unfolding sum_to part put joined those
-    is_little wrong_fields bad_header whole start size after bytes_at recordsFrom place_from first_place records last_place
+    is_little wrong_fields bad_header whole start size after bytes_at records_from place_from first_place records last_place
     skip_of entry_of entries_of skipped packet_of file_of all_entries imported_by imported
 refused-imports = (refl, refl, refl, refl, refl, refl, refl, refl, refl, refl)
 

@@ -21,37 +21,37 @@ use Rattle.capture.proofs.Checking.{is_sound, start_first, start-next, body-insi
 use Rattle.pcap.specs.declared.Addresses.{Addresses}
 use Rattle.pcap.specs.declared.export.Measured.{Measured}
 use Rattle.pcap.specs.declared.export.Exported.{Exported}
-use Rattle.pcap.specs.File.{file_header, file_header_in, recordIn, pcap_of}
+use Rattle.pcap.specs.File.{file_header, file_header_in, record_in, pcap_of}
 use Rattle.pcap.specs.Export.{is_open, is_close, is_data, packet_of, export_of, export_refusals}
 use Rattle.pcap.specs.Export.{ExportOutcome, exported_by, exported}
-use Rattle.pcap.specs.Inside.Exporting.{recordOf, recordLength, measured_to}
+use Rattle.pcap.specs.Inside.Exporting.{record_of, record_length, measured_to}
 use Rattle.pcap.proofs.Packets.{length_record, length-packet}
 use Rattle.pcap.proofs.Measuring.{measured, measured_same}
 
 -- The records of the first k entries, and the file of all.
-abbrev recordFor : Addresses → Entry → List ℕ
-recordFor by e = recordIn true (packet_of by e)
+abbrev record_for : Addresses → Entry → List ℕ
+record_for by e = record_in true (packet_of by e)
 
-abbrev recordsTo : Addresses → List ℕ → ℕ → List ℕ
-recordsTo by file k = joined (map (recordFor by) (those is_data (up_to (nth_entry file) k)))
+abbrev records_to : Addresses → List ℕ → ℕ → List ℕ
+records_to by file k = joined (map (record_for by) (those is_data (up_to (nth_entry file) k)))
 
 pub export_is : (by : Addresses) (file : List ℕ) →
-    export_of by (entries file) ≡ file_header_in true ++ recordsTo by file (entry_count head_length file)
+    export_of by (entries file) ≡ file_header_in true ++ records_to by file (entry_count head_length file)
 unfolding export_of pcap_of entries
 export_is by file =
     ap (λ (l : List (List ℕ)). file_header_in true ++ joined l)
-    (map-map (recordIn true) (packet_of by) (those is_data (up_to (nth_entry file) (entry_count head_length file))))
+    (map-map (record_in true) (packet_of by) (those is_data (up_to (nth_entry file) (entry_count head_length file))))
 
-records_none : (by : Addresses) (file : List ℕ) → recordsTo by file 0 ≡ []
+records_none : (by : Addresses) (file : List ℕ) → records_to by file 0 ≡ []
 records_none by file =
-    ap (λ (l : List Entry). joined (map (recordFor by) (those is_data l))) (up_to-none (nth_entry file))
-    ∙ ap (λ (l : List Entry). joined (map (recordFor by) l)) (those-none is_data)
+    ap (λ (l : List Entry). joined (map (record_for by) (those is_data l))) (up_to-none (nth_entry file))
+    ∙ ap (λ (l : List Entry). joined (map (record_for by) l)) (those-none is_data)
     ∙ joined-none
 
-records_more : (by : Addresses) (file : List ℕ) (k : ℕ) → recordsTo by file (k + 1) ≡ recordsTo by file k ++ recordOf by (nth_entry file k)
+records_more : (by : Addresses) (file : List ℕ) (k : ℕ) → records_to by file (k + 1) ≡ records_to by file k ++ record_of by (nth_entry file k)
 records_more by file k =
-    ap (λ (l : List Entry). joined (map (recordFor by) (those is_data l))) (up_to_more (nth_entry file) k)
-    ∙ joined-those_more is_data (recordFor by) (up_to (nth_entry file) k) (nth_entry file k)
+    ap (λ (l : List Entry). joined (map (record_for by) (those is_data l))) (up_to_more (nth_entry file) k)
+    ∙ joined-those_more is_data (record_for by) (up_to (nth_entry file) k) (nth_entry file k)
 
 length-cond : (t : Bool) (x : List ℕ) → length (cond t x []) ≡ cond t (length x) 0
 length-cond true x = refl
@@ -59,14 +59,14 @@ length-cond false x = refl
 
 -- how long the record of entry k is, by what the contents say of it
 abbrev sizes : List ℕ → ℕ → ℕ
-sizes file k = recordLength (kind_at head_length entry_length file k) (body_length head_length entry_length file k)
+sizes file k = record_length (kind_at head_length entry_length file k) (body_length head_length entry_length file k)
 
 pub stands : (file : List ℕ) (k : ℕ) → file_refusal file ≡ 0 → k < entry_count head_length file →
     StandsAt file k (body_start head_length entry_length file k)
 stands file k sound below = record { sound = sound; not_past = below; its_start = refl }
 
 module _ (by : Addresses) (sender : length by.sender ≡ 6) (receiver : length by.receiver ≡ 6) where
-  record_long : (e : Entry) → cond (is_data e) (length (recordFor by e)) 0 ≡ recordLength e.kind (length e.body)
+  record_long : (e : Entry) → cond (is_data e) (length (record_for by e)) 0 ≡ record_length e.kind (length e.body)
   record_long e =
       let long = length_record true (packet_of by e) in
       let packet = length-packet by sender receiver e in
@@ -74,21 +74,21 @@ module _ (by : Addresses) (sender : length by.sender ≡ 6) (receiver : length b
 
   module _ (file : List ℕ) (sound : file_refusal file ≡ 0) where
     size_is : (k : ℕ) → k < entry_count head_length file →
-        cond (is_data (nth_entry file k)) (length (recordFor by (nth_entry file k))) 0 ≡ sizes file k
+        cond (is_data (nth_entry file k)) (length (record_for by (nth_entry file k))) 0 ≡ sizes file k
     unfolding nth_entry
     size_is k below =
         record_long (nth_entry file k)
-        ∙ ap (recordLength (kind_at head_length entry_length file k)) (body_long (stands file k sound below))
+        ∙ ap (record_length (kind_at head_length entry_length file k)) (body_long (stands file k sound below))
 
-    pub length_records : (k : ℕ) → k ≤ entry_count head_length file → length (recordsTo by file k) ≡ sum_to (sizes file) k
+    pub length_records : (k : ℕ) → k ≤ entry_count head_length file → length (records_to by file k) ≡ sum_to (sizes file) k
     length_records k few =
-        length-joined-those is_data (recordFor by) (nth_entry file) k
-        ∙ sum_agree (λ i. cond (is_data (nth_entry file i)) (length (recordFor by (nth_entry file i))) 0) (sizes file) k
+        length-joined-those is_data (record_for by) (nth_entry file) k
+        ∙ sum_agree (λ i. cond (is_data (nth_entry file i)) (length (record_for by (nth_entry file i))) 0) (sizes file) k
         (λ i below. size_is i (omega arith))
 
     length_export : length (export_of by (entries file)) ≡ file_header + sum_to (sizes file) (entry_count head_length file)
     length_export =
-        let records = recordsTo by file (entry_count head_length file) in
+        let records = records_to by file (entry_count head_length file) in
         ap length (export_is by file)
         ∙ length-append (file_header_in true) records
         ∙ ap (λ (n : ℕ). file_header + n) (length_records (entry_count head_length file) (omega arith))
@@ -108,11 +108,11 @@ module _ (by : Addresses) (sender : length by.sender ≡ 6) (receiver : length b
       pub header-room : file_header ≤ room
       header-room = omega (arith, length_export, fits)
 
-      pub records_room : (k : ℕ) → k ≤ entry_count head_length file → file_header + length (recordsTo by file k) ≤ room
+      pub records_room : (k : ℕ) → k ≤ entry_count head_length file → file_header + length (records_to by file k) ≤ room
       records_room k few =
           omega (arith, length_export, fits, length_records k few, sum_below (sizes file) k (entry_count head_length file) few)
 
-      pub record_room : (k : ℕ) → k < entry_count head_length file → file_header + length (recordsTo by file k) + sizes file k ≤ room
+      pub record_room : (k : ℕ) → k < entry_count head_length file → file_header + length (records_to by file k) + sizes file k ≤ room
       record_room k below =
           omega (
             arith,
@@ -126,8 +126,8 @@ module _ (by : Addresses) (sender : length by.sender ≡ 6) (receiver : length b
 pub record Exporting (by : Addresses) (file headed output : List ℕ) (at start k : ℕ) : Type 0 where
   pub within : k ≤ entry_count head_length file
   pub its_start : start ≡ body_start head_length entry_length file k
-  pub at_end : at ≡ file_header + length (recordsTo by file k)
-  pub written : output ≡ put headed file_header (recordsTo by file k)
+  pub at_end : at ≡ file_header + length (records_to by file k)
+  pub written : output ≡ put headed file_header (records_to by file k)
 
 pub export_begin : (by : Addresses) (file headed : List ℕ) (count : ℕ) → count ≡ entry_count head_length file →
     Exporting by file headed headed file_header (head_length + entry_length * count) 0
@@ -151,19 +151,19 @@ module _ {by : Addresses} {file headed output : List ℕ} {at start k : ℕ} (x 
   pub output_long : length output ≡ length headed
   output_long =
       ap length x.written
-      ∙ length-put headed file_header (recordsTo by file k) (records_room by sender receiver file sound (length headed) fits k x.within)
+      ∙ length-put headed file_header (records_to by file k) (records_room by sender receiver file sound (length headed) fits k x.within)
 
   module _ (below : k < entry_count head_length file) {kind : ℕ} {body : List ℕ} (ek : kind ≡ kind_at head_length entry_length file k)
       (eb : body ≡ (nth_entry file k).body) where
     body-size : length body ≡ body_length head_length entry_length file k
     body-size = ap length eb ∙ body_long (stands file k sound below)
 
-    size_same : recordLength kind (length body) ≡ sizes file k
+    size_same : record_length kind (length body) ≡ sizes file k
     size_same =
-        ap (λ (n : ℕ). recordLength n (length body)) ek
-        ∙ ap (recordLength (kind_at head_length entry_length file k)) body-size
+        ap (λ (n : ℕ). record_length n (length body)) ek
+        ∙ ap (record_length (kind_at head_length entry_length file k)) body-size
 
-    pub entry_fits : (at + recordLength kind (length body) ≤ length output) × (length body ≤ 65000)
+    pub entry_fits : (at + record_length kind (length body) ≤ length output) × (length body ≤ 65000)
     entry_fits = (
       omega (
         arith,
@@ -179,10 +179,10 @@ module _ {by : Addresses} {file headed output : List ℕ} {at start k : ℕ} (x 
     body-ends =
         omega (arith, x.its_start, body-size, body-inside (stands file k sound below) refl, (is_sound file sound).short)
 
-    pub export_turn : {output' : List ℕ} {at' : ℕ} → output' ≡ put output at (recordOf by (record { kind = kind; body = body })) →
-        at' ≡ at + recordLength kind (length body) → Exporting by file headed output' at' (start + length body) (k + 1)
+    pub export_turn : {output' : List ℕ} {at' : ℕ} → output' ≡ put output at (record_of by (record { kind = kind; body = body })) →
+        at' ≡ at + record_length kind (length body) → Exporting by file headed output' at' (start + length body) (k + 1)
     export_turn {output'} {at'} did moved =
-        let one = recordOf by (nth_entry file k) in
+        let one = record_of by (nth_entry file k) in
         let few : k ≤ entry_count head_length file = omega arith in
         let room = records_room by sender receiver file sound (length headed) fits k few in
         let next = length_records by sender receiver file sound (k + 1) (omega arith) in
@@ -200,8 +200,8 @@ module _ {by : Addresses} {file headed output : List ℕ} {at start k : ℕ} (x 
                 sum_more (sizes file) k,
               );
           written =
-              put_more headed file_header (recordsTo by file k) one at room x.written x.at_end
-              (did ∙ ap (λ (e : Entry). put output at (recordOf by e)) (entry_is file k ek eb))
+              put_more headed file_header (records_to by file k) one at room x.written x.at_end
+              (did ∙ ap (λ (e : Entry). put output at (record_of by e)) (entry_is file k ek eb))
               ∙ ap (put headed file_header) (sym (records_more by file k));
         }
 
@@ -210,9 +210,9 @@ module _ {by : Addresses} {file headed output : List ℕ} {at start k : ℕ} (x 
   export_end before past room stood =
       let all : k ≡ entry_count head_length file = omega (arith, x.within, past) in
       x.written
-      ∙ ap (λ (n : ℕ). put headed file_header (recordsTo by file n)) all
-      ∙ ap (λ (l : List ℕ). put l file_header (recordsTo by file (entry_count head_length file))) stood
-      ∙ put-put_front before (file_header_in true) (recordsTo by file (entry_count head_length file)) room
+      ∙ ap (λ (n : ℕ). put headed file_header (records_to by file n)) all
+      ∙ ap (λ (l : List ℕ). put l file_header (records_to by file (entry_count head_length file))) stood
+      ∙ put-put_front before (file_header_in true) (records_to by file (entry_count head_length file)) room
       ∙ ap (put before 0) (sym (export_is by file))
 
 -- The ways out of an export, in their order.

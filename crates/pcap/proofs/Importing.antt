@@ -44,70 +44,70 @@ none_by : (long many small : Bool) → long ≡ false → many ≡ false → sma
 none_by long many small a b c = rw (a, b, c) refl
 
 module _ (sessions : ℕ) (found : Found) (room : ℕ) where
-  abbrev entriesThen : ℕ
-  entriesThen = sessions + found.tally.packets
+  abbrev entries_then : ℕ
+  entries_then = sessions + found.tally.packets
 
-  abbrev longThen : ℕ
-  longThen = long_with sessions found.tally
+  abbrev long_then : ℕ
+  long_then = long_with sessions found.tally
 
-  abbrev lastOnes : ℕ
-  lastOnes = last (ltb longest_file longThen) (ltb most_entries entriesThen) (ltb room longThen)
+  abbrev last_ones : ℕ
+  last_ones = last (ltb longest_file long_then) (ltb most_entries entries_then) (ltb room long_then)
 
   pub stopped : (found.cause ≡ 0 → ⊥) → found.cause ≡ refusal_by sessions found room
-  stopped some = sym (when_refused found.cause some lastOnes found.cause)
+  stopped some = sym (when_refused found.cause some last_ones found.cause)
 
   module _ (none : found.cause ≡ 0) where
-    by_size : refusal_by sessions found room ≡ lastOnes
-    by_size = when_accepted found.cause none lastOnes found.cause
+    by_size : refusal_by sessions found room ≡ last_ones
+    by_size = when_accepted found.cause none last_ones found.cause
 
-    pub too_many : most_entries < entriesThen → 63 ≡ refusal_by sessions found room
+    pub too_many : most_entries < entries_then → 63 ≡ refusal_by sessions found room
     too_many h =
         sym (
         by_size
-        ∙ too_many_by (ltb longest_file longThen) (ltb most_entries entriesThen) (ltb room longThen) (lt-ltb most_entries entriesThen h)
+        ∙ too_many_by (ltb longest_file long_then) (ltb most_entries entries_then) (ltb room long_then) (lt-ltb most_entries entries_then h)
         )
 
-    pub too_long : longest_file < longThen → 63 ≡ refusal_by sessions found room
+    pub too_long : longest_file < long_then → 63 ≡ refusal_by sessions found room
     too_long h =
         sym (
         by_size
-        ∙ too_long_by (ltb longest_file longThen) (ltb most_entries entriesThen) (ltb room longThen) (lt-ltb longest_file longThen h)
+        ∙ too_long_by (ltb longest_file long_then) (ltb most_entries entries_then) (ltb room long_then) (lt-ltb longest_file long_then h)
         )
 
-    module _ (few : entriesThen ≤ most_entries) (short : longThen ≤ longest_file) where
-      pub too_small : room < longThen → 64 ≡ refusal_by sessions found room
+    module _ (few : entries_then ≤ most_entries) (short : long_then ≤ longest_file) where
+      pub too_small : room < long_then → 64 ≡ refusal_by sessions found room
       too_small h =
           sym (
           by_size
-          ∙ too_small_by (ltb longest_file longThen) (ltb most_entries entriesThen) (ltb room longThen) (le-ltb longest_file longThen short)
-          (le-ltb most_entries entriesThen few) (lt-ltb room longThen h)
+          ∙ too_small_by (ltb longest_file long_then) (ltb most_entries entries_then) (ltb room long_then) (le-ltb longest_file long_then short)
+          (le-ltb most_entries entries_then few) (lt-ltb room long_then h)
           )
 
-      pub not-refused : longThen ≤ room → 0 ≡ refusal_by sessions found room
+      pub not-refused : long_then ≤ room → 0 ≡ refusal_by sessions found room
       not-refused h =
           sym (
           by_size
-          ∙ none_by (ltb longest_file longThen) (ltb most_entries entriesThen) (ltb room longThen) (le-ltb longest_file longThen short)
-          (le-ltb most_entries entriesThen few) (le-ltb room longThen h)
+          ∙ none_by (ltb longest_file long_then) (ltb most_entries entries_then) (ltb room long_then) (le-ltb longest_file long_then short)
+          (le-ltb most_entries entries_then few) (le-ltb room long_then h)
           )
 
   -- The other way round: what is so where nothing is refused.
   pub record Accepted : Type 0 where
-    pub few : entriesThen ≤ most_entries
-    pub short : longThen ≤ longest_file
-    pub roomy : longThen ≤ room
+    pub few : entries_then ≤ most_entries
+    pub short : long_then ≤ longest_file
+    pub roomy : long_then ≤ room
 
   pub accepted : 0 ≡ refusal_by sessions found room → Accepted
   accepted z =
       let by-size-then : found.cause ≡ 0 → Accepted =
       λ none.
       let n =
-      none-applies (63 when (ltb longest_file longThen || ltb most_entries entriesThen) ∷ 64 when ltb room longThen ∷ []) refl
+      none-applies (63 when (ltb longest_file long_then || ltb most_entries entries_then) ∷ 64 when ltb room long_then ∷ []) refl
       (sym (by_size none) ∙ sym z) in
       record {
-        few = ltb-false most_entries entriesThen (or-false-right (ltb longest_file longThen) (ltb most_entries entriesThen) n.0);
-        short = ltb-false longest_file longThen (or-false-left (ltb longest_file longThen) (ltb most_entries entriesThen) n.0);
-        roomy = ltb-false room longThen n.1.0;
+        few = ltb-false most_entries entries_then (or-false-right (ltb longest_file long_then) (ltb most_entries entries_then) n.0);
+        short = ltb-false longest_file long_then (or-false-left (ltb longest_file long_then) (ltb most_entries entries_then) n.0);
+        roomy = ltb-false room long_then n.1.0;
       } in
       ⊎_elim
       (λ (e : eqb found.cause 0 ≡ true). by-size-then (eqb-true found.cause 0 e))

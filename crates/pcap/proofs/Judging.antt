@@ -11,13 +11,13 @@ use borrow.Author.Tests.{lt-ltb, le-ltb, eq-eqb, ne_eqb, ltb-false}
 use Rattle.refusal.specs.Refusal.{◌when◌, first}
 use Rattle.refusal.proofs.Laws.{none-applies, cond-true, cond-false, and-rest}
 use Rattle.octets.proofs.Counts.{true-or-false, or-false-left, or-false-right}
-use Rattle.capture.specs.File.{dataEntry, dataOverUdp}
+use Rattle.capture.specs.File.{data_entry, data_over_udp}
 use Rattle.pcap.specs.declared.judge.Judged.{Judged}
 use Rattle.pcap.specs.Ethernet.{ethernet_length, ipv4_type, ether_type}
 use Rattle.pcap.specs.Ipv4.{ipv4_at, ipv4_length, l2tp_protocol, udp_protocol, version, header_length, total_length}
 use Rattle.pcap.specs.Ipv4.{fragment_bits, protocol, payload_at, payload_length}
 use Rattle.pcap.specs.Udp.{udp_length, l2tp_port, target_port, length_said}
-use Rattle.pcap.specs.Judge.{not_ipv4, bad_ipv4_lengths, is_fragment, is_udp, bad_udp_lengths, is_l2tp, skips, skip_of, dataAt, dataLength}
+use Rattle.pcap.specs.Judge.{not_ipv4, bad_ipv4_lengths, is_fragment, is_udp, bad_udp_lengths, is_l2tp, skips, skip_of, data_at, data_length}
 use Rattle.pcap.specs.Judge.{judged_by, judged}
 use Rattle.pcap.specs.Inside.Importing.{Uncut}
 
@@ -141,7 +141,7 @@ module _ (r : List ℕ) where
   unfolding judged_by
   by_cause n e = rw e refl
 
-  by_no_cause : (kind at size : ℕ) → skip_of r ≡ 0 → kind ≡ cond (is_udp r) dataOverUdp dataEntry → at ≡ dataAt r → size ≡ dataLength r →
+  by_no_cause : (kind at size : ℕ) → skip_of r ≡ 0 → kind ≡ cond (is_udp r) data_over_udp data_entry → at ≡ data_at r → size ≡ data_length r →
       found kind at size ≡ judged r
   unfolding judged_by
   by_no_cause kind at size e ek ea es = rw (e, ek, ea, es) refl
@@ -185,15 +185,15 @@ module _ (r : List ℕ) where
 
   -- Judged by the protocol.
   module _ {at room : ℕ} (u : Uncut r at room) where
-    pub l2tp_taken : protocol r ≡ l2tp_protocol → found dataEntry at room ≡ judged r
+    pub l2tp_taken : protocol r ≡ l2tp_protocol → found data_entry at room ≡ judged r
     unfolding skip_of
     l2tp_taken p =
         let not-udp : is_udp r ≡ false = rw p refl in
         let no-udp-lengths : udp ≡ false = rw not-udp refl in
         let is : other ≡ false = rw p refl in
-        by_no_cause dataEntry at room
+        by_no_cause data_entry at room
         (by_none (not_ipv4 r) (bad_ipv4_lengths r) (is_fragment r) udp other u.is_ipv4 u.lengths-good u.not-cut no-udp-lengths is)
-        (sym (cond-false (is_udp r) dataOverUdp dataEntry not-udp))
+        (sym (cond-false (is_udp r) data_over_udp data_entry not-udp))
         (u.its_place ∙ sym (cond-false (is_udp r) (payload_at r + udp_length) (payload_at r) not-udp))
         (u.its_length ∙ sym (cond-false (is_udp r) (length_said r - udp_length) (payload_length r) not-udp))
 
@@ -237,21 +237,21 @@ module _ (r : List ℕ) where
               (by_udp ∙ good) is)
 
           pub udp-taken : (said : ℕ) → port ≡ l2tp_port → said ≡ length_said r →
-              found dataOverUdp (at + udp_length) (said - udp_length) ≡ judged r
+              found data_over_udp (at + udp_length) (said - udp_length) ≡ judged r
           unfolding skip_of
           udp-taken said h es =
               let is : other ≡ false = rw (not_l2tp, is_udp_lem, eq-eqb (target_port r) l2tp_port (sym ep ∙ h)) refl in
-              by_no_cause dataOverUdp (at + udp_length) (said - udp_length)
+              by_no_cause data_over_udp (at + udp_length) (said - udp_length)
               (by_none (not_ipv4 r) (bad_ipv4_lengths r) (is_fragment r) udp other u.is_ipv4 u.lengths-good u.not-cut
               (by_udp ∙ good) is)
-              (sym (cond-true (is_udp r) dataOverUdp dataEntry is_udp_lem))
+              (sym (cond-true (is_udp r) data_over_udp data_entry is_udp_lem))
               (ap (λ (x : ℕ). x + udp_length) u.its_place
               ∙ sym (cond-true (is_udp r) (payload_at r + udp_length) (payload_at r) is_udp_lem))
               (ap (λ (x : ℕ). x - udp_length) es
               ∙ sym (cond-true (is_udp r) (length_said r - udp_length) (payload_length r) is_udp_lem))
 
 -- The data of a record that is taken lies in the record.
-pub judged-inside : (r : List ℕ) → skip_of r ≡ 0 → dataAt r + dataLength r ≤ length r
+pub judged-inside : (r : List ℕ) → skip_of r ≡ 0 → data_at r + data_length r ≤ length r
 unfolding skip_of
 judged-inside r z =
     let none = none-applies (skips r) refl z in
@@ -294,6 +294,6 @@ four_causes r =
     (at_most (other r) 4 0 (omega arith) (omega arith)))))
 
 pub taken_as : (r : List ℕ) (j : Judged) → j ≡ judged r → skip_of r ≡ 0 →
-    j ≡ found (cond (is_udp r) dataOverUdp dataEntry) (dataAt r) (dataLength r)
+    j ≡ found (cond (is_udp r) data_over_udp data_entry) (data_at r) (data_length r)
 unfolding judged_by
 taken_as r j e z = e ∙ rw z refl

@@ -15,7 +15,7 @@ use Rattle.capture.specs.File.{head_length, entry_length, id_body, open_psp, Ent
 use Rattle.capture.specs.Write.{added, bodies_from, FitsIn, laid}
 use Rattle.capture.proofs.Writing.{laid_more}
 use Rattle.pcap.specs.declared.judge.Judged.{Judged}
-use Rattle.pcap.specs.File.{is_little, whole, after, bytes_at, recordsFrom, first_place, records}
+use Rattle.pcap.specs.File.{is_little, whole, after, bytes_at, records_from, first_place, records}
 use Rattle.pcap.specs.Judge.{skip_of, entry_of, judged}
 use Rattle.pcap.specs.Import.{entries_of}
 use Rattle.pcap.specs.Inside.Importing.{RoomFor, LaysOn}
@@ -196,18 +196,18 @@ module _ (r : List ℕ) {count : ℕ} {output : List ℕ} {w : Writer} (h : Room
 -- .. and the records still to come
 module _ (file : List ℕ) (at : ℕ) (little : Bool) where
   pub records_begin : little ≡ is_little file → at ≡ first_place file →
-      entries_of (recordsFrom (length file) file at little) ≡ entries_of (records file)
+      entries_of (records_from (length file) file at little) ≡ entries_of (records file)
   unfolding records
   records_begin order begins = rw (order, begins) refl
 
   pub records_split : whole file at little ≡ true → (packet : List ℕ) (at' : ℕ) → packet ≡ bytes_at file at little →
       at' ≡ after file at little →
-      entries_of (recordsFrom (length file) file at little)
-      ≡ entries_of (packet ∷ []) ++ entries_of (recordsFrom (length file) file at' little)
+      entries_of (records_from (length file) file at little)
+      ≡ entries_of (packet ∷ []) ++ entries_of (records_from (length file) file at' little)
   records_split there packet at' e further =
       rw (further, e)
       (ap entries_of (records_step file at little there)
-      ∙ entries-cons (bytes_at file at little) (recordsFrom (length file) file (after file at little) little))
+      ∙ entries-cons (bytes_at file at little) (records_from (length file) file (after file at little) little))
 
-  pub records_over : whole file at little ≡ false → entries_of (recordsFrom (length file) file at little) ≡ []
+  pub records_over : whole file at little ≡ false → entries_of (records_from (length file) file at little) ≡ []
   records_over none = ap entries_of (records_end (length file) file at little none) ∙ entries_none

@@ -8,30 +8,30 @@ use lib.Dec.{eqb}
 use borrow.Author.Tests.{ne_eqb}
 use Rattle.octets.specs.Count.{sum_to}
 use Rattle.octets.proofs.Counts.{sum_more}
-use Rattle.capture.specs.File.{head_length, entry_length, open_psp, open_dmpt, closing, dataEntry, dataOverUdp}
+use Rattle.capture.specs.File.{head_length, entry_length, open_psp, open_dmpt, closing, data_entry, data_over_udp}
 use Rattle.capture.specs.File.{entry_count, kind_at, body_length, file_refusal}
 use Rattle.capture.proofs.Checking.{is_sound}
 use Rattle.pcap.specs.declared.export.Measured.{Measured}
 use Rattle.pcap.specs.File.{file_header}
 use Rattle.pcap.specs.Udp.{udp_length}
-use Rattle.pcap.specs.Inside.Exporting.{front_length, recordLength, counted_with, measured_to, Unhurried}
+use Rattle.pcap.specs.Inside.Exporting.{front_length, record_length, counted_with, measured_to, Unhurried}
 
 abbrev pub measured : ℕ → ℕ → ℕ → ℕ → Measured
 measured long packets opens closes = record { length = long; packets = packets; opens = opens; closes = closes }
 
 -- The length of a record, by the kind of its entry.
-pub length-over_ip : (kind size : ℕ) → kind ≡ dataEntry → front_length + size ≡ recordLength kind size
-length-over_ip kind size e = ap (λ (k : ℕ). recordLength k size) (sym e)
+pub length-over_ip : (kind size : ℕ) → kind ≡ data_entry → front_length + size ≡ record_length kind size
+length-over_ip kind size e = ap (λ (k : ℕ). record_length k size) (sym e)
 
-pub length-over_udp : (kind size : ℕ) → kind ≡ dataOverUdp → front_length + udp_length + size ≡ recordLength kind size
-length-over_udp kind size e = ap (λ (k : ℕ). recordLength k size) (sym e)
+pub length-over_udp : (kind size : ℕ) → kind ≡ data_over_udp → front_length + udp_length + size ≡ record_length kind size
+length-over_udp kind size e = ap (λ (k : ℕ). record_length k size) (sym e)
 
-pub not_data : (kind : ℕ) → (kind ≡ dataEntry → ⊥) → (kind ≡ dataOverUdp → ⊥) → (eqb kind dataEntry || eqb kind dataOverUdp) ≡ false
-not_data kind not-ip not-udp = rw (ne_eqb kind dataEntry not-ip, ne_eqb kind dataOverUdp not-udp) refl
+pub not_data : (kind : ℕ) → (kind ≡ data_entry → ⊥) → (kind ≡ data_over_udp → ⊥) → (eqb kind data_entry || eqb kind data_over_udp) ≡ false
+not_data kind not-ip not-udp = rw (ne_eqb kind data_entry not-ip, ne_eqb kind data_over_udp not-udp) refl
 
-pub length_none : (kind size : ℕ) → (kind ≡ dataEntry → ⊥) → (kind ≡ dataOverUdp → ⊥) → 0 ≡ recordLength kind size
+pub length_none : (kind size : ℕ) → (kind ≡ data_entry → ⊥) → (kind ≡ data_over_udp → ⊥) → 0 ≡ record_length kind size
 length_none kind size not-ip not-udp =
-    ap (λ (b : Bool). cond b (front_length + cond (eqb kind dataOverUdp) udp_length 0 + size) 0) (sym (not_data kind not-ip not-udp))
+    ap (λ (b : Bool). cond b (front_length + cond (eqb kind data_over_udp) udp_length 0 + size) 0) (sym (not_data kind not-ip not-udp))
 
 -- An entry adds no more than so much.
 cond_short : (data-entry over_udp_lem : Bool) (size : ℕ) → cond data-entry (front_length + cond over_udp_lem udp_length 0 + size) 0 ≤ 58 + size
@@ -74,8 +74,8 @@ measured_more : (file : List ℕ) (k : ℕ) →
 unfolding measured_to
 measured_more file k =
     let kind = kind_at head_length entry_length file in
-    let bytes = sum_more (λ i. recordLength (kind i) (body_length head_length entry_length file i)) k in
-    let packets = sum_more (λ i. cond (eqb (kind i) dataEntry || eqb (kind i) dataOverUdp) 1 0) k in
+    let bytes = sum_more (λ i. record_length (kind i) (body_length head_length entry_length file i)) k in
+    let packets = sum_more (λ i. cond (eqb (kind i) data_entry || eqb (kind i) data_over_udp) 1 0) k in
     let opens = sum_more (λ i. cond (eqb (kind i) open_psp || eqb (kind i) open_dmpt) 1 0) k in
     let closes = sum_more (λ i. cond (eqb (kind i) closing) 1 0) k in
     measured_same (omega (arith, bytes)) (sym packets) (sym opens) (sym closes)
@@ -84,7 +84,7 @@ module _ {file : List ℕ} {m : Measured} {k : ℕ} (s : Measuring file m k) whe
   pub measure_turn : {kind size : ℕ} {r : Measured} → k < entry_count head_length file → kind ≡ kind_at head_length entry_length file k →
       (size ≡ body_length head_length entry_length file k) × (size ≤ 65535) → r ≡ counted_with m kind size → Measuring file r (k + 1)
   measure_turn {kind} {size} {r} below ek es er =
-      let data-entry = eqb kind dataEntry || eqb kind dataOverUdp in
+      let data-entry = eqb kind data_entry || eqb kind data_over_udp in
       record {
         within = omega (arith, below);
         so_far =
@@ -99,7 +99,7 @@ module _ {file : List ℕ} {m : Measured} {k : ℕ} (s : Measuring file m k) whe
               s.few_bytes,
               es.1,
               ap (λ (x : Measured). x.length) er,
-              cond_short data-entry (eqb kind dataOverUdp) size,
+              cond_short data-entry (eqb kind data_over_udp) size,
             );
         few-packets = omega (arith, s.few-packets, ap (λ (x : Measured). x.packets) er, one_most data-entry);
         few-opens = omega (arith, s.few-opens, ap (λ (x : Measured). x.opens) er, one_most (eqb kind open_psp || eqb kind open_dmpt));

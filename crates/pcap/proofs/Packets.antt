@@ -9,7 +9,7 @@ use lib.ListN.{length, length-append}
 use Rattle.octets.specs.Bytes.{two}
 use Rattle.capture.specs.File.{Entry}
 use Rattle.pcap.specs.declared.Addresses.{Addresses}
-use Rattle.pcap.specs.File.{file_header, recordHeader, file_header_in, recordHeaderIn, recordIn}
+use Rattle.pcap.specs.File.{file_header, record_header, file_header_in, record_header_in, record_in}
 use Rattle.pcap.specs.Ethernet.{ethernet_length, ipv4_type, ethernet_header}
 use Rattle.pcap.specs.Ipv4.{ipv4_length, l2tp_protocol, udp_protocol, ipv4_header}
 use Rattle.pcap.specs.Udp.{udp_length, udp_header}
@@ -20,13 +20,13 @@ pub length-file_header : (little : Bool) → length (file_header_in little) ≡ 
 length-file_header true = refl
 length-file_header false = refl
 
-pub length_record_header : (little : Bool) (n : ℕ) → length (recordHeaderIn little n) ≡ recordHeader
+pub length_record_header : (little : Bool) (n : ℕ) → length (record_header_in little n) ≡ record_header
 length_record_header true n = refl
 length_record_header false n = refl
 
-pub length_record : (little : Bool) (bytes : List ℕ) → length (recordIn little bytes) ≡ recordHeader + length bytes
+pub length_record : (little : Bool) (bytes : List ℕ) → length (record_in little bytes) ≡ record_header + length bytes
 length_record little bytes =
-    let header = recordHeaderIn little (length bytes) in
+    let header = record_header_in little (length bytes) in
     length-append header bytes ∙ ap (λ (n : ℕ). n + length bytes) (length_record_header little (length bytes))
 
 -- The headers of a packet.

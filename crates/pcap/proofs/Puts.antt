@@ -8,14 +8,14 @@ use lib.ListN.{length, take, drop, length-append}
 use Rattle.octets.specs.Bytes.{two, four}
 use Rattle.octets.specs.Stretch.{part, put}
 use Rattle.octets.proofs.Stretches.{part_all, sliced_part, part-put, put-nil, put_more, put-inside}
-use Rattle.capture.specs.File.{dataEntry, dataOverUdp, Entry}
+use Rattle.capture.specs.File.{data_entry, data_over_udp, Entry}
 use Rattle.pcap.specs.declared.Addresses.{Addresses}
-use Rattle.pcap.specs.File.{recordHeader, recordHeaderIn, recordIn}
+use Rattle.pcap.specs.File.{record_header, record_header_in, record_in}
 use Rattle.pcap.specs.Ethernet.{ethernet_length, ipv4_type, ethernet_header}
 use Rattle.pcap.specs.Ipv4.{ipv4_length, l2tp_protocol, udp_protocol, time_to_live, checksum, ipv4_with, ipv4_header}
 use Rattle.pcap.specs.Udp.{udp_length, udp_header}
 use Rattle.pcap.specs.Export.{packet_of}
-use Rattle.pcap.specs.Inside.Exporting.{front_length, front_of, recordOf}
+use Rattle.pcap.specs.Inside.Exporting.{front_length, front_of, record_of}
 use Rattle.pcap.proofs.Packets.{length-ethernet}
 use Rattle.pcap.proofs.Measuring.{not_data}
 
@@ -59,7 +59,7 @@ module _ {e : List ℕ} (d : List ℕ) (at : ℕ) (by : Addresses) (total carrie
 module _ (by : Addresses) (sender : length by.sender ≡ 6) (receiver : length by.receiver ≡ 6) where
   pub length_front : (size carried : ℕ) → length (front_of by size carried) ≡ front_length
   length_front size carried =
-      let header = recordHeaderIn true (ethernet_length + ipv4_length + size) in
+      let header = record_header_in true (ethernet_length + ipv4_length + size) in
       let internet = ipv4_header by (ipv4_length + size) carried in
       omega (
         arith,
@@ -69,24 +69,24 @@ module _ (by : Addresses) (sender : length by.sender ≡ 6) (receiver : length b
       )
 
   pub front_put : {e f g : List ℕ} (d : List ℕ) (at size carried : ℕ) → at + front_length ≤ length d →
-      e ≡ put d at (recordHeaderIn true (ethernet_length + ipv4_length + size)) →
-      f ≡ put e (at + recordHeader) (ethernet_header by) →
-      g ≡ put f (at + recordHeader + ethernet_length) (ipv4_header by (ipv4_length + size) carried) →
+      e ≡ put d at (record_header_in true (ethernet_length + ipv4_length + size)) →
+      f ≡ put e (at + record_header) (ethernet_header by) →
+      g ≡ put f (at + record_header + ethernet_length) (ipv4_header by (ipv4_length + size) carried) →
       g ≡ put d at (front_of by size carried)
   front_put d at size carried room first second third =
-      let header = recordHeaderIn true (ethernet_length + ipv4_length + size) in
+      let header = record_header_in true (ethernet_length + ipv4_length + size) in
       let both = length-append header (ethernet_header by) in
       let ether = length-ethernet by sender receiver in
-      let addressed = put_more d at header (ethernet_header by) (at + recordHeader) (omega arith) first refl second in
-      put_more d at (header ++ ethernet_header by) (ipv4_header by (ipv4_length + size) carried) (at + recordHeader + ethernet_length)
+      let addressed = put_more d at header (ethernet_header by) (at + record_header) (omega arith) first refl second in
+      put_more d at (header ++ ethernet_header by) (ipv4_header by (ipv4_length + size) carried) (at + record_header + ethernet_length)
       (omega arith) addressed (omega arith) third
 
   record_front : (size carried : ℕ) (x : List ℕ) → length x ≡ size →
-      recordIn true (ethernet_header by ++ ipv4_header by (ipv4_length + length x) carried ++ x) ≡ front_of by size carried ++ x
+      record_in true (ethernet_header by ++ ipv4_header by (ipv4_length + length x) carried ++ x) ≡ front_of by size carried ++ x
   record_front size carried x long =
       let internet = ipv4_header by (ipv4_length + length x) carried in
       let packet = ethernet_header by ++ internet ++ x in
-      let header = recordHeaderIn true (ethernet_length + ipv4_length + size) in
+      let header = record_header_in true (ethernet_length + ipv4_length + size) in
       let packet_long : length packet ≡ ethernet_length + ipv4_length + size =
       omega (
         arith,
@@ -95,18 +95,18 @@ module _ (by : Addresses) (sender : length by.sender ≡ 6) (receiver : length b
         length-ethernet by sender receiver,
         long,
       ) in
-      ap (λ (n : ℕ). recordHeaderIn true n ++ packet) packet_long
+      ap (λ (n : ℕ). record_header_in true n ++ packet) packet_long
       ∙ sym (append_assoc header (ethernet_header by ++ internet) x)
       ∙ ap (λ (l : List ℕ). l ++ x) (sym (append_assoc header (ethernet_header by) internet))
       ∙ ap (λ (n : ℕ). header ++ ethernet_header by ++ ipv4_header by (ipv4_length + n) carried ++ x) long
 
   record_over_ip : (body : List ℕ) →
-      recordIn true (packet_of by (record { kind = dataEntry; body = body })) ≡ front_of by (length body) l2tp_protocol ++ body
+      record_in true (packet_of by (record { kind = data_entry; body = body })) ≡ front_of by (length body) l2tp_protocol ++ body
   unfolding packet_of
   record_over_ip body = record_front (length body) l2tp_protocol body refl
 
   record_over_udp : (body : List ℕ) →
-      recordIn true (packet_of by (record { kind = dataOverUdp; body = body }))
+      record_in true (packet_of by (record { kind = data_over_udp; body = body }))
       ≡ front_of by (udp_length + length body) udp_protocol ++ udp_header (length body) ++ body
   unfolding packet_of
   record_over_udp body =
@@ -117,7 +117,7 @@ module _ (by : Addresses) (sender : length by.sender ≡ 6) (receiver : length b
   -- .. which are written one behind the other
   pub over_ip-put : {e f : List ℕ} (d : List ℕ) (at : ℕ) (body : List ℕ) → at + (front_length + length body) ≤ length d →
       e ≡ put d at (front_of by (length body) l2tp_protocol) → f ≡ put e (at + front_length) (part body 0 (length body)) →
-      f ≡ put d at (recordIn true (packet_of by (record { kind = dataEntry; body = body })))
+      f ≡ put d at (record_in true (packet_of by (record { kind = data_entry; body = body })))
   over_ip-put {e} {f} d at body room first second =
       let front = front_of by (length body) l2tp_protocol in
       let long = length_front (length body) l2tp_protocol in
@@ -128,7 +128,7 @@ module _ (by : Addresses) (sender : length by.sender ≡ 6) (receiver : length b
   pub over_udp-put : {e f g : List ℕ} (d : List ℕ) (at : ℕ) (body : List ℕ) → at + (front_length + udp_length + length body) ≤ length d →
       e ≡ put d at (front_of by (udp_length + length body) udp_protocol) → f ≡ put e (at + front_length) (udp_header (length body)) →
       g ≡ put f (at + front_length + udp_length) (part body 0 (length body)) →
-      g ≡ put d at (recordIn true (packet_of by (record { kind = dataOverUdp; body = body })))
+      g ≡ put d at (record_in true (packet_of by (record { kind = data_over_udp; body = body })))
   over_udp-put {e} {f} d at body room first second third =
       let front = front_of by (udp_length + length body) udp_protocol in
       let header = udp_header (length body) in
@@ -140,8 +140,8 @@ module _ (by : Addresses) (sender : length by.sender ≡ 6) (receiver : length b
       ∙ ap (put d at) (sym (record_over_udp body))
 
 -- an entry that is no data entry has none
-pub record_none : (d : List ℕ) (at : ℕ) (by : Addresses) (kind : ℕ) (body : List ℕ) → (kind ≡ dataEntry → ⊥) → (kind ≡ dataOverUdp → ⊥) →
-    d ≡ put d at (recordOf by (record { kind = kind; body = body }))
+pub record_none : (d : List ℕ) (at : ℕ) (by : Addresses) (kind : ℕ) (body : List ℕ) → (kind ≡ data_entry → ⊥) → (kind ≡ data_over_udp → ⊥) →
+    d ≡ put d at (record_of by (record { kind = kind; body = body }))
 record_none d at by kind body not-ip not-udp =
     let e : Entry = record { kind = kind; body = body } in
-    sym (ap (λ (b : Bool). put d at (cond b (recordIn true (packet_of by e)) [])) (not_data kind not-ip not-udp) ∙ put-nil d at)
+    sym (ap (λ (b : Bool). put d at (cond b (record_in true (packet_of by e)) [])) (not_data kind not-ip not-udp) ∙ put-nil d at)

@@ -14,7 +14,7 @@ use Rattle.octets.specs.Order.{le32_at}
 use Rattle.octets.specs.Stretch.{part}
 use Rattle.octets.proofs.Counts.{or-false-left}
 use Rattle.octets.proofs.Stretches.{length_part}
-use Rattle.pcap.specs.File.{file_header, recordHeader, magic, is_little, wrong_fields, bad_header, first_place}
+use Rattle.pcap.specs.File.{file_header, record_header, magic, is_little, wrong_fields, bad_header, first_place}
 use Rattle.pcap.specs.File.{left, kept, whole, start, size, after, bytes_at, stops}
 
 -- The header.
@@ -58,33 +58,33 @@ module _ (file : List ℕ) where
 
 -- A place.
 module _ (file : List ℕ) (at : ℕ) (little : Bool) where
-  pub whole-short : left file at < recordHeader → whole file at little ≡ false
+  pub whole-short : left file at < record_header → whole file at little ≡ false
   unfolding whole
-  whole-short h = rw (lt-ltb (left file at) recordHeader h) refl
+  whole-short h = rw (lt-ltb (left file at) record_header h) refl
 
-  pub whole_long : recordHeader ≤ left file at → whole file at little ≡ leb (kept file at little) (left file at - recordHeader)
+  pub whole_long : record_header ≤ left file at → whole file at little ≡ leb (kept file at little) (left file at - record_header)
   unfolding whole
-  whole_long h = rw (le-ltb (left file at) recordHeader h) refl
+  whole_long h = rw (le-ltb (left file at) record_header h) refl
 
   -- a whole record has room for its header, and lies in the file
-  whole-header : whole file at little ≡ true → recordHeader ≤ left file at
+  whole-header : whole file at little ≡ true → record_header ≤ left file at
   unfolding whole
   whole-header h =
-      let short = ltb (left file at) recordHeader in
-      let fits = leb (kept file at little) (left file at - recordHeader) in
-      ltb-false (left file at) recordHeader (not-true short (and_left (not short) fits h))
+      let short = ltb (left file at) record_header in
+      let fits = leb (kept file at little) (left file at - record_header) in
+      ltb-false (left file at) record_header (not-true short (and_left (not short) fits h))
 
-  whole-fits : whole file at little ≡ true → kept file at little ≤ left file at - recordHeader
+  whole-fits : whole file at little ≡ true → kept file at little ≤ left file at - record_header
   unfolding whole
   whole-fits h =
-      let short = ltb (left file at) recordHeader in
-      let fits = leb (kept file at little) (left file at - recordHeader) in
-      leb-true (kept file at little) (left file at - recordHeader) (and_right (not short) fits h)
+      let short = ltb (left file at) record_header in
+      let fits = leb (kept file at little) (left file at - record_header) in
+      leb-true (kept file at little) (left file at - record_header) (and_right (not short) fits h)
 
-  pub whole-inside : whole file at little ≡ true → at + recordHeader + kept file at little ≤ length file
+  pub whole-inside : whole file at little ≡ true → at + record_header + kept file at little ≤ length file
   whole-inside h = omega (arith, whole-header h, whole-fits h)
 
-  pub start-whole : whole file at little ≡ true → start file at little ≡ at + recordHeader
+  pub start-whole : whole file at little ≡ true → start file at little ≡ at + record_header
   unfolding start
   start-whole h = cond-true _ _ _ h
 
@@ -100,7 +100,7 @@ module _ (file : List ℕ) (at : ℕ) (little : Bool) where
   unfolding size
   size_none h = cond-false _ _ _ h
 
-  pub after-whole : whole file at little ≡ true → after file at little ≡ at + recordHeader + kept file at little
+  pub after-whole : whole file at little ≡ true → after file at little ≡ at + record_header + kept file at little
   unfolding after
   after-whole h = cond-true _ _ _ h
 

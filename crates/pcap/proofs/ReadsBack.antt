@@ -14,9 +14,9 @@ use Rattle.octets.specs.Stretch.{part, joined}
 use Rattle.octets.specs.Order.{le32_at, u32_at, four_in}
 use Rattle.octets.proofs.Stretches.{joined-none, joined-cons, part-between, length-joined}
 use Rattle.octets.proofs.Numbers.{u32_append_at, four_in_reads_back}
-use Rattle.pcap.specs.File.{file_header, recordHeader, magic, is_little, wrong_fields, bad_header, left, kept, whole, start, size, after}
-use Rattle.pcap.specs.File.{bytes_at, recordsFrom, place_from, wire_from, first_place, records, wire_lengths, last_place}
-use Rattle.pcap.specs.File.{file_header_in, recordHeaderIn, recordIn, pcap_of}
+use Rattle.pcap.specs.File.{file_header, record_header, magic, is_little, wrong_fields, bad_header, left, kept, whole, start, size, after}
+use Rattle.pcap.specs.File.{bytes_at, records_from, place_from, wire_from, first_place, records, wire_lengths, last_place}
+use Rattle.pcap.specs.File.{file_header_in, record_header_in, record_in, pcap_of}
 use Rattle.pcap.proofs.Reading.{little_long, header_long, first_good, whole-short, whole_long, start-whole, size-whole, after-whole}
 use Rattle.pcap.proofs.Walk.{records_more, place_more, wire_more, records_end, place_end, wire_end}
 use Rattle.pcap.proofs.Packets.{length-file_header, length_record_header, length_record}
@@ -26,50 +26,50 @@ abbrev Sayable : List ℕ → Type 0
 Sayable p = length p < 4294967296
 
 -- how many bytes are kept reads back from a record's header
-kept-written : (little : Bool) (n : ℕ) (behind : List ℕ) → n < 4294967296 → u32_at little (recordHeaderIn little n ++ behind) 8 ≡ n
+kept-written : (little : Bool) (n : ℕ) (behind : List ℕ) → n < 4294967296 → u32_at little (record_header_in little n ++ behind) 8 ≡ n
 kept-written true n behind = four_in_reads_back true n (four_in true n ++ behind)
 kept-written false n behind = four_in_reads_back false n (four_in false n ++ behind)
 
 -- .. and how many there were on the wire
-wire_written : (little : Bool) (n : ℕ) (behind : List ℕ) → n < 4294967296 → u32_at little (recordHeaderIn little n ++ behind) 12 ≡ n
+wire_written : (little : Bool) (n : ℕ) (behind : List ℕ) → n < 4294967296 → u32_at little (record_header_in little n ++ behind) 12 ≡ n
 wire_written true n behind = four_in_reads_back true n behind
 wire_written false n behind = four_in_reads_back false n behind
 
 -- A record with anything before it and behind it.
 module _ (little : Bool) (before p behind : List ℕ) (short : Sayable p) where
   abbrev among : List ℕ
-  among = before ++ (recordIn little p ++ behind)
+  among = before ++ (record_in little p ++ behind)
 
   abbrev here : ℕ
   here = length before
 
-  among-left : left among here ≡ recordHeader + length p + length behind
+  among-left : left among here ≡ record_header + length p + length behind
   among-left =
-      let this = recordIn little p in
+      let this = record_in little p in
       omega (arith, length-append before (this ++ behind), length-append this behind, length_record little p)
 
   among-kept : kept among here little ≡ length p
   among-kept =
-      u32_append_at little before (recordIn little p ++ behind) (here + 8) 8 refl
-      ∙ ap (λ (l : List ℕ). u32_at little l 8) (append_assoc (recordHeaderIn little (length p)) p behind)
+      u32_append_at little before (record_in little p ++ behind) (here + 8) 8 refl
+      ∙ ap (λ (l : List ℕ). u32_at little l 8) (append_assoc (record_header_in little (length p)) p behind)
       ∙ kept-written little (length p) (p ++ behind) short
 
   pub written_wire : u32_at little among (here + 12) ≡ length p
   written_wire =
-      u32_append_at little before (recordIn little p ++ behind) (here + 12) 12 refl
-      ∙ ap (λ (l : List ℕ). u32_at little l 12) (append_assoc (recordHeaderIn little (length p)) p behind)
+      u32_append_at little before (record_in little p ++ behind) (here + 12) 12 refl
+      ∙ ap (λ (l : List ℕ). u32_at little l 12) (append_assoc (record_header_in little (length p)) p behind)
       ∙ wire_written little (length p) (p ++ behind) short
 
   -- it is whole, its bytes are the packet, and the next one begins right behind it
   pub written-whole : whole among here little ≡ true
   written-whole =
       whole_long among here little (omega (arith, among-left))
-      ∙ le-leb (kept among here little) (left among here - recordHeader) (omega (arith, among-left, among-kept))
+      ∙ le-leb (kept among here little) (left among here - record_header) (omega (arith, among-left, among-kept))
 
   pub written-bytes : bytes_at among here little ≡ p
   unfolding bytes_at
   written-bytes =
-      let header = recordHeaderIn little (length p) in
+      let header = record_header_in little (length p) in
       let at : start among here little ≡ length (before ++ header) =
       start-whole among here little written-whole ∙ omega (arith, length-append before header, length_record_header little (length p)) in
       let long : size among here little ≡ length p = size-whole among here little written-whole ∙ among-kept in
@@ -80,14 +80,14 @@ module _ (little : Bool) (before p behind : List ℕ) (short : Sayable p) where
       ∙ ap (λ (l : List ℕ). part l (length (before ++ header)) (length p)) lies
       ∙ part-between (before ++ header) p behind
 
-  pub written_after : after among here little ≡ length (before ++ recordIn little p)
+  pub written_after : after among here little ≡ length (before ++ record_in little p)
   written_after =
       after-whole among here little written-whole
-      ∙ omega (arith, among-kept, length-append before (recordIn little p), length_record little p)
+      ∙ omega (arith, among-kept, length-append before (record_in little p), length_record little p)
 
 -- A walk from a place on has read these packets, and stands at the end.
 record HasRead (little : Bool) (n : ℕ) (file : List ℕ) (at : ℕ) (packets : List (List ℕ)) : Type 0 where
-  these : recordsFrom n file at little ≡ packets
+  these : records_from n file at little ≡ packets
   to_the_end : place_from n file at little ≡ length file
   on_the_wire : wire_from n file at little ≡ map length packets
 
@@ -115,7 +115,7 @@ read_more little n file at p packets stands its_bytes its-wire read =
 -- So behind any stretch of a file the packets that were written there are read.
 module _ (little : Bool) where
   abbrev written : List (List ℕ) → List ℕ
-  written packets = joined (map (recordIn little) packets)
+  written packets = joined (map (record_in little) packets)
 
   read_behind : (packets : List (List ℕ)) (n : ℕ) (before file : List ℕ) → Each Sayable packets →
       length packets ≤ n → file ≡ before ++ written packets → HasRead little n file (length before) packets
@@ -124,11 +124,11 @@ module _ (little : Bool) where
       subst (λ (at : ℕ). HasRead little n file at []) (ap length all) (read_none little n file)
   read_behind (p ∷ packets) zero before file short enough lies = absurd (not-suc-le-zero enough)
   read_behind (p ∷ packets) (suc n) before file short enough lies =
-      let this = recordIn little p in
+      let this = record_in little p in
       let behind = written packets in
       let at = length before in
       let here : file ≡ before ++ (this ++ behind) =
-      lies ∙ ap (λ (l : List ℕ). before ++ l) (joined-cons this (map (recordIn little) packets)) in
+      lies ∙ ap (λ (l : List ℕ). before ++ l) (joined-cons this (map (record_in little) packets)) in
       let stands : whole file at little ≡ true =
       ap (λ (l : List ℕ). whole l at little) here ∙ written-whole little before p behind short.0 in
       let its_bytes : bytes_at file at little ≡ p =
@@ -145,7 +145,7 @@ module _ (little : Bool) where
   few-packets : (packets : List (List ℕ)) → length packets ≤ length (written packets)
   few-packets [] = omega arith
   few-packets (p ∷ packets) =
-      omega (arith, length-joined (recordIn little p) (map (recordIn little) packets), length_record little p, few-packets packets)
+      omega (arith, length-joined (record_in little p) (map (record_in little) packets), length_record little p, few-packets packets)
 
 -- The header, with anything behind it: only in the order in which it was written is its first number the magic one, and nothing is wrong.
 magic-read : (little : Bool) (behind : List ℕ) → eqb (le32_at (file_header_in little ++ behind) 0) magic ≡ little
@@ -190,7 +190,7 @@ module _ (little : Bool) (packets : List (List ℕ)) where
 
     pub records_read_back : records file ≡ packets
     unfolding records
-    records_read_back = ap (recordsFrom (length file) file (first_place file)) order_reads_back ∙ all_read.these
+    records_read_back = ap (records_from (length file) file (first_place file)) order_reads_back ∙ all_read.these
 
     pub wire_reads_back : wire_lengths file ≡ map length packets
     unfolding wire_lengths

@@ -1,6 +1,6 @@
 -- A walk over a file's records: one step, that the definitions' bound on the steps (as many as the file has bytes) never cuts it short,
 -- where it stops, and that records with their headers are never more than the file has. A loop over a file carries the records still to
--- come, `recordsFrom (length file) file at little`, and where the walk will stop, `place_from (length file) file at little`.
+-- come, `records_from (length file) file at little`, and where the walk will stop, `place_from (length file) file at little`.
 use Prim.Native.Nat.{ℕ, zero, suc, ◌+◌, ◌-◌, ◌*◌, ◌<◌, ◌≤◌}
 use mathlib.Core.Path.{◌≡◌, refl, sym, ap, ◌∙◌}
 use mathlib.Core.Bool.{Bool, true, false, cond, and-true}
@@ -16,7 +16,7 @@ use Rattle.octets.specs.Stretch.{joined}
 use Rattle.octets.proofs.Counts.{true-or-false}
 use Rattle.octets.proofs.Stretches.{length-joined-none, length-joined}
 use Rattle.octets.specs.Order.{u32_at}
-use Rattle.pcap.specs.File.{is_little, bad_header, left, whole, after, bytes_at, recordsFrom, place_from, wire_from, first_place}
+use Rattle.pcap.specs.File.{is_little, bad_header, left, whole, after, bytes_at, records_from, place_from, wire_from, first_place}
 use Rattle.pcap.specs.File.{records, last_place, stops}
 use Rattle.pcap.specs.Reader.{opened, moved, handed_out}
 use Rattle.pcap.specs.declared.reader.Reader.{Reader}
@@ -25,8 +25,8 @@ use Rattle.pcap.proofs.Reading.{first-inside, whole-short, whole-inside, size-wh
 -- One step, n + 1 at most: at a whole record, and where there is none.
 module _ (n : ℕ) (file : List ℕ) (at : ℕ) (little : Bool) where
   pub records_more : whole file at little ≡ true →
-      recordsFrom (suc n) file at little ≡ bytes_at file at little ∷ recordsFrom n file (after file at little) little
-  unfolding recordsFrom
+      records_from (suc n) file at little ≡ bytes_at file at little ∷ records_from n file (after file at little) little
+  unfolding records_from
   records_more h = cond-true _ _ _ h
 
   pub place_more : whole file at little ≡ true → place_from (suc n) file at little ≡ place_from n file (after file at little) little
@@ -38,8 +38,8 @@ module _ (n : ℕ) (file : List ℕ) (at : ℕ) (little : Bool) where
   unfolding wire_from
   wire_more h = cond-true _ _ _ h
 
-pub records_end : (n : ℕ) (file : List ℕ) (at : ℕ) (little : Bool) → whole file at little ≡ false → recordsFrom n file at little ≡ []
-unfolding recordsFrom
+pub records_end : (n : ℕ) (file : List ℕ) (at : ℕ) (little : Bool) → whole file at little ≡ false → records_from n file at little ≡ []
+unfolding records_from
 records_end zero file at little h = refl
 records_end (suc n) file at little h = cond-false _ _ _ h
 
@@ -71,10 +71,10 @@ none_left file at little e = whole-short file at little (omega (arith, e))
 
 -- The bound is enough: any two that are not less than the bytes left come to the same.
 module _ (file : List ℕ) (little : Bool) where
-  records_none : (n m at : ℕ) → whole file at little ≡ false → recordsFrom n file at little ≡ recordsFrom m file at little
+  records_none : (n m at : ℕ) → whole file at little ≡ false → records_from n file at little ≡ records_from m file at little
   records_none n m at h = records_end n file at little h ∙ sym (records_end m file at little h)
 
-  pub records_enough : (n m at : ℕ) → left file at ≤ n → left file at ≤ m → recordsFrom n file at little ≡ recordsFrom m file at little
+  pub records_enough : (n m at : ℕ) → left file at ≤ n → left file at ≤ m → records_from n file at little ≡ records_from m file at little
   records_enough zero m at en em = records_none zero m at (none_left file at little en)
   records_enough (suc n) zero at en em = records_none (suc n) zero at (none_left file at little em)
   records_enough (suc n) (suc m) at en em =
@@ -112,12 +112,12 @@ module _ (file : List ℕ) (at : ℕ) (little : Bool) (h : whole file at little 
   still_enough : left file (after file at little) ≤ fewer
   still_enough = omega (arith, step_falls file at little h)
 
-  pub records_step : recordsFrom (length file) file at little
-      ≡ bytes_at file at little ∷ recordsFrom (length file) file (after file at little) little
+  pub records_step : records_from (length file) file at little
+      ≡ bytes_at file at little ∷ records_from (length file) file (after file at little) little
   records_step =
       let next = after file at little in
       let same = records_enough file little fewer (length file) next still_enough (omega arith) in
-      ap (λ (n : ℕ). recordsFrom n file at little) one_fewer
+      ap (λ (n : ℕ). records_from n file at little) one_fewer
       ∙ records_more fewer file at little h
       ∙ ap (λ (l : List (List ℕ)). bytes_at file at little ∷ l) same
 
@@ -175,12 +175,12 @@ module _ (file : List ℕ) (little : Bool) where
   taken_more : (s : List ℕ) (l : List (List ℕ)) → taken (s ∷ l) ≡ 16 + length s + taken l
   taken_more s l = omega (arith, length-joined s l)
 
-  taken_end : (n at : ℕ) → whole file at little ≡ false → taken (recordsFrom n file at little) ≤ left file at
+  taken_end : (n at : ℕ) → whole file at little ≡ false → taken (records_from n file at little) ≤ left file at
   taken_end n at h = omega (arith, ap taken (records_end n file at little h), taken_none)
 
   pub records_within : (n at : ℕ) →
-      16 * length (recordsFrom n file at little) + length (joined (recordsFrom n file at little)) ≤ length file - at
-  unfolding recordsFrom
+      16 * length (records_from n file at little) + length (joined (records_from n file at little)) ≤ length file - at
+  unfolding records_from
   records_within zero at = omega (arith, taken_none)
   records_within (suc n) at =
       whole-or-not file at little
@@ -189,7 +189,7 @@ module _ (file : List ℕ) (little : Bool) where
       omega (
         arith,
         ap taken (records_more n file at little h),
-        taken_more (bytes_at file at little) (recordsFrom n file next little),
+        taken_more (bytes_at file at little) (records_from n file next little),
         length_bytes file at little,
         size-whole file at little h,
         after-whole file at little h,
@@ -199,8 +199,8 @@ module _ (file : List ℕ) (little : Bool) where
       (taken_end (suc n) at)
 
 -- A caller's walk, from a file's first record on, hands out the file's records.
-hands_out-from : (n : ℕ) (r : Reader) → handed_out n r ≡ recordsFrom n r.file.now r.at r.little
-unfolding handed_out recordsFrom
+hands_out-from : (n : ℕ) (r : Reader) → handed_out n r ≡ records_from n r.file.now r.at r.little
+unfolding handed_out records_from
 hands_out-from zero r = refl
 hands_out-from (suc n) r =
     let bytes = r.file.now in

@@ -5,7 +5,7 @@ use Rattle.std.specs.Prelude.{ℕ, zero, suc, ◌+◌, ◌≡◌, Bool, true, co
 use Rattle.refusal.specs.Refusal.{Refusal, ◌when◌, first}
 use Rattle.octets.specs.Stretch.{put}
 use Rattle.octets.specs.Those.{those}
-use Rattle.capture.specs.File.{head_length, entry_length, open_psp, open_dmpt, closing, dataEntry, dataOverUdp, Entry, entries, file_refusals}
+use Rattle.capture.specs.File.{head_length, entry_length, open_psp, open_dmpt, closing, data_entry, data_over_udp, Entry, entries, file_refusals}
 use Rattle.pcap.specs.declared.Addresses.{Addresses}
 use Rattle.pcap.specs.declared.export.Exported.{Exported}
 use Rattle.pcap.specs.File.{pcap_of}
@@ -21,10 +21,10 @@ abbrev pub is_close : Entry → Bool
 is_close e = eqb e.kind closing
 
 abbrev pub is_over_udp : Entry → Bool
-is_over_udp e = eqb e.kind dataOverUdp
+is_over_udp e = eqb e.kind data_over_udp
 
 abbrev pub is_data : Entry → Bool
-is_data e = eqb e.kind dataEntry || is_over_udp e
+is_data e = eqb e.kind data_entry || is_over_udp e
 
 -- the packet of a data entry, as a record has it
 abbrev pub behind_ipv4 : Entry → List ℕ

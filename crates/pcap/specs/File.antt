@@ -37,8 +37,8 @@ use Rattle.octets.specs.Stretch.{part, joined}
 abbrev pub file_header : ℕ
 file_header = 24
 
-abbrev pub recordHeader : ℕ
-recordHeader = 16
+abbrev pub record_header : ℕ
+record_header = 16
 
 abbrev pub magic : ℕ
 magic = 0xA1B2C3D4
@@ -75,27 +75,27 @@ abbrev pub kept : List ℕ → ℕ → Bool → ℕ
 kept file at little = u32_at little file (at + 8)
 
 unfoldable pub whole : List ℕ → ℕ → Bool → Bool
-whole file at little = not (ltb (left file at) recordHeader) && leb (kept file at little) (left file at - recordHeader)
+whole file at little = not (ltb (left file at) record_header) && leb (kept file at little) (left file at - record_header)
 
 -- where its bytes begin, how many they are, and where the next record begins. Where no whole record stands there are no bytes, at the
 -- file's end, and a walk stays where it is.
 unfoldable pub start : List ℕ → ℕ → Bool → ℕ
-start file at little = cond (whole file at little) (at + recordHeader) (length file)
+start file at little = cond (whole file at little) (at + record_header) (length file)
 
 unfoldable pub size : List ℕ → ℕ → Bool → ℕ
 size file at little = cond (whole file at little) (kept file at little) 0
 
 unfoldable pub after : List ℕ → ℕ → Bool → ℕ
-after file at little = cond (whole file at little) (at + recordHeader + kept file at little) at
+after file at little = cond (whole file at little) (at + record_header + kept file at little) at
 
 unfoldable pub bytes_at : List ℕ → ℕ → Bool → List ℕ
 bytes_at file at little = part file (start file at little) (size file at little)
 
 -- The records from a place on, n at most, and the place behind them.
-unfoldable pub recordsFrom : ℕ → List ℕ → ℕ → Bool → List (List ℕ)
-recordsFrom zero file at little = []
-recordsFrom (suc n) file at little =
-    cond (whole file at little) (bytes_at file at little ∷ recordsFrom n file (after file at little) little) []
+unfoldable pub records_from : ℕ → List ℕ → ℕ → Bool → List (List ℕ)
+records_from zero file at little = []
+records_from (suc n) file at little =
+    cond (whole file at little) (bytes_at file at little ∷ records_from n file (after file at little) little) []
 
 unfoldable pub place_from : ℕ → List ℕ → ℕ → Bool → ℕ
 place_from zero file at little = at
@@ -107,7 +107,7 @@ unfoldable pub first_place : List ℕ → ℕ
 first_place file = cond (bad_header file) (length file) file_header
 
 unfoldable pub records : List ℕ → List (List ℕ)
-records file = recordsFrom (length file) file (first_place file) (is_little file)
+records file = records_from (length file) file (first_place file) (is_little file)
 
 -- .. what they say that they had on the wire, which an import does not look at
 unfoldable pub wire_from : ℕ → List ℕ → ℕ → Bool → List ℕ
@@ -142,11 +142,11 @@ file_header_in little =
     ++ four_in little snap_length
     ++ four_in little ethernet
 
-abbrev pub recordHeaderIn : Bool → ℕ → List ℕ
-recordHeaderIn little n = four_in little 0 ++ four_in little 0 ++ four_in little n ++ four_in little n
+abbrev pub record_header_in : Bool → ℕ → List ℕ
+record_header_in little n = four_in little 0 ++ four_in little 0 ++ four_in little n ++ four_in little n
 
-abbrev pub recordIn : Bool → List ℕ → List ℕ
-recordIn little bytes = recordHeaderIn little (length bytes) ++ bytes
+abbrev pub record_in : Bool → List ℕ → List ℕ
+record_in little bytes = record_header_in little (length bytes) ++ bytes
 
 unfoldable pub pcap_of : Bool → List (List ℕ) → List ℕ
-pcap_of little packets = file_header_in little ++ joined (map (recordIn little) packets)
+pcap_of little packets = file_header_in little ++ joined (map (record_in little) packets)

@@ -5,7 +5,7 @@
 use Rattle.std.specs.Prelude.{ℕ, zero, suc, ◌+◌, ◌-◌, Bool, cond, not, ◌&&◌, ◌||◌, List, [], ◌∷◌, eqb, ltb, length}
 use Rattle.refusal.specs.Refusal.{Refusal, ◌when◌, first}
 use Rattle.octets.specs.Stretch.{part}
-use Rattle.capture.specs.File.{dataEntry, dataOverUdp, Entry}
+use Rattle.capture.specs.File.{data_entry, data_over_udp, Entry}
 use Rattle.pcap.specs.declared.judge.Judged.{Judged}
 use Rattle.pcap.specs.Ethernet.{ethernet_length, ipv4_type, ether_type}
 use Rattle.pcap.specs.Ipv4.{ipv4_at, ipv4_length, l2tp_protocol, udp_protocol, version, header_length, total_length, fragment_bits, protocol}
@@ -59,18 +59,18 @@ unfoldable pub skip_of : List ℕ → ℕ
 skip_of r = first (skips r)
 
 -- the data of a record that is not skipped: where it begins, how long it is, and its entry
-abbrev pub dataAt : List ℕ → ℕ
-dataAt r = cond (is_udp r) (payload_at r + udp_length) (payload_at r)
+abbrev pub data_at : List ℕ → ℕ
+data_at r = cond (is_udp r) (payload_at r + udp_length) (payload_at r)
 
-abbrev pub dataLength : List ℕ → ℕ
-dataLength r = cond (is_udp r) (length_said r - udp_length) (payload_length r)
+abbrev pub data_length : List ℕ → ℕ
+data_length r = cond (is_udp r) (length_said r - udp_length) (payload_length r)
 
 unfoldable pub entry_of : List ℕ → Entry
-entry_of r = record { kind = cond (is_udp r) dataOverUdp dataEntry; body = part r (dataAt r) (dataLength r) }
+entry_of r = record { kind = cond (is_udp r) data_over_udp data_entry; body = part r (data_at r) (data_length r) }
 
 -- What judging a record answers: the cause, or 0 and the entry by its kind and place.
 unfoldable pub judged_by : ℕ → List ℕ → Judged
-judged_by zero r = record { cause = 0; kind = cond (is_udp r) dataOverUdp dataEntry; at = dataAt r; length = dataLength r }
+judged_by zero r = record { cause = 0; kind = cond (is_udp r) data_over_udp data_entry; at = data_at r; length = data_length r }
 judged_by (suc c) r = record { cause = suc c; kind = 0; at = 0; length = 0 }
 
 abbrev pub judged : List ℕ → Judged

@@ -3,11 +3,11 @@
 
 ghost use Rattle.std.specs.Prelude.{◌≡◌, true, cond, ◌+◌, ◌≤◌, length};
 ghost use Rattle.octets.specs.Stretch.{put};
-ghost use Rattle.capture.specs.File.{head_length, dataEntry, dataOverUdp, entry_count, file_refusal, entries};
-ghost use Rattle.pcap.specs.File.{recordIn};
+ghost use Rattle.capture.specs.File.{head_length, data_entry, data_over_udp, entry_count, file_refusal, entries};
+ghost use Rattle.pcap.specs.File.{record_in};
 ghost use Rattle.pcap.specs.Udp.{udp_length};
 ghost use Rattle.pcap.specs.Export.{packet_of, export_of, PermitsExport};
-ghost use Rattle.pcap.specs.Inside.Exporting.{front_length, recordOf, recordLength, counted_with, measured_to, Unhurried};
+ghost use Rattle.pcap.specs.Inside.Exporting.{front_length, record_of, record_length, counted_with, measured_to, Unhurried};
 
 use crate::{
     Addresses, ETHERNET_LENGTH, IPV4_LENGTH, L2TP_PROTOCOL, UDP_LENGTH, UDP_PROTOCOL, headers,
@@ -41,7 +41,7 @@ struct Measured {
 // How long the record of an entry is: 0 for one that has none.
 fn record_length(kind: u8, size: usize) -> usize
     requires { size ≤ 65535 }
-    ensures { (result ≡ recordLength kind size) × (result ≤ front_length + udp_length + size) }
+    ensures { (result ≡ record_length kind size) × (result ≤ front_length + udp_length + size) }
 {
     if kind == capture::DATA {
         return FRONT + size;
@@ -105,7 +105,7 @@ fn measure(file: &[u8]) -> Measured
 fn write_over_ip(addresses: Addresses, body: &[u8], output: &mut [u8], at: usize) -> usize
     requires { (at + (front_length + length body.now) ≤ length output.old) × (length body.now ≤ 65000) }
     ensures output_after { output.new ≡ put output.old at
-        (recordIn true (packet_of addresses (record { kind = dataEntry; body = body.now }))) }
+        (record_in true (packet_of addresses (record { kind = data_entry; body = body.now }))) }
     ensures value { result ≡ at + (front_length + length body.now) }
 {
     let size = body.len();
@@ -119,7 +119,7 @@ fn write_over_ip(addresses: Addresses, body: &[u8], output: &mut [u8], at: usize
 fn write_over_udp(addresses: Addresses, body: &[u8], output: &mut [u8], at: usize) -> usize
     requires { (at + (front_length + udp_length + length body.now) ≤ length output.old) × (length body.now ≤ 65000) }
     ensures output_after { output.new ≡ put output.old at
-        (recordIn true (packet_of addresses (record { kind = dataOverUdp; body = body.now }))) }
+        (record_in true (packet_of addresses (record { kind = data_over_udp; body = body.now }))) }
     ensures value { result ≡ at + (front_length + udp_length + length body.now) }
 {
     let size = body.len();
@@ -132,10 +132,10 @@ fn write_over_udp(addresses: Addresses, body: &[u8], output: &mut [u8], at: usiz
 
 // Writes the record of an entry, if it has one, and answers the place behind it.
 fn write_entry(addresses: Addresses, kind: u8, body: &[u8], output: &mut [u8], at: usize) -> usize
-    requires { (at + recordLength kind (length body.now) ≤ length output.old) × (length body.now ≤ 65000) }
+    requires { (at + record_length kind (length body.now) ≤ length output.old) × (length body.now ≤ 65000) }
     ensures output_after { output.new ≡ put output.old at
-        (recordOf addresses (record { kind = kind; body = body.now })) }
-    ensures value { result ≡ at + recordLength kind (length body.now) }
+        (record_of addresses (record { kind = kind; body = body.now })) }
+    ensures value { result ≡ at + record_length kind (length body.now) }
 {
     if kind == capture::DATA {
         return write_over_ip(addresses, body, output, at);

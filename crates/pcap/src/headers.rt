@@ -2,7 +2,7 @@
 // Ethernet, IPv4 and UDP (document 02, W5).
 ghost use Rattle.std.specs.Prelude.{◌≡◌, true, [], ◌∷◌, ◌+◌, ◌<◌, ◌≤◌, length};
 ghost use Rattle.octets.specs.Stretch.{put};
-ghost use Rattle.pcap.specs.File.{file_header, recordHeader, file_header_in, recordHeaderIn};
+ghost use Rattle.pcap.specs.File.{file_header, record_header, file_header_in, record_header_in};
 ghost use Rattle.pcap.specs.Ethernet.{ethernet_length, ethernet_header};
 ghost use Rattle.pcap.specs.Ipv4.{ipv4_length, folded, ipv4_with, ipv4_header};
 ghost use Rattle.pcap.specs.Ipv4.{checksum as checksumOf};
@@ -41,8 +41,8 @@ pub fn write_file_header(output: &mut [u8])
 
 // The header of a record of `size` bytes, at time 0.
 fn write_record_header(output: &mut [u8], at: usize, size: usize)
-    requires { (at + recordHeader ≤ length output.old) × (size < 4294967296) }
-    ensures { output.new ≡ put output.old at (recordHeaderIn true size) }
+    requires { (at + record_header ≤ length output.old) × (size < 4294967296) }
+    ensures { output.new ≡ put output.old at (record_header_in true size) }
 {
     octets::write_little_u32(output, at, 0);
     octets::write_little_u32(output, at + 4, 0);

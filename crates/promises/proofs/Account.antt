@@ -25,7 +25,7 @@ use Rattle.promises.specs.Account.{held_in_all, delivered_by, dropped_by, ByteAc
 use Rattle.promises.specs.Limits.{NeverBroken}
 use Rattle.promises.proofs.Good.{Good, good-empty, good-after, good_all}
 use Rattle.promises.proofs.Measures.{by_length}
-use Rattle.promises.proofs.Holdings.{in_places, in_table, missing, keptInRow, keptInAll, table_keeps, empty_keeps}
+use Rattle.promises.proofs.Holdings.{in_places, in_table, missing, kept_in_row, kept_in_all, table_keeps, empty_keeps}
 use Rattle.promises.proofs.OneCall.{no_frames, dropped_in, call_balances}
 use Rattle.promises.proofs.Bytes.{dropped_measured, none_missing_at, row_holds, places_hold}
 
@@ -96,7 +96,7 @@ history_told t (l ∷ more) good =
     )
 
 -- Call by call: what a row is said to hold stands in its places, so a close drops as many bytes as it answers.
-dropped_as_told : (c : Card) (x : Call) → keptInAll missing c ≡ 0 → dropped_in length in_table c x ≡ length (dropped_by c x)
+dropped_as_told : (c : Card) (x : Call) → kept_in_all missing c ≡ 0 → dropped_in length in_table c x ≡ length (dropped_by c x)
 unfolding answer closed
 dropped_as_told c (opens q) none = refl
 dropped_as_told c (closes id) none =
@@ -104,8 +104,8 @@ dropped_as_told c (closes id) none =
     ∙ sym (dropped_measured length by_length c (closes id))
   where
     by : (n : ℕ) → first (close_refusals c.table id) ≡ n →
-        cond (eqb (closed_by n c.table id).code 0) (keptInRow in_table c (find c.table id)) 0
-        ≡ cond (eqb (closed_by n c.table id).code 0) (keptInRow (in_places length) c (find c.table id)) 0
+        cond (eqb (closed_by n c.table id).code 0) (kept_in_row in_table c (find c.table id)) 0
+        ≡ cond (eqb (closed_by n c.table id).code 0) (kept_in_row (in_places length) c (find c.table id)) 0
     by zero e = sym (row_holds c (find c.table id) (closes-there c.table id e).there none)
     by (suc n) e = when_refused (suc n) (λ z. omega arith) _ 0 ∙ sym (when_refused (suc n) (λ z. omega arith) _ 0)
 dropped_as_told c (hands a) none = refl

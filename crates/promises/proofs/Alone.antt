@@ -9,7 +9,7 @@ use Rattle.packet.specs.Header.{Packet, sub}
 use Rattle.table.specs.declared.Kind.{Kind}
 use Rattle.table.specs.declared.Kind.TheVariants as kind
 use Rattle.table.specs.declared.Terms.{Terms}
-use Rattle.card.specs.Hear.{Heard, judged_of, hear, recordAfter}
+use Rattle.card.specs.Hear.{Heard, judged_of, hear, record_after}
 use Rattle.promises.proofs.Readings.{Reading, frames_read}
 
 -- the terms of a session opened as this kind, and as PSP
@@ -28,7 +28,7 @@ read_alone w terms f held [] = []
 read_alone w terms f held (p ∷ more) =
     let h = heard_alone terms f held p in
     cond (judged_of f (sub p)).late (w.of_late ++ read_alone w terms f held more)
-    (w.of_heard h ++ read_alone w terms (recordAfter h) h.fate.held more)
+    (w.of_heard h ++ read_alone w terms (record_after h) h.fate.held more)
 
 abbrev pub frames_alone : Flow → List ℕ → List Packet → List (List ℕ)
 frames_alone f held packets = read_alone frames_read psp_terms f held packets

@@ -17,19 +17,19 @@ use Rattle.card.specs.History.{Card, Call, opens, closes, hands, answer, after, 
 use Rattle.promises.specs.Account.{taken_by, delivered_by, dropped_by, gathered, bytes_of_row, bytes_held, held_in_all, times, EachByte}
 use Rattle.promises.proofs.Good.{Good, good-empty, good-after}
 use Rattle.promises.proofs.Measures.{Measure, by_length, by_value, measure_up_to}
-use Rattle.promises.proofs.Holdings.{in_places, places_keep, in_table, missing, missing_keeps, kept_at, keptInRow, keptInAll}
+use Rattle.promises.proofs.Holdings.{in_places, places_keep, in_table, missing, missing_keeps, kept_at, kept_in_row, kept_in_all}
 use Rattle.promises.proofs.Holdings.{empty_keeps}
 use Rattle.promises.proofs.OneCall.{dropped_in, call_balances}
 
 module _ (m : List ℕ → ℕ) (is : Measure m) where
-  row_measured : (c : Card) (r : ℕ) → m (bytes_of_row c r) ≡ keptInRow (in_places m) c r
+  row_measured : (c : Card) (r : ℕ) → m (bytes_of_row c r) ≡ kept_in_row (in_places m) c r
   row_measured c r = measure_up_to m is (λ k. part c.holding (place_of r k) (flow_at (row_at c.table r) k).held) flows
 
-  held_measured : (c : Card) → m (bytes_held c) ≡ keptInAll (in_places m) c
+  held_measured : (c : Card) → m (bytes_held c) ≡ kept_in_all (in_places m) c
   held_measured c =
-      measure_up_to m is (bytes_of_row c) rows ∙ sum_agree (λ r. m (bytes_of_row c r)) (keptInRow (in_places m) c) rows (λ r l. row_measured c r)
+      measure_up_to m is (bytes_of_row c) rows ∙ sum_agree (λ r. m (bytes_of_row c r)) (kept_in_row (in_places m) c) rows (λ r l. row_measured c r)
 
-  dropped_by_lem : (accepts : Bool) (c : Card) (r : ℕ) → m (cond accepts (bytes_of_row c r) []) ≡ cond accepts (keptInRow (in_places m) c r) 0
+  dropped_by_lem : (accepts : Bool) (c : Card) (r : ℕ) → m (cond accepts (bytes_of_row c r) []) ≡ cond accepts (kept_in_row (in_places m) c r) 0
   dropped_by_lem true c r = row_measured c r
   dropped_by_lem false c r = is.none
 
@@ -67,23 +67,23 @@ each_byte holding calls value =
     )
 
 -- No byte is missing in a place at any time: an account in which no byte counts.
-none_missing : (c : Card) (calls : List Call) → Good c → keptInAll missing c ≡ 0 → keptInAll missing (after_all c calls) ≡ 0
+none_missing : (c : Card) (calls : List Call) → Good c → kept_in_all missing c ≡ 0 → kept_in_all missing (after_all c calls) ≡ 0
 unfolding after_all
 none_missing c [] good none = none
 none_missing c (x ∷ more) good none =
     none_missing (after c x) more (good-after c x good) (omega (arith, call_balances missing_keeps c good x, none))
 
-there-and_missing : (c : Card) (r : ℕ) → keptInRow (in_places length) c r + keptInRow missing c r ≡ keptInRow in_table c r
+there-and_missing : (c : Card) (r : ℕ) → kept_in_row (in_places length) c r + kept_in_row missing c r ≡ kept_in_row in_table c r
 there-and_missing c r =
     sum_both (kept_at (in_places length) c r) (kept_at missing c r) (kept_at in_table c r) flows
     (λ k o. omega (arith, part-short c.holding (place_of r k) (flow_at (row_at c.table r) k).held))
 
-pub none_missing_at : (holding : List ℕ) (calls : List Call) → keptInAll missing (after_all (empty_card holding) calls) ≡ 0
+pub none_missing_at : (holding : List ℕ) (calls : List Call) → kept_in_all missing (after_all (empty_card holding) calls) ≡ 0
 none_missing_at holding calls = none_missing (empty_card holding) calls (good-empty holding) (empty_keeps missing_keeps holding)
 
 -- so each row's places have what the table says
-pub row_holds : (c : Card) (r : ℕ) → r < rows → keptInAll missing c ≡ 0 → keptInRow (in_places length) c r ≡ keptInRow in_table c r
-row_holds c r l none = omega (arith, there-and_missing c r, sum-within (keptInRow missing c) r rows l)
+pub row_holds : (c : Card) (r : ℕ) → r < rows → kept_in_all missing c ≡ 0 → kept_in_row (in_places length) c r ≡ kept_in_row in_table c r
+row_holds c r l none = omega (arith, there-and_missing c r, sum-within (kept_in_row missing c) r rows l)
 
 pub places_hold : (holding : List ℕ) (calls : List Call) →
     length (bytes_held (after_all (empty_card holding) calls)) ≡ held_in_all (after_all (empty_card holding) calls).table
@@ -92,6 +92,6 @@ places_hold holding calls =
     omega (
       arith,
       held_measured length by_length c,
-      sum_both (keptInRow (in_places length) c) (keptInRow missing c) (keptInRow in_table c) rows (λ r l. there-and_missing c r),
+      sum_both (kept_in_row (in_places length) c) (kept_in_row missing c) (kept_in_row in_table c) rows (λ r l. there-and_missing c r),
       none_missing_at holding calls,
     )

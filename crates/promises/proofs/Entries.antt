@@ -23,7 +23,7 @@ use Rattle.table.specs.declared.Terms.{Terms}
 use Rattle.table.specs.Rows.{rows, is_dmpt, find}
 use Rattle.table.specs.Calls.{is_open}
 use Rattle.join.specs.Slices.{most_bytes, most_frames}
-use Rattle.card.specs.Hear.{recordAfter, hear}
+use Rattle.card.specs.Hear.{record_after, hear}
 use Rattle.card.specs.History.{Arrival, Call, hands, lent_with, frames_of, answer}
 use Rattle.card.proofs.Step.{one_flow_step}
 use Rattle.capture.specs.File.{Entry, head_length, entry_count, nth_entry, entries}
@@ -170,7 +170,7 @@ module _ (session flow : ℕ) where
           let long = same-room z in
           record {
             good = good-after r.card x h.good;
-            its_record = recordAfter heard;
+            its_record = record_after heard;
             held = heard.fate.held;
             stands =
                 (stands_heard r.card (lent r p) session flow terms h.its_record h.held h.good inside h.stands

@@ -50,12 +50,12 @@ verdicts_read_lem kind session flow c (x ∷ more) =
 
 module _ (terms : Terms) (start : ℕ) (packets : List Packet)
     (by_place : (f : Flow) (x : ℕ) → Counts packets x → judged_of f (sub (packet_at packets x)) ≡ judge f (number_at start x)) where
-  abbrev verdictsAlone : Flow → List ℕ → List ℕ → List Verdict
-  verdictsAlone f held xs = read_alone verdicts_read terms f held (map (packet_at packets) xs)
+  abbrev verdicts_alone : Flow → List ℕ → List ℕ → List Verdict
+  verdicts_alone f held xs = read_alone verdicts_read terms f held (map (packet_at packets) xs)
 
   -- `expected` is the place that the flow waits for
   verdicts_along : (f : Flow) (expected : ℕ) (held : List ℕ) (xs : List ℕ) → f.heard ≡ heard_mark → f.expected ≡ number_at start expected →
-      Each (Counts packets) xs → WithinBound expected xs → verdictsAlone f held xs ≡ verdicts_from expected xs
+      Each (Counts packets) xs → WithinBound expected xs → verdicts_alone f held xs ≡ verdicts_from expected xs
   unfolding read_alone verdicts_from
   verdicts_along f expected held [] hears waits sent within = refl
   verdicts_along f expected held (x ∷ xs) hears waits sent within =
@@ -64,10 +64,10 @@ module _ (terms : Terms) (start : ℕ) (packets : List Packet)
       (leb expected x) refl
     where
       pick : ((g : Flow) (held' : List ℕ) → g.heard ≡ heard_mark → g.expected ≡ number_at start (suc x) → WithinBound (suc x) xs →
-          verdictsAlone g held' xs ≡ verdicts_from (suc x) xs) →
-          (WithinBound expected xs → verdictsAlone f held xs ≡ verdicts_from expected xs) →
+          verdicts_alone g held' xs ≡ verdicts_from (suc x) xs) →
+          (WithinBound expected xs → verdicts_alone f held xs ≡ verdicts_from expected xs) →
           (t : Bool) → leb expected x ≡ t →
-          verdictsAlone f held (x ∷ xs)
+          verdicts_alone f held (x ∷ xs)
           ≡ cond t (record { code = 0; gap = x - expected } ∷ verdicts_from (suc x) xs)
           (record { code = 12; gap = 0 } ∷ verdicts_from expected xs)
       pick on stay true e =
@@ -84,7 +84,7 @@ module _ (terms : Terms) (start : ℕ) (packets : List Packet)
           ∙ ap (λ (r : List Verdict). record { code = 12; gap = 0 } ∷ r) (stay (rw m at within.2))
 
   -- a fresh flow takes any first place
-  window_verdicts : (xs : List ℕ) → Each (Counts packets) xs → Window xs → verdictsAlone fresh [] xs ≡ verdicts_of xs
+  window_verdicts : (xs : List ℕ) → Each (Counts packets) xs → Window xs → verdicts_alone fresh [] xs ≡ verdicts_of xs
   unfolding read_alone verdicts_of
   window_verdicts [] sent window = refl
   window_verdicts (x ∷ xs) sent window =

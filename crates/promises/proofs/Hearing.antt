@@ -12,7 +12,7 @@ use Rattle.flow.specs.Flow.{heard_mark, accepted, too_late}
 use Rattle.packet.specs.Header.{Packet, sub, s_set}
 use Rattle.packet.specs.Segments.{entry_width}
 use Rattle.table.specs.declared.Terms.{Terms}
-use Rattle.card.specs.Hear.{Heard, judged_of, fate_of, hear, recordAfter}
+use Rattle.card.specs.Hear.{Heard, judged_of, fate_of, hear, record_after}
 use Rattle.sender.specs.Rules.{segments_of}
 use Rattle.promises.proofs.Readings.{Reading, frames_read}
 use Rattle.promises.proofs.Alone.{psp_terms, read_alone, frames_alone}
@@ -30,7 +30,7 @@ module _ {A : Type 0} (w : Reading A) (terms : Terms) (f : Flow) (held : List �
   abbrev by : Judged → List A
   by j =
       let h = heard_as terms held packet j in
-      cond j.late (w.of_late ++ read_alone w terms f held more) (w.of_heard h ++ read_alone w terms (recordAfter h) h.fate.held more)
+      cond j.late (w.of_late ++ read_alone w terms f held more) (w.of_heard h ++ read_alone w terms (record_after h) h.fate.held more)
 
   pub alone_late : judged_of f (sub packet) ≡ too_late f →
       read_alone w terms f held (packet ∷ more) ≡ w.of_late ++ read_alone w terms f held more
@@ -39,7 +39,7 @@ module _ {A : Type 0} (w : Reading A) (terms : Terms) (f : Flow) (held : List �
 
   pub alone_heard : (n gap : ℕ) → judged_of f (sub packet) ≡ accepted f n gap →
       let h = heard_as terms held packet (accepted f n gap) in
-      read_alone w terms f held (packet ∷ more) ≡ w.of_heard h ++ read_alone w terms (recordAfter h) h.fate.held more
+      read_alone w terms f held (packet ∷ more) ≡ w.of_heard h ++ read_alone w terms (record_after h) h.fate.held more
   unfolding read_alone hear
   alone_heard n gap e = ap by e
 

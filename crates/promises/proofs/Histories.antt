@@ -22,7 +22,7 @@ use Rattle.table.specs.declared.Kind.TheVariants as kind
 use Rattle.table.specs.declared.Terms.{Terms}
 use Rattle.table.specs.Rows.{number_of}
 use Rattle.join.specs.Slices.{most_frames, most_bytes, as_slices}
-use Rattle.card.specs.Hear.{judged_of, recordAfter}
+use Rattle.card.specs.Hear.{judged_of, record_after}
 use Rattle.card.specs.Receive.{holding_size, too_small, packet_refusals}
 use Rattle.card.specs.History.{Card, Arrival, Call, opens, closes, hands, answer, after}
 use Rattle.octets.proofs.Stretches.{cut-part-none}
@@ -103,7 +103,7 @@ module _ (kind : Kind) (session flow : ℕ) (inside : flow < flows) where
           twelve e = omega arith
 
       read_heard : (judged_of f (sub packet)).late ≡ false →
-          Hears (after c x) (recordAfter (heard_alone terms f held packet)) (heard_alone terms f held packet).fate.held
+          Hears (after c x) (record_after (heard_alone terms f held packet)) (heard_alone terms f held packet).fate.held
           × (w.of_answer (answer c x) ≡ w.of_heard (heard_alone terms f held packet))
       read_heard in_time_lem =
           let by : ((answer c x).code ≡ 0) = its_code ∙ ap (λ (b : Bool). cond b 12 0) in_time_lem in
@@ -137,7 +137,7 @@ module _ (kind : Kind) (session flow : ℕ) (inside : flow < flows) where
         judged : (late : Bool) → (judged_of f (sub a.packet)).late ≡ late →
             w.of_answer (answer c (hands a)) ++ read_out w kind session flow (after c (hands a)) more
             ≡ cond late (w.of_late ++ read_alone w terms f held (packets_to kind session flow more))
-            (w.of_heard (heard_alone terms f held a.packet) ++ read_alone w terms (recordAfter (heard_alone terms f held a.packet))
+            (w.of_heard (heard_alone terms f held a.packet) ++ read_alone w terms (record_after (heard_alone terms f held a.packet))
             (heard_alone terms f held a.packet).fate.held (packets_to kind session flow more))
         judged true late =
             let none = read_late c a f held h e (room e) passing.0 w late in
@@ -145,7 +145,7 @@ module _ (kind : Kind) (session flow : ℕ) (inside : flow < flows) where
         judged false late =
             let heard = read_heard c a f held h e (room e) passing.0 w late in
             rw heard.1 (ap (λ (l : List A). w.of_heard (heard_alone terms f held a.packet) ++ l)
-            (goes (after c (hands a)) (recordAfter (heard_alone terms f held a.packet))
+            (goes (after c (hands a)) (record_after (heard_alone terms f held a.packet))
             (heard_alone terms f held a.packet).fate.held heard.0))
 
     goes_all : (calls : List Call) → StaysOpen session calls → Each (λ x. hands_to kind session flow x ≡ true → Room x) calls →

@@ -73,20 +73,20 @@ module _ (kept : List ℕ → ℕ → Flow → ℕ) where
   abbrev pub kept_at : Card → ℕ → ℕ → ℕ
   kept_at c r k = kept c.holding (place_of r k) (flow_at (row_at c.table r) k)
 
-  abbrev pub keptInRow : Card → ℕ → ℕ
-  keptInRow c r = sum_to (kept_at c r) flows
+  abbrev pub kept_in_row : Card → ℕ → ℕ
+  kept_in_row c r = sum_to (kept_at c r) flows
 
-  abbrev pub keptInAll : Card → ℕ
-  keptInAll c = sum_to (keptInRow c) rows
+  abbrev pub kept_in_all : Card → ℕ
+  kept_in_all c = sum_to (kept_in_row c) rows
 
   -- one flow of one row replaced: all that was kept, but for that flow
   pub flow_replaced : (c new : Card) (r k : ℕ) → r < rows → k < flows →
       ((r' j : ℕ) → r' < rows → j < flows → (r' ≡ r → j ≡ k → ⊥) → kept_at new r' j ≡ kept_at c r' j) →
-      keptInAll new + kept_at c r k ≡ keptInAll c + kept_at new r k
+      kept_in_all new + kept_at c r k ≡ kept_in_all c + kept_at new r k
   flow_replaced c new r k there inside others =
       omega (
         arith,
-        sum_but_one (keptInRow c) (keptInRow new) r rows there
+        sum_but_one (kept_in_row c) (kept_in_row new) r rows there
             (λ r' l other. sum_agree (kept_at new r') (kept_at c r') flows (λ j o. others r' j l o (λ e d. other e))),
         sum_but_one (kept_at c r) (kept_at new r) k flows inside (λ j o other. others r j there o (λ e d. other d)),
       )
@@ -100,21 +100,21 @@ pub fresh-bare : Bare closed_row
 fresh-bare k l = ap (λ (f : Flow). f.held) (get_or-replicate flows k fresh fresh l)
 
 module _ {m : List ℕ → ℕ} {kept : List ℕ → ℕ → Flow → ℕ} (w : Keeps m kept) where
-  pub bare_row : (c : Card) (r : ℕ) → Bare (row_at c.table r) → keptInRow kept c r ≡ 0
+  pub bare_row : (c : Card) (r : ℕ) → Bare (row_at c.table r) → kept_in_row kept c r ≡ 0
   bare_row c r bare =
       sum-zero (kept_at kept c r) flows (λ k l. w.nothing c.holding (place_of r k) (flow_at (row_at c.table r) k) (bare k l))
 
   -- a row replaced by one that holds nothing: all that was kept, but for that row
   pub row_replaced : (c : Card) (r : ℕ) (row : Row) → Shaped c.table → r < rows → Bare row →
-      keptInAll kept (record { table = with_row c.table r row; holding = c.holding }) + keptInRow kept c r ≡ keptInAll kept c
+      kept_in_all kept (record { table = with_row c.table r row; holding = c.holding }) + kept_in_row kept c r ≡ kept_in_all kept c
   row_replaced c r row shaped there bare =
       let new : Card = record { table = with_row c.table r row; holding = c.holding } in
       let now : row_at new.table r ≡ row = get_or-set_same c.table.rows r row no_row (omega (arith, shaped.six)) in
-      let none : keptInRow kept new r ≡ 0 = bare_row new r (rw now bare) in
+      let none : kept_in_row kept new r ≡ 0 = bare_row new r (rw now bare) in
       omega (
         arith,
         none,
-        sum_but_one (keptInRow kept c) (keptInRow kept new) r rows there
+        sum_but_one (kept_in_row kept c) (kept_in_row kept new) r rows there
             (λ r' l other.
             ap (λ (x : Row). sum_to (λ k. kept c.holding (place_of r' k) (flow_at x k)) flows)
             (get_or-set_other c.table.rows r r' row no_row other)),
@@ -122,9 +122,9 @@ module _ {m : List ℕ → ℕ} {kept : List ℕ → ℕ → Flow → ℕ} (w : 
 
 -- an empty table keeps nothing
 pub empty_keeps : {m : List ℕ → ℕ} {kept : List ℕ → ℕ → Flow → ℕ} → Keeps m kept → (holding : List ℕ) →
-    keptInAll kept (empty_card holding) ≡ 0
+    kept_in_all kept (empty_card holding) ≡ 0
 empty_keeps {m} {kept} w holding =
-    sum-zero (keptInRow kept (empty_card holding)) rows
+    sum-zero (kept_in_row kept (empty_card holding)) rows
     (λ r l.
     bare_row w (empty_card holding) r
     (rw (get_or-replicate rows r closed_row no_row l) fresh-bare))

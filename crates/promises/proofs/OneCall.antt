@@ -24,17 +24,17 @@ use Rattle.card.proofs.Accepted.{received-refused}
 use Rattle.card.proofs.Step.{frames_in}
 use Rattle.promises.specs.Account.{taken_by, delivered_by, dropped_by, packet_body}
 use Rattle.promises.proofs.Good.{Good}
-use Rattle.promises.proofs.Holdings.{Keeps, keptInRow, keptInAll, fresh-bare, bare_row, row_replaced}
+use Rattle.promises.proofs.Holdings.{Keeps, kept_in_row, kept_in_all, fresh-bare, bare_row, row_replaced}
 use Rattle.promises.proofs.OnePacket.{packet_balances}
 
 -- what a call drops: a close all that its row keeps, a packet what the rules say
 abbrev pub dropped_in : (List ℕ → ℕ) → (List ℕ → ℕ → Flow → ℕ) → Card → Call → ℕ
 dropped_in m kept c (opens q) = 0
-dropped_in m kept c (closes id) = cond (eqb (answer c (closes id)).code 0) (keptInRow kept c (find c.table id)) 0
+dropped_in m kept c (closes id) = cond (eqb (answer c (closes id)).code 0) (kept_in_row kept c (find c.table id)) 0
 dropped_in m kept c (hands a) = m (dropped_by c (hands a))
 
 abbrev pub Balances : (List ℕ → ℕ) → (List ℕ → ℕ → Flow → ℕ) → Card → Call → Type 0
-Balances m kept c x = m (taken_by c x) + keptInAll kept c ≡ m (delivered_by c x) + dropped_in m kept c x + keptInAll kept (after c x)
+Balances m kept c x = m (taken_by c x) + kept_in_all kept c ≡ m (delivered_by c x) + dropped_in m kept c x + kept_in_all kept (after c x)
 
 -- where no frame is reported, none is found
 pub no_frames : (lengths out : List ℕ) → joined (frames_found 0 lengths out) ≡ []
@@ -43,7 +43,7 @@ no_frames lengths out = ap joined (cut-part-none lengths out) ∙ joined-none
 module _ {m : List ℕ → ℕ} {kept : List ℕ → ℕ → Flow → ℕ} (w : Keeps m kept) (c : Card) (good : Good c) where
   -- Opening takes a free row, and a free row of a table that is not broken holds nothing.
   opens_by : (n : ℕ) (q : Request) → first (open_refusals c.table q) ≡ n →
-      keptInAll kept (record { table = (opened_by n c.table q).table; holding = c.holding }) ≡ keptInAll kept c
+      kept_in_all kept (record { table = (opened_by n c.table q).table; holding = c.holding }) ≡ kept_in_all kept c
   opens_by zero q e =
       let r = lowest_free c.table in
       let there : r < rows = (opens-there c.table q e).room in
@@ -57,16 +57,16 @@ module _ {m : List ℕ → ℕ} {kept : List ℕ → ℕ → Flow → ℕ} (w : 
 
   -- Closing drops what its row keeps.
   closes_by : (n : ℕ) (id : ℕ) → first (close_refusals c.table id) ≡ n →
-      keptInAll kept (record { table = (closed_by n c.table id).table; holding = c.holding })
-      + cond (eqb (closed_by n c.table id).code 0) (keptInRow kept c (find c.table id)) 0
-      ≡ keptInAll kept c
+      kept_in_all kept (record { table = (closed_by n c.table id).table; holding = c.holding })
+      + cond (eqb (closed_by n c.table id).code 0) (kept_in_row kept c (find c.table id)) 0
+      ≡ kept_in_all kept c
   closes_by zero id e =
       let r = find c.table id in
       let passed = none-applies (close_refusals c.table id) refl e in
       let there : r < rows =
       ltb-true r rows (not-false (is_open c.table id) (or-false-left (not (is_open c.table id)) (eqb id 0) passed.1.0)) in
       row_replaced w c r closed_row good.shaped there fresh-bare
-  closes_by (suc n) id e = omega (arith, when_refused (suc n) (λ d. omega arith) (keptInRow kept c (find c.table id)) 0)
+  closes_by (suc n) id e = omega (arith, when_refused (suc n) (λ d. omega arith) (kept_in_row kept c (find c.table id)) 0)
 
   -- A packet.
   module _ (a : Arrival) where
@@ -104,7 +104,7 @@ module _ {m : List ℕ → ℕ} {kept : List ℕ → ℕ → Flow → ℕ} (w : 
           ap m (when_refused outcome.answer.code some body []),
           ap m (when_refused outcome.answer.code some fate.dropped []),
           ap (λ (o : Outcome). m (joined (frames_in o))) same,
-          ap (λ (o : Outcome). keptInAll kept (record { table = o.answer.table; holding = o.slices.holding })) same,
+          ap (λ (o : Outcome). kept_in_all kept (record { table = o.answer.table; holding = o.slices.holding })) same,
         )
 
   pub call_balances : (x : Call) → Balances m kept c x

@@ -17,7 +17,7 @@ use Rattle.table.specs.declared.Row.{Row}
 use Rattle.table.specs.Rows.{rows, row_at, flow_at, terms_at}
 use Rattle.table.proofs.Keeping.{flows-whole}
 use Rattle.join.specs.Slices.{Slices}
-use Rattle.card.specs.Hear.{Heard, recordAfter}
+use Rattle.card.specs.Hear.{Heard, record_after}
 use Rattle.card.specs.Receive.{Outcome, place_of, row_of, flow_to, flow_of, held_by, heard_by, received}
 use Rattle.card.specs.History.{Card, Arrival, lent_with}
 use Rattle.card.proofs.Taking.{large-enough}
@@ -27,7 +27,7 @@ use Rattle.card.proofs.Step.{frames_in, StepOf, one_flow_step}
 use Rattle.promises.specs.Account.{packet_body}
 use Rattle.promises.proofs.Good.{Good}
 use Rattle.promises.proofs.Fates.{tells, heard_tells}
-use Rattle.promises.proofs.Holdings.{Keeps, kept_at, keptInAll, flow_replaced}
+use Rattle.promises.proofs.Holdings.{Keeps, kept_at, kept_in_all, flow_replaced}
 
 module _ {m : List ℕ → ℕ} {kept : List ℕ → ℕ → Flow → ℕ} (w : Keeps m kept) (c : Card) (good : Good c) (a : Arrival) where
   abbrev packet : Packet
@@ -95,7 +95,7 @@ module _ {m : List ℕ → ℕ} {kept : List ℕ → ℕ → Flow → ℕ} (w : 
     kept_now : kept_at kept afterwards r flow ≡ m heard.fate.held
     kept_now =
         ap (kept outcome.slices.holding (place_of r flow)) step.its_record
-        ∙ w.inside outcome.slices.holding (place_of r flow) (recordAfter heard)
+        ∙ w.inside outcome.slices.holding (place_of r flow) (record_after heard)
         (omega (
           arith,
           (large-enough slices passed.large).holding-enough,
@@ -110,8 +110,8 @@ module _ {m : List ℕ → ℕ} {kept : List ℕ → ℕ → Flow → ℕ} (w : 
     told =
         heard_tells m w.measure (terms_at c.table r) (flow_of c.table r behind) held behind
 
-    pub packet_balances : m (packet_body (terms_at c.table r).kind behind) + keptInAll kept c
-        ≡ m (joined (frames_in outcome)) + m heard.fate.dropped + keptInAll kept afterwards
+    pub packet_balances : m (packet_body (terms_at c.table r).kind behind) + kept_in_all kept c
+        ≡ m (joined (frames_in outcome)) + m heard.fate.dropped + kept_in_all kept afterwards
     packet_balances =
         omega (
           arith,

@@ -26,7 +26,7 @@ use Rattle.capture.proofs.Writing.{file_length_lem}
 use Rattle.capture.proofs.ReadsBack.{length_reads_back, bodies-short, written_reads, written-sound}
 use Rattle.pcap.specs.declared.Addresses.{Addresses}
 use Rattle.pcap.specs.File.{bad_header, records, last_place, pcap_of}
-use Rattle.pcap.specs.Judge.{is_udp, dataAt, dataLength, entry_of}
+use Rattle.pcap.specs.Judge.{is_udp, data_at, data_length, entry_of}
 use Rattle.pcap.specs.Import.{is_for, entries_of, skipped, all_entries, import_refusals, imported_by, imported}
 use Rattle.pcap.specs.Export.{is_data, export_of}
 use Rattle.pcap.specs.WellFormed.{WellFormedFile}
@@ -36,24 +36,24 @@ use Rattle.pcap.proofs.ReadsBack.{header_reads_back, records_read_back, walk_end
 use Rattle.pcap.proofs.ComesBack.{export_header, export_ends, export_comes_back, export_none-skipped}
 use Rattle.pcap.proofs.Account.{adds_up, stretches}
 use Rattle.pcap.proofs.Outcomes.{import_code, import_done, importable, import_at_front, export_code, exportable, export_at_front}
-use Rattle.promises.specs.Pcap.{Addressed, capture_in, dataIn, PcapComesBack, ExportWellFormed, NothingInvented}
+use Rattle.promises.specs.Pcap.{Addressed, capture_in, data_in, PcapComesBack, ExportWellFormed, NothingInvented}
 use Rattle.promises.specs.Pcap.{ImportNeverInvents, ImportAddsUp, EitherOrder, ReaderHandsOut}
 
 -- The data entries of a sound capture are no more than it has, and the file of them is no longer.
 module _ (capture : List ℕ) (passes : file_refusal capture ≡ 0) where
-  few_data : length (dataIn capture) ≤ most_entries
+  few_data : length (data_in capture) ≤ most_entries
   unfolding entries
   few_data =
       let n = entry_count head_length capture in
       let all = up_to (nth_entry capture) n in
       omega (arith, those-few is_data all, length-up_to (nth_entry capture) n, (is_sound capture passes).few)
 
-  short_data : length (file_of (dataIn capture)) ≤ longest_file
+  short_data : length (file_of (data_in capture)) ≤ longest_file
   short_data =
       let all = entries capture in
       omega (
         arith,
-        file_length_lem (dataIn capture),
+        file_length_lem (data_in capture),
         file_length_lem all,
         those-few is_data all,
         joined-those-short is_data body_of all,
@@ -63,7 +63,7 @@ module _ (capture : List ℕ) (passes : file_refusal capture ≡ 0) where
 
 -- An import of an export of a sound capture.
 module _ (by : Addresses) (addressed : Addressed by) (capture room : List ℕ) (passes : file_refusal capture ≡ 0)
-    (enough : length (file_of (dataIn capture)) ≤ length room) where
+    (enough : length (file_of (data_in capture)) ≤ length room) where
   abbrev es : List Entry
   es = entries capture
 
@@ -73,10 +73,10 @@ module _ (by : Addresses) (addressed : Addressed by) (capture room : List ℕ) (
   short : Each (λ e. length e.body ≤ 60000) es
   short = bodies-short capture passes
 
-  comes_back : entries_of (records file) ≡ dataIn capture
+  comes_back : entries_of (records file) ≡ data_in capture
   comes_back = export_comes_back by addressed.sender_whole addressed.receiver_whole es short
 
-  all_there : all_entries [] file ≡ dataIn capture
+  all_there : all_entries [] file ≡ data_in capture
   unfolding all_entries
   all_there = comes_back
 
@@ -108,14 +108,14 @@ module _ (by : Addresses) (addressed : Addressed by) (capture room : List ℕ) (
       ≡ record {
         answer = record {
           code = 0;
-          length = length (file_of (dataIn capture));
-          packets = length (dataIn capture);
+          length = length (file_of (data_in capture));
+          packets = length (data_in capture);
           foreign = 0;
           misfits = 0;
           fragments = 0;
           others = 0;
         };
-        output = put room 0 (file_of (dataIn capture));
+        output = put room 0 (file_of (data_in capture));
       }
   unfolding imported_by
   imported_back =
@@ -139,7 +139,7 @@ pub export_well_formed : ExportWellFormed
 export_well_formed by capture output addressed done =
     let z = sym (export_code by capture output) ∙ done in
     let passes = (exportable by capture output z).sound in
-    subst (λ (file : List ℕ). WellFormedFile file (length (dataIn capture))) (sym (export_at_front by capture output z))
+    subst (λ (file : List ℕ). WellFormedFile file (length (data_in capture))) (sym (export_at_front by capture output z))
     (export_formed by addressed.sender_whole addressed.receiver_whole (entries capture) (bodies-short capture passes))
 
 -- What an import has written.
@@ -167,11 +167,11 @@ module _ (P : Entry → Type 0) (always : (r : List ℕ) → P (entry_of r)) whe
 
 entries-right : (packets : List (List ℕ)) → Each Right (entries_of packets)
 unfolding entry_of
-entries-right = each_of Right (λ r. right_by (is_udp r) (part r (dataAt r) (dataLength r)))
+entries-right = each_of Right (λ r. right_by (is_udp r) (part r (data_at r) (data_length r)))
 
 entries_data : (packets : List (List ℕ)) → Each (λ e. is_data e ≡ true) (entries_of packets)
 unfolding entry_of
-entries_data = each_of (λ e. is_data e ≡ true) (λ r. data_by (is_udp r) (part r (dataAt r) (dataLength r)))
+entries_data = each_of (λ e. is_data e ≡ true) (λ r. data_by (is_udp r) (part r (data_at r) (data_length r)))
 
 module _ (sessions file output : List ℕ) (done : (imported sessions file output).answer.code ≡ 0) where
   not-refused : first (import_refusals sessions file (length output)) ≡ 0

@@ -27,7 +27,7 @@ use Rattle.sender.proofs.Series.{code_is, sends_all}
 use Rattle.sender.proofs.Ways.{keeps_ways, numbers_ways}
 use Rattle.promises.specs.Demand.{Sending, Run}
 use Rattle.promises.specs.RoundTrip.{packets_given, line_of, SenderKeepsRules, SendingsGoOn, KeepsLimit, sending_of, RoundTrip}
-use Rattle.promises.proofs.AllArrive.{in_aRow, all_packets, in_bound, all_whole, all_kept}
+use Rattle.promises.proofs.AllArrive.{in_a_row, all_packets, in_bound, all_whole, all_kept}
 use Rattle.promises.proofs.Demand.{demand_3}
 
 -- What the sender sends is a sending of these frames.
@@ -140,7 +140,7 @@ round_trip =
             holding = o.holding;
             before = o.before;
             calls = o.calls;
-            arrivals = in_aRow 0 (length (packets_given g));
+            arrivals = in_a_row 0 (length (packets_given g));
             opens_now = o.opens_now;
             stays_open = o.stays_open;
             long_enough = o.long_enough;

@@ -16,7 +16,7 @@ use Rattle.table.specs.declared.Terms.{Terms}
 use Rattle.table.specs.Rows.{terms_of}
 use Rattle.table.specs.Calls.{fresh_row}
 use Rattle.join.specs.Slices.{most_bytes, most_frames}
-use Rattle.card.specs.Hear.{Heard, flow_in, judged_of, hear, recordAfter}
+use Rattle.card.specs.Hear.{Heard, flow_in, judged_of, hear, record_after}
 use Rattle.card.specs.Receive.{holding_size, packet_refusals}
 use Rattle.promises.specs.Isolation.{Own, gets, ends, Told}
 
@@ -55,7 +55,7 @@ changed k new old j = cond (eqb j k) new (old j)
 
 abbrev pub hearing : ℕ → Heard → Session → Session
 hearing k h a =
-    record { terms = a.terms; flow = changed k (recordAfter h) a.flow; held = changed k h.fate.held a.held }
+    record { terms = a.terms; flow = changed k (record_after h) a.flow; held = changed k h.fate.held a.held }
 
 -- what it is told of what was heard, of a refusal, and at its close
 abbrev pub told_of : Heard → Told

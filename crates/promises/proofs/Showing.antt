@@ -23,9 +23,9 @@ use Rattle.table.specs.declared.Terms.{Terms}
 use Rattle.table.specs.declared.Table.{Table}
 use Rattle.table.specs.Rows.{rows, row_at, flow_at, find}
 use Rattle.join.specs.Slices.{Slices}
-use Rattle.card.specs.Hear.{Heard, flow_in, judged_of, recordAfter}
+use Rattle.card.specs.Hear.{Heard, flow_in, judged_of, record_after}
 use Rattle.card.specs.Receive.{row_of, flow_to, flow_of, heard_by, packet_refusals, flow_refusals, carried_out, refused}
-use Rattle.card.specs.History.{Card, Arrival, Call, opens, hands, lent_with, dataAnswer, answer, after}
+use Rattle.card.specs.History.{Card, Arrival, Call, opens, hands, lent_with, data_answer, answer, after}
 use Rattle.card.proofs.Accepted.{Accepted, accepted, flow-there, received-code, received-accepted, received-refused}
 use Rattle.card.proofs.Taking.{large-enough}
 use Rattle.card.proofs.ByKind.{flow_in_row}
@@ -66,7 +66,7 @@ late_counts xs late late' same =
 
 -- Of a step carried out the session is told what the flow heard: it finds the bytes and the lengths at the front of the slices.
 carried-told : (r k : ℕ) (h : Heard) (t : Table) (s : Slices) → length (joined h.fate.delivered) ≤ length s.output →
-    length h.fate.delivered ≤ length s.lengths → told_by (dataAnswer (carried_out r k h t s)) ≡ told_of h
+    length h.fate.delivered ≤ length s.lengths → told_by (data_answer (carried_out r k h t s)) ≡ told_of h
 unfolding carried_out
 carried-told r k h t s bytes frames =
     let d = h.fate.delivered in
@@ -153,7 +153,7 @@ module _ (c : Card) (x : Arrival) (session : ℕ) (a : Session) (g : Good c) (v 
         another e = rw (of_it, ne_eqb (its) j (λ q. eqb-false j (its) e (sym q))) refl
 
         pick : (b : Bool) → eqb j (its) ≡ b →
-            Stands (after c (hands x)) session j a.terms (cond b (recordAfter (hears a behind)) (a.flow j))
+            Stands (after c (hands x)) session j a.terms (cond b (record_after (hears a behind)) (a.flow j))
             (cond b (hears a behind).fate.held (a.held j))
         pick true e =
             let q = eqb-true j (its) e in

@@ -24,7 +24,7 @@ use Rattle.table.specs.Rows.{rows, is_closed, no_row, terms_of, terms_at, row_at
 use Rattle.table.specs.Calls.{fresh_row, opened, closed}
 use Rattle.table.proofs.Keeping.{opened-there, opened-table, opened-code, opens, closed-table, closed-code, closes}
 use Rattle.card.specs.Receive.{place_of}
-use Rattle.card.specs.History.{Card, opens as opensCall, closes as closesCall, answer, after}
+use Rattle.card.specs.History.{Card, opens as opens_call, closes as closes_call, answer, after}
 use Rattle.promises.proofs.Good.{Good}
 
 -- A flow of an open session: the session's kind, the flow's record, and the bytes that it holds.
@@ -99,7 +99,7 @@ free_not t session r free = rw free refl
 
 pub open_stays : (c : Card) (q : Request) (session flow : ℕ) (terms : Terms) (f : Flow) (held : List ℕ) → Good c →
     Stands c session flow terms f held →
-    (opened c.table q).code ≡ 0 → Stands (after c (opensCall q)) session flow terms f held
+    (opened c.table q).code ≡ 0 → Stands (after c (opens_call q)) session flow terms f held
 unfolding after
 open_stays c q session flow terms f held g s z =
     let t = c.table in
@@ -120,7 +120,7 @@ in_another t id session l other =
 
 pub close_stays : (c : Card) (id session flow : ℕ) (terms : Terms) (f : Flow) (held : List ℕ) → Good c →
     Stands c session flow terms f held →
-    (id ≡ session → ⊥) → (closed c.table id).code ≡ 0 → Stands (after c (closesCall id)) session flow terms f held
+    (id ≡ session → ⊥) → (closed c.table id).code ≡ 0 → Stands (after c (closes_call id)) session flow terms f held
 unfolding after
 close_stays c id session flow terms f held g s other z =
     let t = c.table in
@@ -130,8 +130,8 @@ close_stays c id session flow terms f held g s other z =
     c.holding flow terms f held s)
 
 -- An open that is not refused begins with fresh flows.
-pub stands-opened : (c : Card) (q : Request) (flow : ℕ) → Good c → flow < flows → (answer c (opensCall q)).code ≡ 0 →
-    Stands (after c (opensCall q)) q.id flow (terms_of (fresh_row q)) fresh []
+pub stands-opened : (c : Card) (q : Request) (flow : ℕ) → Good c → flow < flows → (answer c (opens_call q)).code ≡ 0 →
+    Stands (after c (opens_call q)) q.id flow (terms_of (fresh_row q)) fresh []
 unfolding answer after
 stands-opened c q flow g l z =
     let t = c.table in

@@ -23,10 +23,10 @@ use Rattle.table.specs.Rows.{rows, row_at, flow_at, terms_of, terms_at, open_in,
 use Rattle.table.specs.Calls.{is_open}
 use Rattle.table.proofs.Keeping.{flows-whole}
 use Rattle.join.specs.Slices.{Slices}
-use Rattle.card.specs.Hear.{flow_in, judged_of, hear, recordAfter}
-use Rattle.card.specs.Receive.{too_small, row_of, flow_to, flow_of, heard_by, early_refusals, packet_refusals, flow_refusals, dataRefusals}
+use Rattle.card.specs.Hear.{flow_in, judged_of, hear, record_after}
+use Rattle.card.specs.Receive.{too_small, row_of, flow_to, flow_of, heard_by, early_refusals, packet_refusals, flow_refusals, data_refusals}
 use Rattle.card.specs.Receive.{received}
-use Rattle.card.specs.History.{Card, Arrival, Call, opens as opensCall, closes as closesCall, hands, lent_with, frames_of, answer, after}
+use Rattle.card.specs.History.{Card, Arrival, Call, opens as opens_call, closes as closes_call, hands, lent_with, frames_of, answer, after}
 use Rattle.card.proofs.Accepted.{received-code, accepted}
 use Rattle.card.proofs.ByKind.{numbered-packet}
 use Rattle.card.proofs.Step.{StepOf, one_flow_step}
@@ -139,7 +139,7 @@ module _ (c : Card) (a : Arrival) (g : Good c) (z : (answer c (hands a)).code �
 
     heard_stands : of_flow terms.kind session flow packet ≡ true →
         let h = hear terms f held (sub packet) in
-        Stands d session flow terms (recordAfter h) h.fate.held
+        Stands d session flow terms (record_after h) h.fate.held
         × (frames_of (answer c (hands a)) ≡ h.fate.delivered)
         × ((answer c (hands a)).gap ≡ h.judged.gap)
     unfolding after answer
@@ -172,10 +172,10 @@ pub stands_stay : (c : Card) (x : Call) (session flow : ℕ) (terms : Terms) (f 
     Stands c session flow terms f held → hands_to terms.kind session flow x ≡ false → closes_it session x ≡ false →
     Stands (after c x) session flow terms f held
 unfolding answer
-stands_stay c (opensCall q) session flow terms f held g l s other stays =
-    by_number c (opensCall q) session flow terms f held s (λ z. open_stays c q session flow terms f held g s z)
-stands_stay c (closesCall id) session flow terms f held g l s other stays =
-    by_number c (closesCall id) session flow terms f held s
+stands_stay c (opens_call q) session flow terms f held g l s other stays =
+    by_number c (opens_call q) session flow terms f held s (λ z. open_stays c q session flow terms f held g s z)
+stands_stay c (closes_call id) session flow terms f held g l s other stays =
+    by_number c (closes_call id) session flow terms f held s
     (λ z. close_stays c id session flow terms f held g s (eqb-false id session stays) z)
 stands_stay c (hands a) session flow terms f held g l s other stays =
     by_number c (hands a) session flow terms f held s (λ z. hands_stays c a g z session flow terms f held l s other)
@@ -184,7 +184,7 @@ stands_stay c (hands a) session flow terms f held g l s other stays =
 pub stands_heard : (c : Card) (a : Arrival) (session flow : ℕ) (terms : Terms) (f : Flow) (held : List ℕ) → Good c → flow < flows →
     Stands c session flow terms f held → of_flow terms.kind session flow a.packet ≡ true → (answer c (hands a)).code ≡ 0 →
     let h = hear terms f held (sub a.packet) in
-    Stands (after c (hands a)) session flow terms (recordAfter h) h.fate.held
+    Stands (after c (hands a)) session flow terms (record_after h) h.fate.held
     × (frames_of (answer c (hands a)) ≡ h.fate.delivered)
     × ((answer c (hands a)).gap ≡ h.judged.gap)
 stands_heard c a session flow terms f held g l s of_it z = heard_stands c a g z session flow terms f held l s of_it
@@ -206,7 +206,7 @@ hands-code c a session flow terms f held g s of_it large early passed =
     let r = row_of t a.packet in
     let on : List Refusal = 5 when not (is_open t (session_id a.packet)) ∷ flow_refusals t r behind in
     let none : first (early_refusals t a.packet) ≡ 0 = rw g.whole early in
-    let order : first (dataRefusals t a.packet (lent_with c a)) ≡ first on =
+    let order : first (data_refusals t a.packet (lent_with c a)) ≡ first on =
     rw large (first-passed (early_refusals t a.packet) on refl none) in
     let live : is_open t (session_id a.packet) ≡ true = rw id.0 there in
     let on-terms : terms_at t r ≡ terms = rw id.0 s.of_terms in

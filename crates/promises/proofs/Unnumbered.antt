@@ -28,7 +28,7 @@ use Rattle.join.specs.Slices.{Slices}
 use Rattle.pass.specs.Pass.{whole_within, body_of, unnumbered_fate}
 use Rattle.pass.proofs.Carrying.{unnumbered_holds_none}
 use Rattle.card.specs.Hear.{judged_of, hear}
-use Rattle.card.specs.Receive.{row_of, flow_of, held_by, heard_by, early_refusals, packet_refusals, dataRefusals, too_small}
+use Rattle.card.specs.Receive.{row_of, flow_of, held_by, heard_by, early_refusals, packet_refusals, data_refusals, too_small}
 use Rattle.card.specs.Receive.{received}
 use Rattle.card.specs.History.{Card, Call, opens, closes, hands, lent_with, answer, after}
 use Rattle.card.proofs.Accepted.{accepted, received-code}
@@ -90,7 +90,7 @@ unfolding check_refusals
 check_lacks kind p = lacks_by (eqb kind kind_psp) 8 (psp_refusals entry_width (sub p)) (dmpt_refusals (sub p)) refl refl
 
 -- what comes before the session's row, the row's, and 12
-data_lacks : (t : Table) (p : Packet) (s : Slices) → lacks 8 (dataRefusals t p s) ≡ true
+data_lacks : (t : Table) (p : Packet) (s : Slices) → lacks 8 (data_refusals t p s) ≡ true
 data_lacks t p s =
     lacks_both 8 (packet_refusals (terms_at t (row_of t p)) (sub p)) (12 when (judged_of (flow_of t (row_of t p) (sub p)) (sub p)).late ∷ [])
     (lacks_by (is_dmpt (terms_at t (row_of t p)).kind) 8 (dmpt_refusals (sub p)) (psp_refusals entry_width (sub p)) refl refl) refl
@@ -109,7 +109,7 @@ no_eight c (opens q) e = opens_lack c.table q e
 no_eight c (closes id) e = first_lacks 8 (close_refusals c.table id) refl refl (sym (closed-code c.table id) ∙ e)
 no_eight c (hands a) e =
     let s = lent_with c a in
-    first_lacks 8 (dataRefusals c.table a.packet s) refl (data_lacks c.table a.packet s)
+    first_lacks 8 (data_refusals c.table a.packet s) refl (data_lacks c.table a.packet s)
     (sym (received-code c.table a.packet s) ∙ e)
 
 -- With S clear the last line of the order, 12, does not apply, and no other gives it. What is left, where the session is open as PSP, is
@@ -124,7 +124,7 @@ module _ (t : Table) (p : Packet) (s : Slices) (clear : s_set (sub p) ≡ false)
   before_lacks : lacks 12 before-12 ≡ true
   before_lacks = lacks_by (is_dmpt (terms_at t (row_of t p)).kind) 12 (dmpt_refusals (sub p)) (psp_refusals entry_width (sub p)) refl refl
 
-  its_order : first (dataRefusals t p s) ≡ first before-12
+  its_order : first (data_refusals t p s) ≡ first before-12
   its_order = rw clear (first-idle 12 before-12)
 
   pub no_twelve : (received t p s).answer.code ≡ 12 → ⊥

@@ -25,34 +25,34 @@ pcap_in o = part o.output 0 o.answer.length
 abbrev pub capture_in : ImportOutcome → List ℕ
 capture_in o = part o.output 0 o.answer.length
 
-abbrev pub dataIn : List ℕ → List Entry
-dataIn capture = those is_data (entries capture)
+abbrev pub data_in : List ℕ → List Entry
+data_in capture = those is_data (entries capture)
 
 -- `pcap_comes_back`: whatever is exported, and then imported into an output that is long enough, is a capture of the data entries, kinds
 -- and bytes, in their order; nothing was skipped, and behind it the output is as it was.
 abbrev pub PcapComesBack : Type 0
 PcapComesBack =
     (by : Addresses) (capture output room : List ℕ) → Addressed by → (exported by capture output).answer.code ≡ 0 →
-    length (file_of (dataIn capture)) ≤ length room →
+    length (file_of (data_in capture)) ≤ length room →
     imported [] (pcap_in (exported by capture output)) room
     ≡ record {
       answer = record {
         code = 0;
-        length = length (file_of (dataIn capture));
-        packets = length (dataIn capture);
+        length = length (file_of (data_in capture));
+        packets = length (data_in capture);
         foreign = 0;
         misfits = 0;
         fragments = 0;
         others = 0;
       };
-      output = put room 0 (file_of (dataIn capture));
+      output = put room 0 (file_of (data_in capture));
     }
 
 -- `export_well_formed`: an export is a file that any reader finds well formed, with as many packets as the capture has data entries.
 abbrev pub ExportWellFormed : Type 0
 ExportWellFormed =
     (by : Addresses) (capture output : List ℕ) → Addressed by → (exported by capture output).answer.code ≡ 0 →
-    WellFormedFile (pcap_in (exported by capture output)) (length (dataIn capture))
+    WellFormedFile (pcap_in (exported by capture output)) (length (data_in capture))
 
 -- `import_never_invents`: what an import writes is a sound capture of the opens that were named and then of data, and the body of each data
 -- entry is a stretch of the file.

@@ -11,17 +11,17 @@ use Rattle.refusal.proofs.Laws.{none-applies}
 use Rattle.octets.proofs.Those.{those-few}
 use Rattle.capture.specs.File.{file_of}
 use Rattle.pcap.specs.declared.import.Imported.{Imported}
-use Rattle.pcap.specs.File.{is_little, whole, after, first_place, records, recordsFrom}
+use Rattle.pcap.specs.File.{is_little, whole, after, first_place, records, records_from}
 use Rattle.pcap.specs.Import.{is_for, skipped, all_entries, import_refusals, ImportOutcome, imported_by, imported, PermitsImport}
 
 -- a walk of n steps finds at most n records
-records_few : (n : ℕ) (file : List ℕ) (at : ℕ) (little : Bool) → length (recordsFrom n file at little) ≤ n
-unfolding recordsFrom
+records_few : (n : ℕ) (file : List ℕ) (at : ℕ) (little : Bool) → length (records_from n file at little) ≤ n
+unfolding records_from
 records_few zero file at little = omega arith
 records_few (suc n) file at little = by (whole file at little) refl (records_few n file (after file at little) little)
   where
-    by : (t : Bool) → whole file at little ≡ t → length (recordsFrom n file (after file at little) little) ≤ n →
-        length (recordsFrom (suc n) file at little) ≤ suc n
+    by : (t : Bool) → whole file at little ≡ t → length (records_from n file (after file at little) little) ≤ n →
+        length (records_from (suc n) file at little) ≤ suc n
     by true e few = rw e (omega (arith, few))
     by false e few = rw e (omega arith)
 

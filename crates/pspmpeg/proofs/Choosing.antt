@@ -11,7 +11,7 @@ use Rattle.packet.proofs.Passing.{early_passed}
 use Rattle.table.specs.declared.Table.{Table}
 use Rattle.table.specs.declared.Terms.{Terms}
 use Rattle.table.specs.Rows.{rows, is_dmpt, terms_at, find}
-use Rattle.capture.specs.File.{Entry, dataEntry, dataOverUdp}
+use Rattle.capture.specs.File.{Entry, data_entry, data_over_udp}
 use Rattle.replay.specs.Run.{transport_of, packet_of}
 use Rattle.outputs.specs.Stream.{open_as_psp, is_for}
 
@@ -19,26 +19,26 @@ module _ (session : ℕ) (t : Table) (kind : ℕ) (body : List ℕ) where
   abbrev entry : Entry
   entry = record { kind = kind; body = body }
 
-  abbrev dataKind : Bool
-  dataKind = eqb kind dataEntry || eqb kind dataOverUdp
+  abbrev data_kind : Bool
+  data_kind = eqb kind data_entry || eqb kind data_over_udp
 
   -- what is answered, by the four questions
   by_four : {k early : Bool} {id : ℕ} →
-      dataKind ≡ k → eqb (first (before_session (packet_of entry))) 0 ≡ early → session_id (packet_of entry) ≡ id →
+      data_kind ≡ k → eqb (first (before_session (packet_of entry))) 0 ≡ early → session_id (packet_of entry) ≡ id →
       is_for session t entry ≡ (k && (early && (eqb id session && open_as_psp t session)))
   by_four k early id = rw (k, early, id) refl
 
-  pub other_kind : (not (eqb kind dataEntry) && not (eqb kind dataOverUdp)) ≡ true → false ≡ is_for session t entry
-  other_kind h = sym (by_four (neither (eqb kind dataEntry) (eqb kind dataOverUdp) h) refl refl)
+  pub other_kind : (not (eqb kind data_entry) && not (eqb kind data_over_udp)) ≡ true → false ≡ is_for session t entry
+  other_kind h = sym (by_four (neither (eqb kind data_entry) (eqb kind data_over_udp) h) refl refl)
     where
       neither : (a b : Bool) → (not a && not b) ≡ true → (a || b) ≡ false
       neither false false h = refl
       neither false true h = sym h
       neither true b h = sym h
 
-  module _ (k : (not (eqb kind dataEntry) && not (eqb kind dataOverUdp)) ≡ false) where
-    is_data : dataKind ≡ true
-    is_data = one (eqb kind dataEntry) (eqb kind dataOverUdp) k
+  module _ (k : (not (eqb kind data_entry) && not (eqb kind data_over_udp)) ≡ false) where
+    is_data : data_kind ≡ true
+    is_data = one (eqb kind data_entry) (eqb kind data_over_udp) k
       where
         one : (a b : Bool) → (not a && not b) ≡ false → (a || b) ≡ true
         one true b h = refl

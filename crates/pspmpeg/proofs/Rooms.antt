@@ -36,7 +36,7 @@ use Rattle.replay.proofs.Histories.{start_card, call_at, run-card}
 use Rattle.promises.specs.Account.{packet_body, taken_by}
 use Rattle.promises.proofs.Good.{Good, good-empty, good_all}
 use Rattle.promises.proofs.Measures.{by_length}
-use Rattle.promises.proofs.Holdings.{in_table, keptInAll, table_keeps, empty_keeps}
+use Rattle.promises.proofs.Holdings.{in_table, kept_in_all, table_keeps, empty_keeps}
 use Rattle.promises.proofs.Fates.{heard_tells}
 use Rattle.refusal.proofs.Laws.{when_accepted, when_refused}
 use Rattle.promises.proofs.OneCall.{call_balances}
@@ -111,8 +111,8 @@ standing-good : (file : List ℕ) (k : ℕ) → Good (standing file k).card
 standing-good file k = subst Good (run-card file k) (good_all start_card (up_to (call_at file) k) (good-empty (replicate holding_size 0)))
 
 entry_balances : (file : List ℕ) (k : ℕ) →
-    length (joined (frames_of (answer_at file k))) + keptInAll in_table (standing file (suc k)).card
-    ≤ length (nth_entry file k).body + keptInAll in_table (standing file k).card
+    length (joined (frames_of (answer_at file k))) + kept_in_all in_table (standing file (suc k)).card
+    ≤ length (nth_entry file k).body + kept_in_all in_table (standing file k).card
 unfolding answer_at standing run_one
 entry_balances file k =
     let c = (standing file k).card in
@@ -135,7 +135,7 @@ unfolding nth_entry
 body-short file k = part-short file (body_start head_length entry_length file k) (body_length head_length entry_length file k)
 
 told-before : (session : ℕ) (file : List ℕ) (k : ℕ) →
-    length (joined (delivered_before session file k)) + keptInAll in_table (standing file k).card
+    length (joined (delivered_before session file k)) + kept_in_all in_table (standing file k).card
     ≤ sum_to (body_length head_length entry_length file) k
 unfolding delivered_before standing begin sum_to
 told-before session file zero = omega (arith, length-joined-none, empty_keeps table_keeps (replicate holding_size 0))

@@ -10,7 +10,7 @@ use Rattle.table.specs.Calls.{asking}
 use Rattle.join.specs.Slices.{most_bytes, most_frames}
 use Rattle.card.specs.Receive.{holding_size}
 use Rattle.card.specs.History.{Card, Call, opens, closes, hands, Answer, answer, after, empty_card}
-use Rattle.capture.specs.File.{Entry, open_psp, open_dmpt, closing, dataOverUdp, nth_entry}
+use Rattle.capture.specs.File.{Entry, open_psp, open_dmpt, closing, data_over_udp, nth_entry}
 
 pub record Running : Type 0 where
   pub card : Card
@@ -23,7 +23,7 @@ asks asked e = asking asked (be32_at e.body 0)
 
 -- the packet of a data entry, by the transport that its kind names
 abbrev pub transport_of : ℕ → ℕ
-transport_of number = cond (eqb number dataOverUdp) over_udp over_ip
+transport_of number = cond (eqb number data_over_udp) over_udp over_ip
 
 abbrev pub packet_of : Entry → Packet
 packet_of e = packet_by (transport_of e.kind) e.body

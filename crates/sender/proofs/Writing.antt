@@ -28,27 +28,27 @@ use Rattle.sender.proofs.Cutting.{cut_turn, cut-stops, cut-none}
 
 -- The header.
 module _ (d : List ℕ) (session flow count number : ℕ) (long : shortest_packet ≤ length d) where
-  abbrev withId : List ℕ
-  withId = put d 0 (four session)
+  abbrev with_id : List ℕ
+  with_id = put d 0 (four session)
 
-  abbrev withMarks : List ℕ
-  withMarks = set (set withId id_length (s_bit + flow)) (id_length + 1) count
+  abbrev with_marks : List ℕ
+  with_marks = set (set with_id id_length (s_bit + flow)) (id_length + 1) count
 
-  id_long : length withId ≡ length d
+  id_long : length with_id ≡ length d
   id_long = length-put d 0 (four session) (omega arith)
 
-  second_inside : id_length + 1 < length (set withId id_length (s_bit + flow))
-  second_inside = omega (arith, id_long, length-set withId id_length (s_bit + flow))
+  second_inside : id_length + 1 < length (set with_id id_length (s_bit + flow))
+  second_inside = omega (arith, id_long, length-set with_id id_length (s_bit + flow))
 
-  marks_put : withMarks ≡ put d 0 (four session ++ ((s_bit + flow) ∷ count ∷ []))
+  marks_put : with_marks ≡ put d 0 (four session ++ ((s_bit + flow) ∷ count ∷ []))
   marks_put =
-      set-set-put withId id_length (s_bit + flow) count (omega (arith, id_long))
+      set-set-put with_id id_length (s_bit + flow) count (omega (arith, id_long))
       ∙ put-put d 0 (four session) ((s_bit + flow) ∷ count ∷ []) (omega arith)
 
-  marks_long : length withMarks ≡ length d
+  marks_long : length with_marks ≡ length d
   marks_long = ap length marks_put ∙ length-put d 0 (four session ++ ((s_bit + flow) ∷ count ∷ [])) (omega arith)
 
-  header-put : put withMarks (id_length + 2) (two number) ≡ put d 0 (header_of session flow count number)
+  header-put : put with_marks (id_length + 2) (two number) ≡ put d 0 (header_of session flow count number)
   header-put =
       ap (λ (l : List ℕ). put l (id_length + 2) (two number)) marks_put
       ∙ put-put d 0 (four session ++ ((s_bit + flow) ∷ count ∷ [])) (two number) (omega arith)

@@ -76,10 +76,10 @@ early_refusals session flow limit total lengths =
     ∷ []
 
 abbrev pub later_refusals : ℕ → List ℕ → Position → ℕ → List Refusal
-later_refusals limit lengths at outputLength =
+later_refusals limit lengths at output_length =
     34 when outside lengths at
     ∷ 35 when eqb at.frame (length lengths)
-    ∷ 36 when ltb outputLength (limit + id_length)
+    ∷ 36 when ltb output_length (limit + id_length)
     ∷ []
 
 abbrev pub send_refusals : Asked → List Refusal

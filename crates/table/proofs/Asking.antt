@@ -143,21 +143,21 @@ id_at t (suc (suc (suc (suc (suc (suc r)))))) l = absurd (omega arith)
 
 -- All rows.
 module _ (t : Table) where
-  abbrev anyRow : Bool
-  anyRow = any (λ r. row_broken (row_at t r)) rows
+  abbrev any_row : Bool
+  any_row = any (λ r. row_broken (row_at t r)) rows
 
-  abbrev anyTwice : Bool
-  anyTwice = any (λ r. any (id_twice (ids_of t) r) r) rows
+  abbrev any_twice : Bool
+  any_twice = any (λ r. any (id_twice (ids_of t) r) r) rows
 
   -- the ways out of `is_broken`: at a row, or by the IDs
-  pub row_breaks : anyRow ≡ true → broken t ≡ true
+  pub row_breaks : any_row ≡ true → broken t ≡ true
   row_breaks found =
       ⊎_elim
       (λ (b : broken t ≡ true). b)
       (λ (b : broken t ≡ false). absurd (true≢false (sym found ∙ none_all (λ r. row_broken (row_at t r)) rows (rows-sound t b))))
       (true-or-false (broken t))
 
-  module _ (sound : anyRow ≡ false) where
+  module _ (sound : any_row ≡ false) where
     closed_at : (r : ℕ) → r < rows → is_closed (row_at t r).kind ≡ eqb (row_at t r).id 0
     closed_at r l = closed_by_id (row_at t r) (none_at (λ r. row_broken (row_at t r)) rows r sound l)
 
@@ -169,7 +169,7 @@ module _ (t : Table) where
     twice_asked r l =
         any_same (λ r'. same_open (row_at t r) (row_at t r')) (id_twice (ids_of t) r) r (λ r' m. same_asked r r' l (omega arith))
 
-    pub ids_break : broken t ≡ anyTwice
+    pub ids_break : broken t ≡ any_twice
     unfolding broken
     ids_break =
         any_same (λ r. row_broken (row_at t r) || open_twice t r) (λ r. any (id_twice (ids_of t) r) r) rows

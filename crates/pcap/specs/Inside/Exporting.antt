@@ -2,10 +2,10 @@
 -- Here: how an export is measured and written entry by entry. The file that it makes is specs/Export.antt's.
 use Rattle.std.specs.Prelude.{ℕ, ◌+◌, ◌≤◌, true, cond, ◌||◌, List, [], ◌++◌, eqb}
 use Rattle.octets.specs.Count.{sum_to}
-use Rattle.capture.specs.File.{head_length, entry_length, open_psp, open_dmpt, closing, dataEntry, dataOverUdp, kind_at, body_length, Entry}
+use Rattle.capture.specs.File.{head_length, entry_length, open_psp, open_dmpt, closing, data_entry, data_over_udp, kind_at, body_length, Entry}
 use Rattle.pcap.specs.declared.Addresses.{Addresses}
 use Rattle.pcap.specs.declared.export.Measured.{Measured}
-use Rattle.pcap.specs.File.{file_header, recordHeader, recordHeaderIn, recordIn}
+use Rattle.pcap.specs.File.{file_header, record_header, record_header_in, record_in}
 use Rattle.pcap.specs.Ethernet.{ethernet_length, ethernet_header}
 use Rattle.pcap.specs.Ipv4.{ipv4_length, ipv4_header}
 use Rattle.pcap.specs.Udp.{udp_length}
@@ -13,27 +13,27 @@ use Rattle.pcap.specs.Export.{is_data, packet_of}
 
 -- the headers of a record up to what its IPv4 packet carries, `size` bytes of the protocol `carried`; and how long they are
 abbrev pub front_length : ℕ
-front_length = recordHeader + ethernet_length + ipv4_length
+front_length = record_header + ethernet_length + ipv4_length
 
 abbrev pub front_of : Addresses → ℕ → ℕ → List ℕ
 front_of by size carried =
-    recordHeaderIn true (ethernet_length + ipv4_length + size) ++ ethernet_header by ++ ipv4_header by (ipv4_length + size) carried
+    record_header_in true (ethernet_length + ipv4_length + size) ++ ethernet_header by ++ ipv4_header by (ipv4_length + size) carried
 
 -- the record of an entry, if it has one
-abbrev pub recordOf : Addresses → Entry → List ℕ
-recordOf by e = cond (is_data e) (recordIn true (packet_of by e)) []
+abbrev pub record_of : Addresses → Entry → List ℕ
+record_of by e = cond (is_data e) (record_in true (packet_of by e)) []
 
 -- .. and its length, by the entry's kind and the length of its body
-abbrev pub recordLength : ℕ → ℕ → ℕ
-recordLength kind size =
-    cond (eqb kind dataEntry || eqb kind dataOverUdp) (front_length + cond (eqb kind dataOverUdp) udp_length 0 + size) 0
+abbrev pub record_length : ℕ → ℕ → ℕ
+record_length kind size =
+    cond (eqb kind data_entry || eqb kind data_over_udp) (front_length + cond (eqb kind data_over_udp) udp_length 0 + size) 0
 
 -- a measure, with one more entry; and what the first n entries of a file come to
 abbrev pub counted_with : Measured → ℕ → ℕ → Measured
 counted_with m kind size =
     record {
-      length = m.length + recordLength kind size;
-      packets = m.packets + cond (eqb kind dataEntry || eqb kind dataOverUdp) 1 0;
+      length = m.length + record_length kind size;
+      packets = m.packets + cond (eqb kind data_entry || eqb kind data_over_udp) 1 0;
       opens = m.opens + cond (eqb kind open_psp || eqb kind open_dmpt) 1 0;
       closes = m.closes + cond (eqb kind closing) 1 0;
     }
@@ -42,8 +42,8 @@ unfoldable pub measured_to : List ℕ → ℕ → Measured
 measured_to file n =
     let kind = kind_at head_length entry_length file in
     record {
-      length = file_header + sum_to (λ k. recordLength (kind k) (body_length head_length entry_length file k)) n;
-      packets = sum_to (λ k. cond (eqb (kind k) dataEntry || eqb (kind k) dataOverUdp) 1 0) n;
+      length = file_header + sum_to (λ k. record_length (kind k) (body_length head_length entry_length file k)) n;
+      packets = sum_to (λ k. cond (eqb (kind k) data_entry || eqb (kind k) data_over_udp) 1 0) n;
       opens = sum_to (λ k. cond (eqb (kind k) open_psp || eqb (kind k) open_dmpt) 1 0) n;
       closes = sum_to (λ k. cond (eqb (kind k) closing) 1 0) n;
     }

@@ -1,4 +1,4 @@
--- `pcap::export::record_length` goes by the kind, as `recordLength` does.
+-- `pcap::export::record_length` goes by the kind, as `record_length` does.
 use native.Mathlib.Omega.{arith}
 use Rattle.pcap.proofs.Measuring.{length-over_ip, length-over_udp, length_none}
 use borrow.Author.Rules.{rules}

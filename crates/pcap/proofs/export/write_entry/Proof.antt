@@ -4,7 +4,7 @@ use mathlib.Core.Path.{sym, ap, ◌∙◌}
 use native.Mathlib.Omega.{arith}
 use lib.ListN.{length}
 use Rattle.octets.specs.Stretch.{put}
-use Rattle.pcap.specs.Inside.Exporting.{recordOf}
+use Rattle.pcap.specs.Inside.Exporting.{record_of}
 use Rattle.pcap.proofs.Measuring.{length-over_ip, length-over_udp, length_none}
 use Rattle.pcap.proofs.Puts.{record_none}
 use borrow.Author.Rules.{rules}
@@ -26,7 +26,7 @@ returns c =
     let chosen = did.before.before in
     let a = chosen.args in (
       did.write_over_ip.ensures.0
-          ∙ ap (λ (k : ℕ). put a.output.now a.at (recordOf a.addresses (record { kind = k; body = a.body.now })))
+          ∙ ap (λ (k : ℕ). put a.output.now a.at (record_of a.addresses (record { kind = k; body = a.body.now })))
           (sym chosen.if-kind-eq-DATA.true),
       did.write_over_ip.ensures.1
           ∙ ap (λ (n : ℕ). a.at + n) (length-over_ip a.kind (length a.body.now) chosen.if-kind-eq-DATA.true),
@@ -47,7 +47,7 @@ returns-2 c =
     let chosen = did.before.before in
     let a = chosen.args in (
       did.write_over_udp.ensures.0
-          ∙ ap (λ (k : ℕ). put a.output.now a.at (recordOf a.addresses (record { kind = k; body = a.body.now })))
+          ∙ ap (λ (k : ℕ). put a.output.now a.at (record_of a.addresses (record { kind = k; body = a.body.now })))
           (sym chosen.if-kind-eq-DATA_OVER_UDP.true),
       did.write_over_udp.ensures.1
           ∙ ap (λ (n : ℕ). a.at + n) (length-over_udp a.kind (length a.body.now) chosen.if-kind-eq-DATA_OVER_UDP.true),

@@ -2,7 +2,7 @@
 use Prim.Native.Nat.{◌-◌}
 use mathlib.Core.Path.{refl, sym, ◌∙◌}
 use lib.ListN.{length}
-use Rattle.pcap.specs.File.{recordsFrom, records}
+use Rattle.pcap.specs.File.{records_from, records}
 use Rattle.pcap.specs.Import.{entries_of}
 use Rattle.pcap.proofs.Walk.{step_falls}
 use Rattle.pcap.proofs.Laying.{Laying, laying_begin, laying_room, laying_turn, laying_end, records_begin, records_split}
@@ -14,7 +14,7 @@ use Rattle.pcap.proofs.import.write_records.Tie as tie
 
 abbrev invariant-loop : tie.invariant-loop-packet
 invariant-loop file output₀ count little at₀ writer₀ output at writer =
-    Laying (entries_of (records file)) count output₀ writer₀ (entries_of (recordsFrom (length file) file at little)) output writer
+    Laying (entries_of (records file)) count output₀ writer₀ (entries_of (records_from (length file) file at little)) output writer
 
 abbrev decreases-loop : tie.decreases-loop-packet
 decreases-loop file output₀ count little at₀ writer₀ output at writer = length file - at
