@@ -150,7 +150,7 @@ abbrev pub content_for : ℕ → ℕ → List ℕ
 content_for kind size = kind ∷ 0 ∷ two size
 
 abbrev pub content_of : Entry → List ℕ
-content_of e = content_for e.kind (length e.body)
+content_of e = e.kind ∷ 0 ∷ two (length e.body)
 
 abbrev pub body_of : Entry → List ℕ
 body_of e = e.body
