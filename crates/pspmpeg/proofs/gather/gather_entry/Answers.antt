@@ -1,0 +1,36 @@
+-- `pspmpeg::gather::gather_entry` is right since what it takes the entry for is what the definition takes it for, and the entry's frames
+-- lie in the slices that the step leaves.
+use Rattle.capture.proofs.Checking.{entry_inside}
+use Rattle.card.specs.History.{frames_of}
+use Rattle.replay.specs.Run.{answer_at}
+use Rattle.replay.proofs.Walking.{stands_at}
+use Rattle.replay.proofs.Standing.{table-whole}
+use Rattle.pspmpeg.proofs.Gathering.{chosen, not_chosen, fits-found, adds_found}
+use Rattle.pspmpeg.proofs.gather.gather_entry.Goals as goal
+
+pub kind_at-kind-requires : goal.kind_at-kind-requires
+kind_at-kind-requires c = entry_inside (stands_at c.requires.stands.0 c.requires.stands.1)
+
+pub is_for-wanted-requires : goal.is_for-wanted-requires
+is_for-wanted-requires c = table-whole c.requires.stands.0
+
+pub returns-then-not-wanted-clause-adds : goal.returns-then-not-wanted-clause-adds
+returns-then-not-wanted-clause-adds c =
+    let rightly =
+    chosen c.requires.stands.0 c.args.session c.kind_at-kind.result c.body_at-body.result.now c.is_for-wanted.result
+    c.kind_at-kind.ensures c.body_at-body.ensures.its_bytes c.is_for-wanted.ensures in
+    not_chosen (frames_of (answer_at c.args.file.now c.args.stage.walk.index)) rightly c.if-not-wanted.true
+
+pub append-gathered-requires : goal.append-gathered-requires
+append-gathered-requires c =
+    let rightly =
+    chosen c.requires.stands.0 c.args.session c.kind_at-kind.result c.body_at-body.result.now c.is_for-wanted.result
+    c.kind_at-kind.ensures c.body_at-body.ensures.its_bytes c.is_for-wanted.ensures in
+    fits-found c.step-stepped.ensures rightly c.if-not-wanted.false c.requires.fits
+
+pub returns-clause-adds : goal.returns-clause-adds
+returns-clause-adds c =
+    let rightly =
+    chosen c.requires.stands.0 c.args.session c.kind_at-kind.result c.body_at-body.result.now c.is_for-wanted.result
+    c.kind_at-kind.ensures c.body_at-body.ensures.its_bytes c.is_for-wanted.ensures in
+    adds_found c.step-stepped.ensures rightly c.if-not-wanted.false c.append-gathered.ensures
