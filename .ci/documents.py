@@ -16,7 +16,7 @@ NAMED = re.compile(r"`([^`\s]+\.(?:antt|rt|h))`: ((?:`[^`]+`(?:, | and )?)+)")
 
 def declared(text, name):
     """Whether a line of a file begins with NAME, indented or not, after words such as pub, abbrev, fn or const."""
-    words = r"(?:pub |abbrev |unfoldable |extern \"C\" |record |data |struct |enum |const |fn |uint32_t )*"
+    words = r"(?:pub |abbrev |unfoldable |opaque |ghost |type |trait |extern \"C\" |record |data |struct |enum |const |fn |uint32_t )*"
     return re.search(rf"(?m)^\s*{words}{re.escape(name)}(?![\w-])", text) is not None
 
 

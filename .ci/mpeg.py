@@ -2,8 +2,8 @@
 
 The second program is W3's writer once more, below, with the capture file and the packets of document 01, by either transport (W1), written from the
 papers and not from the Rattle code. Captures are made here, and by pspsend; what pspmpeg writes is compared byte for byte with the packets made here,
-and what mpegframes writes with the frames that they were made of. Ends with status 0 only where all agree. Needs pspsend, pspmpeg and mpegframes in
-target/bin, where rt check or rt ci leaves them.
+and what mpegframes writes with the frames that they were made of. Ends with status 0 only where all agree. Needs pspsend, pspmpeg and mpegframes, each
+in crates/NAME/out, where rt run or rt ci leaves it.
 """
 import pathlib
 import random
@@ -91,7 +91,7 @@ def by_either(rng, entries):
 
 
 def run(name, words, given):
-    done = subprocess.run([str(ROOT / "bin" / "run-x86-64"), str(ROOT / "target" / "bin" / name), *words], input=given, capture_output=True)
+    done = subprocess.run([str(ROOT / "bin" / "run-x86-64"), str(ROOT / "crates" / name / "out" / name), *words], input=given, capture_output=True)
     return done.stdout, done.stderr.decode("utf-8", "replace")
 
 

@@ -2,7 +2,7 @@
 
 The second program is the sender and the capture file of document 01 once more, below, written from the paper and not from the
 Rattle code. Every case is compared whole: standard output byte for byte, standard error line by line. Ends with status 0 only
-where all agree. Needs target/bin/pspsend, which rt check or rt ci leaves there.
+where all agree. Needs crates/pspsend/out/pspsend, which rt run or rt ci leaves there.
 """
 import pathlib
 import random
@@ -171,7 +171,7 @@ def cases():
 
 
 def main():
-    run = [str(ROOT / "bin" / "run-x86-64"), str(ROOT / "target" / "bin" / "pspsend")]
+    run = [str(ROOT / "bin" / "run-x86-64"), str(ROOT / "crates" / "pspsend" / "out" / "pspsend")]
     seen, count = {}, 0
     for words, file in cases():
         done = subprocess.run(run + words, input=file, capture_output=True)

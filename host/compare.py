@@ -147,7 +147,7 @@ def main():
     captures["a queue filled to its last byte"] = filled_queue()
     seen, wrong = collections.Counter(), 0
     for name, capture in captures.items():
-        listing, trace = (printed(ROOT / "target/bin" / program, capture) for program in ("psplist", "psptrace"))
+        listing, trace = (printed(ROOT / "crates" / program / "out" / program, capture) for program in ("psplist", "psptrace"))
         expected = summary.summary(capture, listing, trace)
         seen += seen_in(expected) + transports_in(capture, listing) + without_number_in(capture, listing)
         for difference in differences(node, name, capture, expected):
