@@ -5,9 +5,8 @@
 pub mod address;
 pub mod number;
 
-ghost use Rattle.std.specs.Prelude.{◌≡◌, ◌+◌, ◌≤◌, length, take};
+ghost use Rattle.std.specs.Prelude.{◌≡◌, ◌+◌, ◌≤◌, length};
 ghost use Rattle.std.specs.Counts.{IsPrefixLen};
-ghost use Rattle.std.specs.Io.KnownBytes.{Consumes};
 ghost use Rattle.text.specs.Text.{Wrote};
 ghost use Rattle.capture.specs.File.{longest_file};
 ghost use Rattle.tool.specs.Line.{line_of, number_room};
@@ -76,9 +75,8 @@ pub fn capture_room() -> [u8; capture::LONGEST_FILE + 1]
 }
 
 // Reads an input into a room until there is no more room, the input ends or a read fails, and answers how many bytes it read.
-pub fn read_input<R: Read>(input: &mut R, room: &mut [u8]) -> usize
-    ensures prefix { IsPrefixLen result room.new }
-    ensures bytes { Consumes (R.remaining input.old) (R.remaining input.new) (take result room.new) }
+pub fn read_input(input: &mut impl Read, room: &mut [u8]) -> usize
+    ensures { IsPrefixLen result room.new }
 {
     let mut done = 0;
     while done < room.len() {
