@@ -2,8 +2,8 @@
  * packets and sending them, as document 01 defines it; and, as document 02 asks for them, MPEG packets for the
  * modulator (W3), packets that come over UDP (W1), and PSP packets without a sequence number (W2).
  *
- * The library is target/staticlib/libsklyapina.a, made by `rt staticlib sklyapina`. It is for x86-64, and needs no
- * other library but the C library's memcpy, memmove and memset.
+ * The library is libsklyapina.a in crates/sklyapina/out, made by `rt lib` there (`bin/library` does it, and prints
+ * where it is). It is for x86-64, and needs no other library but the C library's memcpy, memmove and memset.
  *
  * Of every call it is proved:
  *
