@@ -93,7 +93,8 @@ fn settle(
     let bytes = tally.bytes;
     let dropped = tally.dropped;
     let joined = held + count;
-    if (most as usize) < joined {
+    let too_long = (most as usize) < joined;
+    if too_long {
         let lost = dropped + joined;
         return Tally {
             held: 0, // nor is its tail held as a frame of its own

@@ -46,7 +46,7 @@ add-joined c = search rules
 add-lost : tie.Need-overflow_add-lost
 add-lost c = search rules
 
-returns : tie.Need-returns-then-most-joined
+returns : tie.Need-returns-then-too_long
 returns c =
     let s = c.before.before.before.before.before in
     let a = s.args in
