@@ -16,7 +16,7 @@
  * It needs little stack: no call more than 2 KiB below its return address, nor more than 4 KiB together with a C function
  * that makes it and does nothing else, which has the table and the answer by value. That is not proved, but a matter of
  * the compiler: tests/stack measures the library as the kit builds it, and bench/README.md has each call, of which the data
- * call needs the most, 760 bytes.
+ * call needs the most, 800 bytes.
  *
  * And it keeps nothing, since its language has no means to: no pointer outlives its call, nothing is
  * allocated, and there are no variables but those of the call. What it knows is what it is passed. So threads

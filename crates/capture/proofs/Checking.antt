@@ -11,46 +11,21 @@ use Rattle.refusal.specs.Refusal.{first, ◌when◌}
 use Rattle.refusal.proofs.Laws.{none-applies, none_first}
 use Rattle.octets.specs.Count.{any}
 use Rattle.octets.specs.Stretch.{part}
-use Rattle.octets.proofs.Counts.{or-false-right, or_same, any_none, any_more, none_at, sum-none, sum_more, sum-within}
+use Rattle.octets.proofs.Counts.{or-false-right, any_none, any_at, none_more, none_at, sum-none, sum_more, sum-within}
 use Rattle.octets.proofs.Stretches.{length_part}
-use Rattle.capture.specs.declared.reader.Surveyed.{Surveyed}
-use Rattle.capture.specs.File.{head_length, entry_length, longest_file, most_entries, id_body, exactly, any_length, no_kind, kinds, body_in}
+use Rattle.refusal.specs.declared.Refusal.{Refusal}
+use Rattle.refusal.specs.declared.Refusal.TheVariants as refusal
+use Rattle.refusal.specs.Number.{number_of}
+use Rattle.capture.specs.Inside.{surveyed}
+use Rattle.std.proofs.Common.{Ok, Err}
+use Rattle.capture.specs.File.{head_length, entry_length, longest_file, most_entries, kinds, body_in}
 use Rattle.capture.specs.File.{is_kind, takes_length, entry_count, kind_at, second_at, body_length, body_start, wrong_parts, wrong_entry}
 use Rattle.capture.specs.File.{file_refusals, file_refusal, nth_entry, StandsAt}
 
--- an entry's parts are wrong: the table of kinds, looked up number by number, comes to this
-wrong_by_numbers : (psp dmpt close over_ip over_udp_lem zero-second : Bool) (size : ℕ) →
-    ((not (((psp || dmpt) || close) || (over_ip || over_udp_lem)) || not zero-second) || (((psp || dmpt) || close) && not (eqb size id_body)))
-    ≡ (let packet = cond over_ip any_length (cond over_udp_lem any_length no_kind) in
-    let b = cond psp (exactly id_body) (cond dmpt (exactly id_body) (cond close (exactly id_body) packet)) in
-    not (is_kind b) || not zero-second || not (takes_length b size))
-wrong_by_numbers true dmpt close over_ip over_udp_lem true size = refl
-wrong_by_numbers true dmpt close over_ip over_udp_lem false size = refl
-wrong_by_numbers false true close over_ip over_udp_lem true size = refl
-wrong_by_numbers false true close over_ip over_udp_lem false size = refl
-wrong_by_numbers false false true over_ip over_udp_lem true size = refl
-wrong_by_numbers false false true over_ip over_udp_lem false size = refl
-wrong_by_numbers false false false true over_udp_lem true size = refl
-wrong_by_numbers false false false true over_udp_lem false size = refl
-wrong_by_numbers false false false false true true size = refl
-wrong_by_numbers false false false false true false size = refl
-wrong_by_numbers false false false false false true size = refl
-wrong_by_numbers false false false false false false size = refl
-
-pub parts_wrong : (kind second size : ℕ) →
-    ((not (((eqb kind 1 || eqb kind 2) || eqb kind 3) || (eqb kind 4 || eqb kind 5)) || not (eqb second 0))
-    || (((eqb kind 1 || eqb kind 2) || eqb kind 3) && not (eqb size 4)))
-    ≡ wrong_parts kind second size
-parts_wrong kind second size = wrong_by_numbers (eqb kind 1) (eqb kind 2) (eqb kind 3) (eqb kind 4) (eqb kind 5) (eqb second 0) size
-
-abbrev found : ℕ → Bool → Surveyed
-found end wrong = record { end = end; wrong = wrong }
-
--- The walk over the entries: after k of them it stands where body k starts, and knows whether one was wrong.
-pub record Surveying (file : List ℕ) (count end : ℕ) (wrong : Bool) (k : ℕ) : Type 0 where
-  pub within : k ≤ count
+-- The walk over the entries: after k of them it stands where body k starts, and none was wrong.
+pub record Surveying (file : List ℕ) (end k : ℕ) : Type 0 where
   pub stands : end ≡ body_start head_length entry_length file k
-  pub gathered : wrong ≡ any (wrong_entry head_length entry_length file) k
+  pub none_wrong : any (wrong_entry head_length entry_length file) k ≡ false
   pub small : end ≤ head_length + entry_length * most_entries + 65535 * k
 
 pub start_first : (file : List ℕ) → body_start head_length entry_length file 0 ≡ head_length + entry_length * entry_count head_length file
@@ -63,39 +38,50 @@ unfolding body_start
 start-next file k = let m = sum_more (body_length head_length entry_length file) k in omega (arith, m)
 
 pub survey_begin : (file : List ℕ) (count : ℕ) → count ≤ most_entries → count ≡ entry_count head_length file →
-    Surveying file count (head_length + entry_length * count) false 0
+    Surveying file (head_length + entry_length * count) 0
 survey_begin file count few e =
     record {
-      within = omega arith;
       stands = ap (λ (n : ℕ). head_length + entry_length * n) e ∙ sym (start_first file);
-      gathered = sym (any_none (wrong_entry head_length entry_length file));
+      none_wrong = any_none (wrong_entry head_length entry_length file);
       small = omega (arith, few);
     }
 
-pub survey_turn : {file : List ℕ} {count end : ℕ} {wrong : Bool} {k kind second size : ℕ} {w : Bool} →
-    Surveying file count end wrong k → k < count →
-    kind ≡ kind_at head_length entry_length file k → second ≡ second_at head_length entry_length file k →
-    (size ≡ body_length head_length entry_length file k) × (size ≤ 65535) → w ≡ wrong_parts kind second size →
-    Surveying file count (end + size) (wrong || w) (k + 1)
-survey_turn {file} {count} {end} {wrong} {k} {kind} {second} {size} {w} s below ek es el ew =
-    let parts : w ≡ wrong_entry head_length entry_length file k =
-    ew
-    ∙ ap (λ (x : ℕ). wrong_parts x second size) ek
-    ∙ ap (λ (x : ℕ). wrong_parts (kind_at head_length entry_length file k) x size) es
-    ∙ ap (wrong_parts (kind_at head_length entry_length file k) (second_at head_length entry_length file k)) el.0 in
+pub survey_turn : {file : List ℕ} {end k size : ℕ} → Surveying file end k →
+    (size ≡ body_length head_length entry_length file k) × (size ≤ 65535) → wrong_entry head_length entry_length file k ≡ false →
+    Surveying file (end + size) (k + 1)
+survey_turn {file} {end} {k} {size} s long right =
     record {
-      within = omega (arith, below);
-      stands = omega (arith, s.stands, el.0, start-next file k);
-      gathered = or_same s.gathered parts ∙ sym (any_more (wrong_entry head_length entry_length file) k);
-      small = omega (arith, s.small, el.1);
+      stands = omega (arith, s.stands, long.0, start-next file k);
+      none_wrong = none_more (wrong_entry head_length entry_length file) k s.none_wrong right;
+      small = omega (arith, s.small, long.1);
     }
 
-pub survey_end : {file : List ℕ} {count end : ℕ} {wrong : Bool} {k : ℕ} → Surveying file count end wrong k → count ≤ k →
-    found end wrong ≡ found (body_start head_length entry_length file count) (any (wrong_entry head_length entry_length file) count)
-survey_end {file} {count} {end} {wrong} {k} s past =
-    let all : k ≡ count = omega (arith, s.within, past) in
-    ap (λ (x : ℕ). found x wrong) (s.stands ∙ ap (body_start head_length entry_length file) all)
-    ∙ ap (found (body_start head_length entry_length file count)) (s.gathered ∙ ap (any (wrong_entry head_length entry_length file)) all)
+-- an entry is as wrong as the parts that were read of it
+pub wrong_by_parts : (file : List ℕ) (k : ℕ) {kind size : ℕ} {wrong : Bool} → kind ≡ kind_at head_length entry_length file k →
+    size ≡ body_length head_length entry_length file k → wrong ≡ wrong_parts kind (second_at head_length entry_length file k) size →
+    wrong ≡ wrong_entry head_length entry_length file k
+wrong_by_parts file k {kind} {size} {wrong} its-kind long w =
+    w
+    ∙ ap (λ (x : ℕ). wrong_parts x (second_at head_length entry_length file k) size) its-kind
+    ∙ ap (wrong_parts (kind_at head_length entry_length file k) (second_at head_length entry_length file k)) long
+
+-- what the survey answers, at a wrong entry and behind the last
+pub survey_wrong : (file : List ℕ) (count k : ℕ) → k < count → wrong_entry head_length entry_length file k ≡ true →
+    Err refusal.EntryWrong ≡ surveyed file count
+survey_wrong file count k below wrong = rw (any_at (wrong_entry head_length entry_length file) count k wrong below) refl
+
+pub survey_right : {file : List ℕ} {end k : ℕ} → Surveying file end k → Ok end ≡ surveyed file k
+survey_right s = rw (s.none_wrong, s.stands) refl
+
+-- and what its answer says
+answer_by : (wrong : Bool) (end there : ℕ) → Ok end ≡ cond wrong (Err refusal.EntryWrong) (Ok there) → (wrong ≡ false) × (end ≡ there)
+answer_by true end there e = cc
+answer_by false end there e = (refl, cc)
+
+refusal_by : (wrong : Bool) (r : Refusal) (there : ℕ) → Err r ≡ cond wrong (Err refusal.EntryWrong) (Ok there) →
+    (wrong ≡ true) × (r ≡ refusal.EntryWrong)
+refusal_by true r there e = (refl, cc)
+refusal_by false r there e = cc
 
 -- The ways out of the check, in their order.
 module _ (file : List ℕ) where
@@ -135,16 +121,16 @@ module _ (file : List ℕ) where
               lt-ltb (length file) (head_length + entry_length * entry_count head_length file) cut,
             ) refl
 
-        module _ (whole : head_length + entry_length * count ≤ length file) (s : Surveyed)
-            (es : s ≡ found (body_start head_length entry_length file count) (any (wrong_entry head_length entry_length file) count)) where
+        module _ (whole : head_length + entry_length * count ≤ length file) where
           whole_contents : head_length + entry_length * entry_count head_length file ≤ length file
           whole_contents = omega (arith, e, whole)
 
-          wrong_is : s.wrong ≡ any (wrong_entry head_length entry_length file) (entry_count head_length file)
-          wrong_is = ap (λ (x : Surveyed). x.wrong) es ∙ ap (any (wrong_entry head_length entry_length file)) e
+          wrong_is : any (wrong_entry head_length entry_length file) count
+              ≡ any (wrong_entry head_length entry_length file) (entry_count head_length file)
+          wrong_is = ap (any (wrong_entry head_length entry_length file)) e
 
-          end_is : s.end ≡ body_start head_length entry_length file (entry_count head_length file)
-          end_is = ap (λ (x : Surveyed). x.end) es ∙ ap (body_start head_length entry_length file) e
+          end_is : body_start head_length entry_length file count ≡ body_start head_length entry_length file (entry_count head_length file)
+          end_is = ap (body_start head_length entry_length file) e
 
           -- 41 to 43 do not apply
           contents_pass : file_refusal file
@@ -160,20 +146,28 @@ module _ (file : List ℕ) where
                 le-ltb most_entries (entry_count head_length file) few-entries,
               ) refl
 
-          pub entry_wrong : s.wrong ≡ true → 44 ≡ file_refusal file
-          entry_wrong h = sym (contents_pass ∙ rw (sym wrong_is ∙ h) refl)
+          pub entry_wrong : (r : Refusal) → Err r ≡ surveyed file count → number_of r ≡ file_refusal file
+          entry_wrong r said =
+              let f = refusal_by (any (wrong_entry head_length entry_length file) count) r _ said in
+              ap number_of f.1 ∙ sym (contents_pass ∙ rw (sym wrong_is ∙ f.0) refl)
 
-          module _ (right : s.wrong ≡ false) where
-            pub not_filled : (s.end ≡ length file → ⊥) → 45 ≡ file_refusal file
+          module _ (end : ℕ) (said : Ok end ≡ surveyed file count) where
+            none_wrong : any (wrong_entry head_length entry_length file) (entry_count head_length file) ≡ false
+            none_wrong = sym wrong_is ∙ (answer_by (any (wrong_entry head_length entry_length file) count) end _ said).0
+
+            there : end ≡ body_start head_length entry_length file (entry_count head_length file)
+            there = (answer_by (any (wrong_entry head_length entry_length file) count) end _ said).1 ∙ end_is
+
+            pub not_filled : (end ≡ length file → ⊥) → 45 ≡ file_refusal file
             not_filled h =
                 let apart =
-                ne_eqb (body_start head_length entry_length file (entry_count head_length file)) (length file) (λ z. h (end_is ∙ z)) in
-                sym (contents_pass ∙ rw (sym wrong_is ∙ right, apart) refl)
+                ne_eqb (body_start head_length entry_length file (entry_count head_length file)) (length file) (λ z. h (there ∙ z)) in
+                sym (contents_pass ∙ rw (none_wrong, apart) refl)
 
-            pub sound_file : s.end ≡ length file → 0 ≡ file_refusal file
+            pub sound_file : end ≡ length file → 0 ≡ file_refusal file
             sound_file h =
-                let same = eq-eqb (body_start head_length entry_length file (entry_count head_length file)) (length file) (sym end_is ∙ h) in
-                sym (contents_pass ∙ rw (sym wrong_is ∙ right, same) refl)
+                let same = eq-eqb (body_start head_length entry_length file (entry_count head_length file)) (length file) (sym there ∙ h) in
+                sym (contents_pass ∙ rw (none_wrong, same) refl)
 
 -- What is so of a file that is not refused: the refusals 41 to 45, each denied.
 pub record Sound (file : List ℕ) : Type 0 where

@@ -1,21 +1,21 @@
 -- How a capture grows, and that the fronts of its two slices are the file of its entries; and so where it grows in one slice.
-use Prim.Native.Nat.{ℕ, ◌+◌, ◌*◌, ◌<◌, ◌≤◌}
+use Prim.Native.Nat.{ℕ, ◌+◌, ◌*◌, ◌≤◌}
 use mathlib.Core.Path.{◌≡◌, refl, sym, ap, ◌∙◌}
 use mathlib.Core.Bool.{true}
 use mathlib.Core.List.{List, [], ◌∷◌, ◌++◌, map, append_assoc}
 use native.Mathlib.Omega.{arith}
 use lib.Dec.{leb}
-use borrow.Author.Tests.{lt-ltb, le-ltb, le-leb, leb-true, ltb-false}
+use borrow.Author.Tests.{le-leb, leb-true, ltb-false}
 use Rattle.refusal.specs.Refusal.{first}
 use Rattle.refusal.proofs.Laws.{and_left, and_right, none-applies}
-use lib.ListN.{length, set, length-append, length-set}
+use lib.ListN.{length, set, length-append}
 use Rattle.octets.specs.Bytes.{two}
 use Rattle.octets.specs.Stretch.{part, put, joined}
 use Rattle.octets.proofs.Stretches.{length-put, part-put, put-nil, put-put, put_more, put-before, put_apart, set-set-put}
 use Rattle.octets.proofs.Stretches.{joined-none, joined-map_more, length-joined-none, length-joined-map}
 use Rattle.capture.specs.declared.Writer.{Writer}
 use Rattle.capture.specs.File.{head_length, entry_length, longest_file, most_entries, Entry, content_of, body_of, file_of}
-use Rattle.capture.specs.Write.{Fits, added, file_length, within, write_refusals, Roomy, Countable, Holds}
+use Rattle.capture.specs.Write.{added, file_length, within, write_refusals, Holds}
 use Rattle.capture.specs.Write.{bodies_from, FitsIn, laid, Laid}
 
 -- one entry's stores are one put
@@ -23,22 +23,10 @@ module _ (d : List ℕ) (at kind size : ℕ) (inside : at + entry_length ≤ len
   marks_put : set (set d at kind) (at + 1) 0 ≡ put d at (kind ∷ 0 ∷ [])
   marks_put = set-set-put d at kind 0 (omega arith)
 
-  marks_long : length (set (set d at kind) (at + 1) 0) ≡ length d
-  marks_long = ap length marks_put ∙ length-put d at (kind ∷ 0 ∷ []) (omega arith)
-
-  pub second_inside : at + 1 < length (set d at kind)
-  second_inside = omega (arith, length-set d at kind)
-
-  pub length-inside : at + 2 + 1 < length (set (set d at kind) (at + 1) 0)
-  length-inside = omega (arith, marks_long)
-
   module _ (last : List ℕ) (e : last ≡ put (set (set d at kind) (at + 1) 0) (at + 2) (two size)) where
     pub entry_put : last ≡ put d at (kind ∷ 0 ∷ two size)
     entry_put =
         e ∙ ap (λ (l : List ℕ). put l (at + 2) (two size)) marks_put ∙ put-put d at (kind ∷ 0 ∷ []) (two size) (omega arith)
-
-    pub entry_long : length last ≡ length d
-    entry_long = ap length entry_put ∙ length-put d at (kind ∷ 0 ∷ two size) (omega arith)
 
 -- The limits.
 pub within_facts : (w : Writer) → within w ≡ true → (w.entries ≤ most_entries) × (file_length w ≤ longest_file)
@@ -46,27 +34,6 @@ within_facts w e = (
   leb-true w.entries most_entries (and_left (leb w.entries most_entries) (leb (file_length w) longest_file) e),
   leb-true (file_length w) longest_file (and_right (leb w.entries most_entries) (leb (file_length w) longest_file) e),
 )
-
-pub within-fits : (contents bodies : List ℕ) (w : Writer) (body : List ℕ) → Roomy contents bodies → Countable w body →
-    within (added w body) ≡ true → Fits contents bodies w body
-within-fits contents bodies w body r c e =
-    let f = within_facts (added w body) e in
-    record {
-      entry_inside = omega (arith, f.0, r.contents_long);
-      body-inside = omega (arith, f.1, r.bodies_long);
-      body-short = c.body-short;
-    }
-
-module _ (w : Writer) (long : ℕ) (e : long ≡ file_length w) where
-  pub too_long : longest_file < long → 41 ≡ first (write_refusals w)
-  too_long h = rw (lt-ltb longest_file (file_length w) (omega arith)) refl
-
-  module _ (short : long ≤ longest_file) where
-    pub too_many : most_entries < w.entries → 43 ≡ first (write_refusals w)
-    too_many h = rw (le-ltb longest_file (file_length w) (omega arith), lt-ltb most_entries w.entries h) refl
-
-    pub none-refused : w.entries ≤ most_entries → 0 ≡ first (write_refusals w)
-    none-refused h = rw (le-ltb longest_file (file_length w) (omega arith), le-ltb most_entries w.entries h) refl
 
 -- a file that is not refused is within the limits
 pub not-refused : (w : Writer) → first (write_refusals w) ≡ 0 → within w ≡ true

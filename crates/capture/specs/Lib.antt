@@ -1,2 +1,4 @@
 pub mod File
+pub mod Kind
 pub mod Write
+pub mod Inside

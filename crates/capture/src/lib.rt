@@ -8,11 +8,15 @@ pub mod reader;
 
 ghost use Rattle.std.specs.Prelude.{◌≡◌, ◌+◌, ◌*◌, ◌<◌, ◌≤◌, length};
 ghost use Rattle.refusal.specs.Refusal.{first};
+ghost use Rattle.refusal.specs.Number.{code_of};
 ghost use Rattle.octets.specs.Bytes.{two};
 ghost use Rattle.octets.specs.Stretch.{put};
 ghost use Rattle.capture.specs.File.{head_length, entry_length, content_for, content_of};
 ghost use Rattle.capture.specs.Write.{Fits, added, file_length, within, write_refusals, Roomy, Countable, contents_after, bodies_after};
 ghost use Rattle.capture.specs.Write.{FitsIn, laid};
+ghost use Rattle.capture.specs.Kind.{number_of, Reads};
+
+use refusal::Refusal;
 
 // How many bytes stand before the entries, and how many an entry has.
 pub const HEAD_LENGTH: usize = 2;
@@ -24,17 +28,46 @@ pub const LONGEST_FILE: usize = 60000;
 
 pub const MOST_ENTRIES: usize = 1000;
 
-// The kinds of entries.
-pub const OPEN_PSP: u8 = 1;
+// What an entry stands for, and the number that its first byte gives it.
+#[derive(Clone, Copy, PartialEq, Eq)]
+pub enum Kind {
+    OpenPsp = 1,
+    OpenDmpt = 2,
+    Close = 3,
 
-pub const OPEN_DMPT: u8 = 2;
+    // A packet that came over IP, and one that came over UDP.
+    Data = 4,
+    DataOverUdp = 5,
+}
 
-pub const CLOSE: u8 = 3;
+// A byte that is the number of no kind.
+#[derive(Clone, Copy, PartialEq, Eq)]
+pub struct UnknownKind(pub u8);
 
-// A packet that came over IP, and one that came over UDP.
-pub const DATA: u8 = 4;
+impl From<Kind> for u8 {
+    ghost from_gives = { λ kind number. number ≡ number_of kind };
 
-pub const DATA_OVER_UDP: u8 = 5;
+    fn from(kind: Kind) -> u8 {
+        kind as u8
+    }
+}
+
+impl TryFrom<u8> for Kind {
+    type Error = UnknownKind;
+
+    ghost try_from_gives = { Reads };
+
+    fn try_from(number: u8) -> Result<Kind, UnknownKind> {
+        match number {
+            1 => Ok(Kind::OpenPsp),
+            2 => Ok(Kind::OpenDmpt),
+            3 => Ok(Kind::Close),
+            4 => Ok(Kind::Data),
+            5 => Ok(Kind::DataOverUdp),
+            _ => Err(UnknownKind(number)),
+        }
+    }
+}
 
 // A capture that is being written: how many entries it has, and how many bytes their bodies have together.
 #[derive(Clone, Copy)]
@@ -70,18 +103,18 @@ fn is_within(writer: Writer) -> bool
     (writer.entries <= MOST_ENTRIES) & (length <= LONGEST_FILE)
 }
 
-// Refusals 41 and 43 of the file; or 0: then no entry was left out for want of room.
-pub fn refuse(writer: Writer) -> u32
+// Refusals 41 and 43 of the file. Where there is none, no entry was left out for want of room.
+pub fn refuse(writer: Writer) -> Result<(), Refusal>
     requires { (writer.entries ≤ 4294967296) × (writer.bytes ≤ 4294967296 * 65536 + 65536) }
-    ensures { result ≡ first (write_refusals writer) }
+    ensures { code_of result ≡ first (write_refusals writer) }
 {
     if LONGEST_FILE < file_length(writer) {
-        return refusal::FILE_TOO_LONG;
+        return Err(Refusal::FileTooLong);
     }
     if MOST_ENTRIES < writer.entries {
-        return refusal::TOO_MANY_ENTRIES;
+        return Err(Refusal::TooManyEntries);
     }
-    refusal::NONE
+    Ok(())
 }
 
 // Adds an entry. One that the file has no room for is counted, and not written.

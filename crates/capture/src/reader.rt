@@ -1,14 +1,13 @@
 // Reading a capture file: whether it is sound, and its entries one after another. An entry's body is handed out as the stretch of the file
 // that it is; nothing is copied.
 ghost use Rattle.std.specs.Prelude.{◌≡◌, ◌+◌, ◌*◌, ◌≤◌, length};
-ghost use Rattle.octets.specs.Count.{any};
-ghost use Rattle.capture.specs.File.{head_length, entry_length, most_entries, entry_count, kind_at, body_length, body_start, wrong_parts};
-ghost use Rattle.capture.specs.File.{wrong_entry, PermitsCheck, PermitsBody, StandsAt};
+ghost use Rattle.refusal.specs.Number.{code_of};
+ghost use Rattle.capture.specs.File.{head_length, entry_length, most_entries, entry_count, kind_at, body_length, wrong_parts};
+ghost use Rattle.capture.specs.File.{PermitsCheck, PermitsBody, StandsAt};
+ghost use Rattle.capture.specs.Inside.{surveyed};
 
-use crate::{
-    CLOSE, DATA, DATA_OVER_UDP, ENTRY_LENGTH, HEAD_LENGTH, LONGEST_FILE, MOST_ENTRIES, OPEN_DMPT,
-    OPEN_PSP,
-};
+use crate::{ENTRY_LENGTH, HEAD_LENGTH, Kind, LONGEST_FILE, MOST_ENTRIES};
+use refusal::Refusal;
 
 // How long a session ID is, as the body of an entry.
 const ID_BODY: usize = 4;
@@ -41,65 +40,53 @@ pub fn length_at(file: &[u8], k: usize) -> usize
 fn wrong_parts(kind: u8, second: u8, size: usize) -> bool
     ensures { result ≡ wrong_parts kind second size }
 {
-    let with_id = (kind == OPEN_PSP) | (kind == OPEN_DMPT) | (kind == CLOSE);
-    let with_packet = (kind == DATA) | (kind == DATA_OVER_UDP);
-    !(with_id | with_packet) | (second != 0) | (with_id & (size != ID_BODY))
+    match Kind::try_from(kind) {
+        Ok(Kind::OpenPsp | Kind::OpenDmpt | Kind::Close) => (second != 0) | (size != ID_BODY),
+        Ok(Kind::Data | Kind::DataOverUdp) => second != 0,
+        Err(_) => true,
+    }
 }
 
-// What a walk over the first entries finds: where the bodies end, and whether an entry is wrong.
-#[derive(Clone, Copy)]
-struct Surveyed {
-    end: usize,
-    wrong: bool,
-}
-
-fn survey(file: &[u8], count: usize) -> Surveyed
+// Where the bodies of the first entries end; or that one of these entries is wrong.
+fn survey(file: &[u8], count: usize) -> Result<usize, Refusal>
     requires count_in_bounds { (head_length + entry_length * count ≤ length file.now) × (count ≤ most_entries) }
     requires count_value { count ≡ entry_count head_length file.now }
-    ensures { result ≡ record {
-      end = body_start head_length entry_length file.now count;
-      wrong = any (wrong_entry head_length entry_length file.now) count;
-    } }
+    ensures { result ≡ surveyed file.now count }
 {
     let mut end = HEAD_LENGTH + ENTRY_LENGTH * count;
-    let mut wrong = false;
-    let mut k: usize = 0;
-    while k < count {
-        let kind = kind_at(file, k);
+    for k in 0..count {
         let second = file[HEAD_LENGTH + ENTRY_LENGTH * k + 1];
         let size = length_at(file, k);
+        if wrong_parts(kind_at(file, k), second, size) {
+            return Err(Refusal::EntryWrong);
+        }
         end += size;
-        wrong = wrong | wrong_parts(kind, second, size);
-        k += 1;
     }
-    Surveyed { end, wrong }
+    Ok(end)
 }
 
-// Refusals 41 to 45 of the file, or 0.
-pub fn check(file: &[u8]) -> u32
-    ensures { PermitsCheck file.now result }
+// Refusals 41 to 45 of the file.
+pub fn check(file: &[u8]) -> Result<(), Refusal>
+    ensures { PermitsCheck file.now (code_of result) }
 {
     if LONGEST_FILE < file.len() {
-        return refusal::FILE_TOO_LONG;
+        return Err(Refusal::FileTooLong);
     }
     if file.len() < HEAD_LENGTH {
-        return refusal::CONTENTS_CUT;
+        return Err(Refusal::ContentsCut);
     }
     let count = entry_count(file);
     if MOST_ENTRIES < count {
-        return refusal::TOO_MANY_ENTRIES;
+        return Err(Refusal::TooManyEntries);
     }
     if file.len() < HEAD_LENGTH + ENTRY_LENGTH * count {
-        return refusal::CONTENTS_CUT;
+        return Err(Refusal::ContentsCut);
     }
-    let surveyed = survey(file, count);
-    if surveyed.wrong {
-        return refusal::ENTRY_WRONG;
+    let end = survey(file, count)?;
+    if end != file.len() {
+        return Err(Refusal::BodiesDoNotFill);
     }
-    if surveyed.end != file.len() {
-        return refusal::BODIES_DO_NOT_FILL;
-    }
-    refusal::NONE
+    Ok(())
 }
 
 // The body of the entry at which a walk stands: a stretch of the file itself.

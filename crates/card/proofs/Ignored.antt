@@ -12,7 +12,7 @@ use Rattle.packet.specs.Dmpt.{dmpt_refusals, mpegs}
 use Rattle.packet.specs.Ignored.{SameRead, SameCount}
 use Rattle.packet.proofs.Ignored.{subs_long, early_alike, dmpt_alike, psp_alike, same-numbered, same_number, same-mpegs, same-segments}
 use Rattle.flow.specs.declared.Flow.{Flow}
-use Rattle.flow.specs.declared.Judged.{Judged}
+use Rattle.flow.specs.Flow.{Judged}
 use Rattle.table.specs.declared.Table.{Table}
 use Rattle.table.specs.declared.Row.{Row}
 use Rattle.table.specs.declared.Terms.{Terms}

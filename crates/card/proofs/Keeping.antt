@@ -12,7 +12,7 @@ use borrow.Author.Tests.{not-true}
 use Rattle.octets.proofs.Counts.{true-or-false, least_passes}
 use Rattle.refusal.proofs.Laws.{and_left}
 use Rattle.flow.specs.declared.Flow.{Flow}
-use Rattle.flow.specs.declared.Judged.{Judged}
+use Rattle.flow.specs.Flow.{Judged}
 use Rattle.flow.specs.Flow.{heard_mark, judge, emptied}
 use Rattle.flow.proofs.Judging.{judge-sound}
 use Rattle.packet.specs.Header.{Packet, s_set, number, sub, session_id}

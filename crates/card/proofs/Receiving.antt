@@ -18,10 +18,9 @@ use Rattle.table.specs.Broken.{broken}
 use Rattle.table.specs.Calls.{is_open}
 use Rattle.table.proofs.Keeping.{rows-sound}
 use Rattle.join.specs.Slices.{Slices}
-use Rattle.card.specs.declared.Found.{Found}
-use Rattle.card.specs.Receive.{Outcome, row_of, too_small, early_refusals, flow_refusals}
+use Rattle.card.specs.Receive.{Outcome, row_of, too_small, early_refusals, row_refusals, flow_refusals}
 use Rattle.card.specs.Receive.{carried_out, refused, received_by, received, PermitsReceive}
-use Rattle.card.specs.Inside.{seek_refusals, not_found, Seeks, TakenOutcome, not_taken, taken_as, takes, Ready}
+use Rattle.card.specs.Inside.{seek_refusals, Found, not_found, Seeks, TakenOutcome, not_taken, taken_as, takes, Ready}
 use Rattle.card.proofs.Accepted.{early_over}
 
 -- an outcome that is the definition's is permitted, field by field
@@ -142,13 +141,26 @@ module _ (t : Table) (p : Packet) (s : Slices) where
       ap (λ (n : ℕ). received_by n t (row_of t p) (sub p) s)
       (first_stopped (seek_refusals t p (too_small s)) behind (λ z. omega (arith, given, z)) ∙ sym given)
 
-  received_by_lem : (c r : ℕ) → c ≡ first (seek_refusals t p (too_small s)) → (c ≡ 0 → r ≡ row_of t p) →
-      gathered t r (takes c r (row_at t r) p s) ≡ received t p s
-  unfolding takes
-  received_by_lem zero r given there = rw (there refl) (gathered_by (first behind) t (row_of t p) (sub p) s ∙ sym (sought (sym given)))
-  received_by_lem (suc c) r given there = gathered-refused (suc c) t r s ∙ sym (unsought c given)
+  refused_by : (c : ℕ) → c ≡ first (seek_refusals t p (too_small s)) → (c ≡ 0 → ⊥) → refused c t s ≡ received t p s
+  refused_by zero given some = absurd (some refl)
+  refused_by (suc c) given some = sym (unsought c given)
 
-pub receive_is : (t : Table) (p : Packet) (s : Slices) (found : Found) (o : TakenOutcome) → Seeks t p (too_small s) found →
-    o ≡ takes found.code found.row (row_at t found.row) p s → gathered t found.row o ≡ received t p s
-receive_is t p s found o seeks e =
-    ap (gathered t found.row) e ∙ received_by_lem t p s found.code found.row seeks.its_number seeks.its_row
+  -- the session is not sought in vain, and its row answers
+  pub receive_there : (r : ℕ) → Seeks t p (too_small s) (record { code = 0; row = r }) → (o : TakenOutcome) → o ≡ takes r (row_at t r) p s →
+      gathered t r o ≡ received t p s
+  unfolding takes
+  receive_there r seeks o e =
+      let there = seeks.its_row refl in
+      ap (gathered t r) e
+      ∙ gathered_by (first (row_refusals (row_at t r) (sub p))) t r (sub p) s
+      ∙ rw there (sym (sought (sym seeks.its_number)))
+
+  -- .. or it is
+  pub receive_nowhere : (n : ℕ) → (n ≡ 0 → ⊥) → Seeks t p (too_small s) (not_found n) → refused n t s ≡ received t p s
+  receive_nowhere n some seeks = refused_by n seeks.its_number some
+
+  -- a row that refuses leaves the table as it was
+  pub receive_refused : (r : ℕ) → Seeks t p (too_small s) (record { code = 0; row = r }) → (n : ℕ) (s' : Slices) →
+      ◌≡◌ {A = TakenOutcome} (record { taken = not_taken n (row_at t r); slices = s' }) (takes r (row_at t r) p s) →
+      refused n t s' ≡ received t p s
+  receive_refused r seeks n s' e = sym (gathered-refused n t r s') ∙ receive_there r seeks _ e

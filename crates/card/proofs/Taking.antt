@@ -10,9 +10,9 @@ use lib.ListN.{length}
 use borrow.Author.Tests.{ltb-false}
 use Rattle.refusal.specs.Refusal.{◌when◌, first}
 use Rattle.refusal.proofs.Laws.{first-passed, first_stopped}
-use Rattle.octets.specs.Stretch.{joined}
+use Rattle.octets.specs.Stretch.{part, joined}
 use Rattle.octets.proofs.Counts.{or-false-left, or-false-right}
-use Rattle.flow.specs.declared.Judged.{Judged}
+use Rattle.flow.specs.Flow.{Judged}
 use Rattle.flow.specs.Flow.{flows}
 use Rattle.packet.specs.Header.{Packet, sub}
 use Rattle.table.specs.declared.Row.{Row}
@@ -25,11 +25,9 @@ use Rattle.join.specs.declared.Tally.{Tally}
 use Rattle.join.specs.Join.{Fate}
 use Rattle.join.specs.Slices.{Slices, most_frames, most_bytes}
 use Rattle.join.specs.Inside.{nothing_yet, Placed, Roomy}
-use Rattle.card.specs.declared.Hearing.{Hearing}
-use Rattle.card.specs.declared.Taken.{Taken}
-use Rattle.card.specs.Hear.{judged_of, hear}
+use Rattle.card.specs.Hear.{judged_of, fate_of, hear}
 use Rattle.card.specs.Receive.{holding_size, place_of, flow_number, flow_for, heard_in, too_small, packet_refusals, row_refusals, slices_after}
-use Rattle.card.specs.Inside.{TakenOutcome, taken_as, takes, not_taken, hears_in, Ready, answered, Hearable, Hears}
+use Rattle.card.specs.Inside.{RowAnswer, TakenOutcome, taken_as, takes, not_taken, hears_in, Ready, answered, Hearable}
 use Rattle.card.proofs.ByKind.{numbered-packet}
 
 -- What is not refused for its size is large enough.
@@ -108,52 +106,45 @@ not_taken_by : (c r : ℕ) (row : Row) (after : List ℕ) (s : Slices) → (c �
 not_taken_by zero r row after s some = absurd (some refl)
 not_taken_by (suc c) r row after s some = refl
 
--- The returns of `take`: refused before, refused by 6, 7 and 9 to 11, late, heard.
+-- The returns of `take`: refused by 6, 7 and 9 to 11, late, heard. `terms` and `refused` are what it found of the row and of the packet.
 module _ (row : Row) (r : ℕ) (p : Packet) (s : Slices) where
-  pub take-before : (code : ℕ) (answer : Taken) → (code ≡ 0 → ⊥) → answer ≡ not_taken code row →
-      ◌≡◌ {A = TakenOutcome} (record { taken = answer; slices = s }) (takes code r row p s)
-  unfolding takes
-  take-before zero answer some e = absurd (some refl)
-  take-before (suc c) answer some e = rw e refl
-
-  -- `terms` and `refused` are what it found of the row and of the packet
-  module _ (code : ℕ) (passed : code ≡ 0) (after : List ℕ) (behind : after ≡ sub p) (terms : Terms) (asked : terms ≡ terms_of row)
-      (refused : ℕ) (found : refused ≡ first (packet_refusals terms after)) where
-    by_row : takes code r row p s ≡ taken_as (first (row_refusals row (sub p))) r row (sub p) s
+  module _ (after : List ℕ) (behind : after ≡ sub p) (terms : Terms) (asked : terms ≡ terms_of row) (refused : ℕ)
+      (found : refused ≡ first (packet_refusals terms after)) where
+    by_row : takes r row p s ≡ taken_as (first (row_refusals row (sub p))) r row (sub p) s
     unfolding takes
-    by_row = rw passed refl
+    by_row = refl
 
     refused_is : refused ≡ first (packet_refusals (terms_of row) (sub p))
     refused_is = found ∙ rw (asked, behind) refl
 
-    pub take-refused : (answer : Taken) → (refused ≡ 0 → ⊥) → answer ≡ not_taken refused row →
-        ◌≡◌ {A = TakenOutcome} (record { taken = answer; slices = s }) (takes code r row p s)
-    take-refused answer some e =
+    pub take-refused : (refused ≡ 0 → ⊥) → ◌≡◌ {A = TakenOutcome} (record { taken = not_taken refused row; slices = s }) (takes r row p s)
+    take-refused some =
         let late = 12 when (judged_of (flow_for row (sub p)) (sub p)).late ∷ [] in
         let stops = first_stopped (packet_refusals (terms_of row) (sub p)) late (λ z. some (refused_is ∙ z)) in
-        rw (by_row, stops, ← refused_is, e) (not_taken_by refused r row (sub p) s some)
+        rw (by_row, stops, ← refused_is) (not_taken_by refused r row (sub p) s some)
 
-    module _ (over : refused ≡ 0) (k place : ℕ) (flow : k ≡ flow_number row (sub p)) (h : Hearing) (s' : Slices)
-        (hears : Hears terms (flow_at row k) place after s h s') where
-      judged_is : h.judged ≡ judged_of (flow_for row (sub p)) (sub p)
-      judged_is = hears.judges ∙ rw (flow, behind) refl
+    module _ (over : refused ≡ 0) (k : ℕ) (flow : k ≡ flow_number row (sub p)) (j : Judged) (judges : j ≡ judged_of (flow_at row k) after) where
+      judged_is : j ≡ judged_of (flow_for row (sub p)) (sub p)
+      judged_is = judges ∙ rw (flow, behind) refl
 
-      last_line : first (row_refusals row (sub p)) ≡ cond h.judged.late 12 0
+      last_line : first (row_refusals row (sub p)) ≡ cond j.late 12 0
       last_line =
           rw judged_is
           (first-passed (packet_refusals (terms_of row) (sub p)) (12 when (judged_of (flow_for row (sub p)) (sub p)).late ∷ [])
           (numbered-packet (terms_of row) (sub p)) (sym refused_is ∙ over))
 
-      pub take_late : (answer : Taken) → h.judged.late ≡ true → answer ≡ not_taken 12 row →
-          ◌≡◌ {A = TakenOutcome} (record { taken = answer; slices = s' }) (takes code r row p s)
-      take_late answer late e = rw (by_row, last_line, late, e, hears.leaves late) refl
+      pub take_late : j.late ≡ true → (n : ℕ) → n ≡ 12 → (s' : Slices) → s' ≡ s →
+          ◌≡◌ {A = TakenOutcome} (record { taken = not_taken n row; slices = s' }) (takes r row p s)
+      take_late late n number s' left = rw (by_row, last_line, late, number, left) refl
 
-      pub take_heard : (answer : Taken) → h.judged.late ≡ false → place ≡ place_of r k → answer ≡ answered row k h.judged h.tally →
-          ◌≡◌ {A = TakenOutcome} (record { taken = answer; slices = s' }) (takes code r row p s)
+      pub take_heard : j.late ≡ false → (place : ℕ) → place ≡ place_of r k → (tally : Tally) (s' : Slices) →
+          Placed (fate_of terms j.gap (part s.holding place (flow_at row k).held) after) place nothing_yet s tally s' →
+          (answer : RowAnswer) → answer ≡ answered row k j tally →
+          ◌≡◌ {A = TakenOutcome} (record { taken = answer; slices = s' }) (takes r row p s)
       unfolding hear
-      take_heard answer in_time_lem at e =
-          let placed : Placed (heard_in row r (sub p) s).fate (place_of r (flow_number row (sub p))) nothing_yet s h.tally s' =
-          rw (asked, at, flow, behind, judged_is) at (hears.places in_time_lem) in
+      take_heard in_time_lem place at tally s' places answer e =
+          let placed : Placed (heard_in row r (sub p) s).fate (place_of r (flow_number row (sub p))) nothing_yet s tally s' =
+          rw (asked, at, flow, behind, judged_is) at places in
           rw (by_row, last_line, in_time_lem, e, flow, judged_is)
           (heard_in_lem row r (flow_number row (sub p)) (judged_of (flow_for row (sub p)) (sub p)) (heard_in row r (sub p) s).fate s s'
-          h.tally placed)
+          tally placed)

@@ -3,7 +3,7 @@
 -- out. The packet is accepted: no refusal applies. `sub` is what follows its session ID.
 use Rattle.std.specs.Prelude.{ℕ, Bool, true, false, cond, List, length}
 use Rattle.flow.specs.declared.Flow.{Flow}
-use Rattle.flow.specs.declared.Judged.{Judged}
+use Rattle.flow.specs.Flow.{Judged}
 use Rattle.flow.specs.Flow.{judge, unnumbered}
 use Rattle.packet.specs.Header.{s_set, flow_id, number}
 use Rattle.packet.specs.Segments.{Segment, entry_width, segments}

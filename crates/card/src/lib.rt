@@ -8,20 +8,23 @@
 
 ghost use Rattle.std.specs.Prelude.{◌≡◌, ◌<◌, ◌≤◌, length};
 ghost use Rattle.refusal.specs.Refusal.{first};
+ghost use Rattle.refusal.specs.Number.{number_of, code_of};
 ghost use Rattle.octets.specs.Stretch.{part};
-ghost use Rattle.flow.specs.Flow.{flows};
+ghost use Rattle.flow.specs.Flow.{flows, judged_as, told};
 ghost use Rattle.packet.specs.Header.{packet_by, header_length};
 ghost use Rattle.table.specs.Rows.{rows};
-ghost use Rattle.join.specs.Slices.{as_slices};
+ghost use Rattle.join.specs.Slices.{as_slices, with_output, SameSlices};
 ghost use Rattle.join.specs.Inside.{nothing_yet, Placed, Roomy, Within};
 ghost use Rattle.card.specs.Hear.{judged_of, fate_of};
-ghost use Rattle.card.specs.Receive.{place_of, packet_refusals, PermitsReceive};
-ghost use Rattle.card.specs.Inside.{small_by, Seeks, not_found, TakenOutcome, takes, not_taken, Ready, answered, Hearable, Hears};
+ghost use Rattle.card.specs.Receive.{place_of, packet_refusals, refused_answer, PermitsReceive};
+ghost use Rattle.card.specs.Inside.{small_by, found_by, Seeks, TakenOutcome, accepted_by, row_answer, takes, accepted_answer};
+ghost use Rattle.card.specs.Inside.{Ready, answered, Hearable, Hears};
 
-use flow::{FLOWS, Flow, Judged};
-use join::Tally;
+use flow::{Accepted, FLOWS, Flow};
+use join::{Output, Tally};
 use packet::{dmpt, header, psp};
 use pass::{mpegs, unnumbered};
+use refusal::Refusal;
 use table::{ROWS, Row, Table, Terms};
 
 // A place for each flow of each row.
@@ -45,7 +48,7 @@ pub struct Received {
 }
 
 // Takes a packet: delivers the frames that it completes, and holds what it begins, where it has a number; or refuses it, and then nothing
-// has changed. The table is changed here and nowhere below: a row is taken out of it, and put back, as it was where the packet is refused.
+// has changed. The table is changed in `delivered` and nowhere else: there the session's row is put back as it took the packet.
 pub fn receive(
     table: Table,
     transport: u32,
@@ -58,24 +61,52 @@ pub fn receive(
         (as_slices holding.old output.old lengths.old)
         (record { answer = result; slices = as_slices holding.new output.new lengths.new }) }
 {
-    let found = seek(
-        table,
+    let holds = holding.len();
+    let at = match seek(
+        &table,
         packet,
         transport,
-        holding.len(),
+        holds,
         output.len(),
         lengths.len(),
-    );
-    let mut next = table;
-    let at = found.row;
-    let row = next.rows[at];
-    let taken = take(
-        found.code, row, at, holding, packet, transport, output, lengths,
-    );
-    let after = taken.row;
-    next.rows[at] = after;
+    ) {
+        Ok(at) => at,
+        Err(refusal) => return refused(refusal, &table),
+    };
+    let row = table.rows[at];
+    let mut output = Output {
+        bytes: output,
+        lengths,
+    };
+    match take(row, at, holding, packet, transport, &mut output) {
+        Ok(taken) => delivered(taken, at, &table),
+        Err(refusal) => refused(refusal, &table),
+    }
+}
+
+// What a refused packet is answered: its number, and the table as it was.
+fn refused(refusal: Refusal, table: &Table) -> Received
+    ensures { result ≡ refused_answer (number_of refusal) table.now }
+{
     Received {
-        code: taken.code,
+        code: u32::from(refusal),
+        frames: 0,
+        bytes: 0,
+        dropped: 0,
+        gap: 0,
+        table: *table,
+    }
+}
+
+// What an accepted packet is answered: the counts, and the table with the session's row put back.
+fn delivered(taken: Taken, at: usize, table: &Table) -> Received
+    requires { at < rows }
+    ensures { result ≡ accepted_answer table.now at taken }
+{
+    let mut next = *table;
+    next.rows[at] = taken.row;
+    Received {
+        code: 0,
         frames: taken.frames,
         bytes: taken.bytes,
         dropped: taken.dropped,
@@ -84,48 +115,27 @@ pub fn receive(
     }
 }
 
-// Where a packet's session stands; or the refusal's number, and then any row, to be put back as it was.
-#[derive(Clone, Copy)]
-struct Found {
-    code: u32,
-    row: usize,
-}
-
-// Refusals 1, 13, 24 for the transport, 2, 3, 15, 4 and 5, in this order; or the session's row.
+// The session's row; or refusals 1, 13, 24 for the transport, 2, 3, 15, 4 and 5, in this order.
 fn seek(
-    table: Table,
+    table: &Table,
     packet: &[u8],
     transport: u32,
     holding: usize,
     output: usize,
     lengths: usize,
-) -> Found
-    ensures { Seeks table (packet_by transport packet.now) (small_by holding output lengths) result }
+) -> Result<usize, Refusal>
+    ensures { Seeks table.now (packet_by transport packet.now) (small_by holding output lengths) (found_by result) }
 {
     if too_small(holding, output, lengths) {
-        return not_found(refusal::SLICE_TOO_SMALL);
+        return Err(Refusal::SliceTooSmall);
     }
-    if table::is_broken(table) {
-        return not_found(refusal::TABLE_BROKEN);
+    if table.is_broken() {
+        return Err(Refusal::TableBroken);
     }
-    let early = header::refuse_before_session(packet, transport);
-    if early != refusal::NONE {
-        return not_found(early);
-    }
-    let row = table::find_row(table, header::session_id(packet, transport));
-    if ROWS <= row {
-        return not_found(refusal::SESSION_NOT_OPEN);
-    }
-    Found {
-        code: refusal::NONE,
-        row,
-    }
-}
-
-fn not_found(code: u32) -> Found
-    ensures { result ≡ not_found code }
-{
-    Found { code, row: 0 }
+    header::refuse_before_session(packet, transport)?;
+    table
+        .find_row(header::session_id(packet, transport))
+        .ok_or(Refusal::SessionNotOpen)
 }
 
 // Refusal 1, from the lengths of the slices.
@@ -135,10 +145,9 @@ fn too_small(holding: usize, output: usize, lengths: usize) -> bool
     (holding < HOLDING_SIZE) | (output < MOST_BYTES) | (lengths < MOST_FRAMES)
 }
 
-// What a session's row makes of a packet: 0 or the refusal's number, the counts, and the row afterwards.
+// What a session's row makes of a packet that it accepts: the counts, and the row afterwards.
 #[derive(Clone, Copy)]
 struct Taken {
-    code: u32,
     frames: u32,
     bytes: u32,
     dropped: u32,
@@ -146,91 +155,59 @@ struct Taken {
     row: Row,
 }
 
-// What a refused packet comes to: the row is as it was.
-fn not_taken(code: u32, row: Row) -> Taken
-    ensures { result ≡ not_taken code row }
-{
-    Taken {
-        code,
-        frames: 0,
-        bytes: 0,
-        dropped: 0,
-        gap: 0,
-        row,
-    }
-}
-
-// Takes a packet for the session in row `at`, unless it was refused before by `code`: refusals 6, 7 and 9 to 12, or the flow hears it.
+// Takes a packet for the session in row `at`: the flow hears it; or refusals 6, 7 and 9 to 12.
 fn take(
-    code: u32,
     row: Row,
     at: usize,
     holding: &mut [u8],
     packet: &[u8],
     transport: u32,
-    output: &mut [u8],
-    lengths: &mut [u16],
-) -> Taken
+    output: &mut Output,
+) -> Result<Taken, Refusal>
     requires at_lt_rows { at < rows }
-    requires ready { code ≡ 0 → Ready row (packet_by transport packet.now) (as_slices holding.old output.old lengths.old) }
-    ensures { ◌≡◌ {A = TakenOutcome}
-        (record { taken = result; slices = as_slices holding.new output.new lengths.new })
-        (takes code at row (packet_by transport packet.now)
-        (as_slices holding.old output.old lengths.old)) }
+    requires ready { Ready row (packet_by transport packet.now) (with_output holding.old output.old) }
+    ensures outcome { ◌≡◌ {A = TakenOutcome}
+        (record { taken = row_answer row result; slices = with_output holding.new output.new })
+        (takes at row (packet_by transport packet.now) (with_output holding.old output.old)) }
+    ensures same_slices { SameSlices output.old output.new }
 {
-    if code != refusal::NONE {
-        return not_taken(code, row);
-    }
     let sub = header::sub_of(packet, transport);
     let terms = table::terms_of(row);
-    let refused = refuse_packet(terms, sub);
-    if refused != refusal::NONE {
-        return not_taken(refused, row);
-    }
+    refuse_packet(terms, sub)?;
     let k = header::flow_id(sub);
     let flow = row.flows[k];
-    let heard = hear(terms, flow, holding, place_of(at, k), output, lengths, sub);
-    let judged = heard.judged;
-    if judged.late {
-        return not_taken(refusal::LATE, row);
-    }
-    let tally = heard.tally;
-    answer(row, k, judged, tally)
+    let heard = hear(terms, flow, holding, place_of(at, k), output, sub)?;
+    Ok(answer(row, k, heard))
 }
 
 // What an accepted packet comes to: the counts, and the row with the flow's next record.
-fn answer(row: Row, k: usize, judged: Judged, tally: Tally) -> Taken
-    requires { (k < flows) × Within tally }
-    ensures { result ≡ answered row k judged tally }
+fn answer(row: Row, k: usize, heard: Hearing) -> Taken
+    requires { (k < flows) × Within heard.tally }
+    ensures { accepted_by row result ≡ answered row k (judged_as heard.accepted) heard.tally }
 {
-    let flow = judged.flow;
-    let held = tally.held as u16;
+    let tally = heard.tally;
+    let flow = heard.accepted.flow;
     let expecting = Flow {
         heard: flow.heard,
         expected: flow.expected,
-        held,
+        held: tally.held as u16,
     };
     let mut next = row;
     next.flows[k] = expecting;
-    let frames = tally.frames as u32;
-    let bytes = tally.bytes as u32;
-    let dropped = tally.dropped as u32;
-    let gap = judged.gap as u32;
     Taken {
-        code: refusal::NONE,
-        frames,
-        bytes,
-        dropped,
-        gap,
+        frames: tally.frames as u32,
+        bytes: tally.bytes as u32,
+        dropped: tally.dropped as u32,
+        gap: u32::from(heard.accepted.gap),
         row: next,
     }
 }
 
-// What a flow makes of a packet that passed refusals 6, 7 and 9 to 11: how its number is judged; and, unless that is late, what became of
+// What a flow makes of a packet that passed refusals 6, 7 and 9 to 11 and is not late: how its number was accepted, and what became of
 // the bytes.
 #[derive(Clone, Copy)]
 struct Hearing {
-    judged: Judged,
+    accepted: Accepted,
     tally: Tally,
 }
 
@@ -240,37 +217,29 @@ fn hear(
     flow: Flow,
     holding: &mut [u8],
     place: usize,
-    output: &mut [u8],
-    lengths: &mut [u16],
+    output: &mut Output,
     sub: &[u8],
-) -> Hearing
-    requires roomy { Roomy place (as_slices holding.old output.old lengths.old) }
+) -> Result<Hearing, Refusal>
+    requires roomy { Roomy place (with_output holding.old output.old) }
     requires hearable { Hearable terms flow.held sub.now }
-    ensures { Hears terms flow place sub.now
-        (as_slices holding.old output.old lengths.old)
-        result (as_slices holding.new output.new lengths.new) }
+    ensures hears { Hears terms flow place sub.now
+        (with_output holding.old output.old) result (with_output holding.new output.new) }
+    ensures same_slices { SameSlices output.old output.new }
 {
-    let judged = judge_packet(flow, sub);
-    if judged.late {
-        let tally = Tally {
-            held: 0,
-            frames: 0,
-            bytes: 0,
-            dropped: 0,
-        };
-        return Hearing { judged, tally };
+    match judge_packet(flow, sub) {
+        Some(accepted) => {
+            let held = usize::from(flow.held);
+            let tally = place_packet(terms, holding, place, output, sub, accepted.gap, held);
+            Ok(Hearing { accepted, tally })
+        }
+        None => Err(Refusal::Late),
     }
-    let held = flow.held as usize;
-    let tally = place_packet(
-        terms, holding, place, output, lengths, sub, judged.gap, held,
-    );
-    Hearing { judged, tally }
 }
 
-// Refusals 6, 7 and 9 to 11, by the kind of the session; or 0.
-fn refuse_packet(terms: Terms, sub: &[u8]) -> u32
+// Refusals 6, 7 and 9 to 11, by the kind of the session.
+fn refuse_packet(terms: Terms, sub: &[u8]) -> Result<(), Refusal>
     requires { header_length ≤ length sub.now }
-    ensures { result ≡ first (packet_refusals terms sub.now) }
+    ensures { code_of result ≡ first (packet_refusals terms sub.now) }
 {
     let kind = terms.kind;
     if table::is_dmpt(kind) {
@@ -280,18 +249,14 @@ fn refuse_packet(terms: Terms, sub: &[u8]) -> u32
 }
 
 // Judges the packet's number, where it has one.
-fn judge_packet(flow: Flow, sub: &[u8]) -> Judged
+fn judge_packet(flow: Flow, sub: &[u8]) -> Option<Accepted>
     requires { header_length ≤ length sub.now }
-    ensures { result ≡ judged_of flow sub.now }
+    ensures { told flow result ≡ judged_of flow sub.now }
 {
     if header::s_set(sub) {
         return flow.judge(header::number_in(sub));
     }
-    Judged {
-        flow,
-        gap: 0,
-        late: false, // there is no number to judge
-    }
+    Some(Accepted { flow, gap: 0 }) // there is no number to judge
 }
 
 // Where the place of a flow starts.
@@ -307,31 +272,30 @@ fn place_packet(
     terms: Terms,
     holding: &mut [u8],
     place: usize,
-    output: &mut [u8],
-    lengths: &mut [u16],
+    output: &mut Output,
     sub: &[u8],
     gap: u16,
     held: usize,
 ) -> Tally
-    requires roomy { Roomy place (as_slices holding.old output.old lengths.old) }
+    requires roomy { Roomy place (with_output holding.old output.old) }
     requires hearable { Hearable terms held sub.now }
     ensures placed { Placed (fate_of terms gap (part holding.old place held) sub.now)
-        place nothing_yet (as_slices holding.old output.old lengths.old)
-        result (as_slices holding.new output.new lengths.new) }
+        place nothing_yet (with_output holding.old output.old) result (with_output holding.new output.new) }
     ensures within { Within result }
+    ensures same_slices { SameSlices output.old output.new }
 {
     let kind = terms.kind;
     if table::is_dmpt(kind) {
-        return mpegs::walk(output, lengths, sub);
+        return mpegs::walk(output, sub);
     }
-    if !header::s_set(sub) {
-        return unnumbered::walk(output, lengths, sub, psp::ENTRY_WIDTH, terms.longest, held);
+    let numbered = header::s_set(sub);
+    if !numbered {
+        return unnumbered::walk(output, sub, psp::ENTRY_WIDTH, terms.longest, held);
     }
     join::walk(
         holding,
         place,
         output,
-        lengths,
         sub,
         psp::ENTRY_WIDTH,
         terms.longest,

@@ -7,7 +7,7 @@ use native.Mathlib.Omega.{arith}
 use lib.Dec.{ltb}
 use borrow.Author.Tests.{ltb-true, lt-ltb, le-ltb}
 use Rattle.flow.specs.declared.Flow.{Flow}
-use Rattle.flow.specs.declared.Judged.{Judged}
+use Rattle.flow.specs.Flow.{Judged}
 use Rattle.flow.specs.Numbers.{ahead, number_at}
 use Rattle.flow.specs.Flow.{half, heard_mark, is_fresh, accepted, too_late, judge}
 use Rattle.flow.proofs.Numbers.{ahead_forward, ahead_behind}

@@ -2,7 +2,7 @@
 use Prim.Native.Nat.{ℕ}
 use mathlib.Core.Path.{◌≡◌, refl, sym, ◌∙◌}
 use Rattle.flow.specs.declared.Flow.{Flow}
-use Rattle.flow.specs.declared.Judged.{Judged}
+use Rattle.flow.specs.Flow.{Judged}
 use Rattle.flow.specs.Flow.{fresh, judge, PermitsFresh, PermitsJudge}
 
 pub fresh-permitted : PermitsFresh fresh

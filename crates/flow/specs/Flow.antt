@@ -1,9 +1,9 @@
 -- A flow's record, and what it makes of a sequence number (document 01, "Opening, closing, listening"). A fresh flow accepts any
 -- number, with gap 0. Any other accepts a number that lies less than 32,768 ahead of the one it expects, and reports how far
 -- ahead as the gap; the rest are late. Once it has accepted a number, it expects the next one.
-use Rattle.std.specs.Prelude.{ℕ, ◌≡◌, Bool, true, false, cond, eqb, ltb}
+use Rattle.std.specs.Prelude.{ℕ, ◌≡◌, Option, Some, None, Bool, true, false, cond, eqb, ltb}
 use Rattle.flow.specs.declared.Flow.{Flow}
-use Rattle.flow.specs.declared.Judged.{Judged}
+use Rattle.flow.specs.declared.Accepted.{Accepted}
 use Rattle.flow.specs.Numbers.{ahead, next}
 
 -- the longest frame, and so the most bytes that a flow holds
@@ -38,6 +38,12 @@ is_fresh f = eqb f.heard 0
 abbrev pub expecting : Flow → ℕ → Flow
 expecting f number = record { heard = heard_mark; expected = next number; held = f.held }
 
+-- What a record makes of a number: the next record and the gap; or that the number is late.
+pub record Judged : Type 0 where
+  pub flow : Flow
+  pub gap : ℕ
+  pub late : Bool
+
 abbrev pub accepted : Flow → ℕ → ℕ → Judged
 accepted f number gap = record { flow = expecting f number; gap = gap; late = false }
 
@@ -54,6 +60,14 @@ judge f number =
 -- a packet without a number, S clear: nothing to judge, gap 0, the record as it was
 abbrev pub unnumbered : Flow → Judged
 unnumbered f = record { flow = f; gap = 0; late = false }
+
+-- .. as the code says it: of a number that is not accepted, that it is late
+abbrev pub judged_as : Accepted → Judged
+judged_as a = record { flow = a.flow; gap = a.gap; late = false }
+
+abbrev pub told : Flow → Option Accepted → Judged
+told f (Some a) = judged_as a
+told f None = too_late f
 
 -- the record of a flow that holds nothing any more, and expects what it expected
 abbrev pub emptied : Flow → Flow

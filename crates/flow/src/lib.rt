@@ -4,7 +4,7 @@
 
 ghost use Rattle.std.specs.Prelude.{◌≡◌};
 ghost use Rattle.flow.specs.Numbers.{ahead, next};
-ghost use Rattle.flow.specs.Flow.{PermitsFresh, PermitsJudge};
+ghost use Rattle.flow.specs.Flow.{told, PermitsFresh, PermitsJudge};
 
 // How many flows a row has; their numbers are 0 to `Flow::TOP`.
 pub const FLOWS: usize = 4;
@@ -20,18 +20,18 @@ pub struct Flow {
     pub held: u16,
 }
 
-// What a record makes of a number: the next record and the gap; or that the number is late, and then the record is as it was.
+// What a record makes of a number that it accepts: the next record and the gap.
 #[derive(Clone, Copy)]
-pub struct Judged {
+pub struct Accepted {
     pub flow: Flow,
     pub gap: u16,
-    pub late: bool,
 }
 
 // Sequence numbers begin again at 0 after 65,535.
 const MODULUS: u32 = 65536;
 
 // How far a number lies ahead of the expected one, modulo 65,536.
+#[tactic(auto, unfolding(crate::specs::Numbers::ahead))]
 pub fn ahead_of(number: u16, expected: u16) -> u16
     ensures { result ≡ ahead number expected }
 {
@@ -39,6 +39,7 @@ pub fn ahead_of(number: u16, expected: u16) -> u16
 }
 
 // The number after this one, modulo 65,536.
+#[tactic(auto, unfolding(crate::specs::Numbers::next))]
 pub fn number_after(number: u16) -> u16
     ensures { result ≡ next number }
 {
@@ -69,36 +70,24 @@ impl Flow {
         }
     }
 
-    // Judges a sequence number.
-    pub fn judge(self, number: u16) -> Judged
-        ensures { PermitsJudge self number result }
+    // Judges a sequence number; none is accepted that is late, and then the record stays as it was.
+    pub fn judge(self, number: u16) -> Option<Accepted>
+        ensures { PermitsJudge self number (told self result) }
     {
         let expected = self.expected;
         let following = number_after(number);
-        let expecting = Flow {
+        let flow = Flow {
             heard: Flow::HEARD,
             expected: following,
             held: self.held,
         };
         if self.heard == 0 {
-            return Judged {
-                flow: expecting,
-                gap: 0,
-                late: false,
-            };
+            return Some(Accepted { flow, gap: 0 });
         }
         let gap = ahead_of(number, expected);
         if gap < Flow::HALF {
-            return Judged {
-                flow: expecting,
-                gap,
-                late: false,
-            };
+            return Some(Accepted { flow, gap });
         }
-        Judged {
-            flow: self,
-            gap: 0,
-            late: true,
-        }
+        None
     }
 }

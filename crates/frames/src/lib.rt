@@ -27,15 +27,13 @@ pub fn pack(bytes: &[u8], lengths: &[u16], file: &mut [u8]) -> usize
 {
     let mut from: usize = 0;
     let mut at: usize = 0;
-    let mut k: usize = 0;
-    while k < lengths.len() {
-        let size = octets::wide_u16(lengths[k]);
-        octets::write_u16(file, at, size as u16);
+    for size in lengths {
+        octets::write_u16(file, at, *size);
         let body = at + LENGTH_BYTES;
-        octets::copy(file, body, bytes, from, size);
-        at = body + size;
-        from += size;
-        k += 1;
+        let count = usize::from(*size);
+        octets::copy(file, body, bytes, from, count);
+        at = body + count;
+        from += count;
     }
     at
 }
@@ -46,10 +44,7 @@ fn stands_whole(file: &[u8], at: usize) -> bool
     ensures { result ≡ stands_whole (rest file.now at) }
 {
     let left = file.len() - at;
-    if left < LENGTH_BYTES {
-        return false;
-    }
-    octets::wide_u16(octets::read_u16(file, at)) <= left - LENGTH_BYTES
+    LENGTH_BYTES <= left && usize::from(octets::read_u16(file, at)) <= left - LENGTH_BYTES
 }
 
 // Takes the frames apart into their bytes, back to back, and their lengths: at most as many as there are lengths lent.
@@ -62,10 +57,11 @@ pub fn unpack(file: &[u8], bytes: &mut [u8], lengths: &mut [u16]) -> Unpacked
     let mut total: usize = 0;
     let mut at: usize = 0;
     while (count < lengths.len()) & stands_whole(file, at) {
-        let size = octets::wide_u16(octets::read_u16(file, at));
+        let length = octets::read_u16(file, at);
+        let size = usize::from(length);
         let body = at + LENGTH_BYTES;
         octets::copy(bytes, total, file, body, size);
-        lengths[count] = size as u16;
+        lengths[count] = length;
         count += 1;
         total += size;
         at = body + size;

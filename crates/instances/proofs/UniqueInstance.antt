@@ -10,7 +10,7 @@ use Rattle.octets.specs.Stretch.{part, rest, put, joined, lengths_of}
 use Rattle.octets.specs.Count.{any, least, sum_to, up_to}
 use Rattle.octets.specs.Those.{those}
 use Rattle.flow.specs.declared.Flow.{Flow}
-use Rattle.flow.specs.declared.Judged.{Judged}
+use Rattle.flow.specs.Flow.{Judged}
 use Rattle.flow.specs.Numbers.{ahead, next}
 use Rattle.flow.specs.Flow.{PermitsFresh, PermitsJudge}
 use Rattle.ts.specs.declared.MpegPacket.{MpegPacket}

@@ -6,7 +6,7 @@ use Rattle.octets.specs.Count.{up_to}
 use Rattle.octets.proofs.Stretches.{length_part, length-put, length-lengths_of, put-nil, put_more, put_same, part-put, part_none}
 use Rattle.octets.proofs.Stretches.{joined-none, joined_one, joined-append, length-joined-none, lengths_of-none, lengths_of_one}
 use Rattle.octets.proofs.Stretches.{lengths_of-append}
-use Rattle.packet.specs.Segments.{begins_in, ends_in, length_in, Segment}
+use Rattle.packet.specs.Segments.{begins_in, ends_in, Segment}
 use Rattle.join.specs.declared.Tally.{Tally}
 use Rattle.join.specs.Join.{Fate, delivering, dropping, keeping, and_then, settled_by, settled, fate_by, fate, at_gap, in_order}
 use Rattle.join.specs.Slices.{Slices}
@@ -123,14 +123,6 @@ placed_begun (suc gap) place held s h =
     placed_dropping place nothing_yet s (part s.holding place held) (begun (suc gap) held)
     refl refl refl (omega (arith, length_part s.holding place held h))
 
--- .. by the code's test
-pub begun-none : (gap held : ℕ) → gap ≡ 0 → record { held = held; frames = 0; bytes = 0; dropped = 0 } ≡ begun gap held
-begun-none gap held z = rw z refl
-
-pub begun-gap : (gap held : ℕ) → (gap ≡ 0 → ⊥) → record { held = 0; frames = 0; bytes = 0; dropped = held } ≡ begun gap held
-begun-gap zero held some = absurd (some refl)
-begun-gap (suc gap) held some = refl
-
 -- What a segment makes of what is held before it joins, by its B; there is room for it as before.
 abbrev pub made_way : Bool → Tally → Tally
 made_way begins a = cond begins (record { held = 0; frames = a.frames; bytes = a.bytes; dropped = a.dropped + a.held }) a
@@ -140,62 +132,45 @@ way_fits true size a b e f =
     rw e (record { held-few = omega arith; bytes-few = omega (arith, f.bytes-few); frames-few = f.frames-few })
 way_fits false size a b e f = rw e f
 
--- The three ways of a segment whose entry the code has read: `count` and `ends` are what it found there.
-module _ (most place : ℕ) (a : Tally) (s : Slices) (sub : List ℕ) (from entry count : ℕ) (ends : Bool) (sized : count ≡ length_in entry)
-    (marked : ends ≡ ends_in entry)
-    (r : Tally) (s' : Slices) (inside : place + a.held ≤ length s.holding) where
+-- The three ways of a segment whose entry the code has read: `ends` is what it found there.
+module _ (most place : ℕ) (a : Tally) (s : Slices) (body : List ℕ) (entry : ℕ) (r : Tally) (s' : Slices)
+    (inside : place + a.held ≤ length s.holding) where
   abbrev held_by_now : List ℕ
   held_by_now = part s.holding place a.held
 
   abbrev read : Segment
-  read = record { begins = begins_in entry; ends = ends_in entry; body = part sub from (length_in entry) }
+  read = record { begins = begins_in entry; ends = ends_in entry; body = body }
 
-  pub segment_begins : (b : Tally) → begins_in entry ≡ true →
-      b ≡ record { held = 0; frames = a.frames; bytes = a.bytes; dropped = a.dropped + a.held } →
-      a.bytes ≤ length s.output → a.frames ≤ length s.lengths →
-      Placed (settled most ends (part s.holding place b.held ++ part sub from count)) place b s r s' →
-      Placed (fate most held_by_now read) place a s r s'
-  segment_begins b begins alone room places q =
-      let n = length_part s.holding place a.held inside in
-      let first : Placed (dropping held_by_now) place a s b s = rw alone (placed_dropping place a s held_by_now _ refl refl refl (omega arith)) in
-      let none : part s.holding place b.held ≡ [] = rw alone (part_none s.holding place) in
-      let then : Placed (settled most (ends_in entry) (part sub from (length_in entry))) place b s r s' = rw (none, sized, marked) at q in
-      rw (fate-begins most held_by_now read begins)
-      (placed_then (rw alone room) (rw alone places) first refl then)
+  held-length : length held_by_now ≡ a.held
+  held-length = length_part s.holding place a.held inside
 
-  pub segment_orphan : begins_in entry ≡ false → a.held ≡ 0 → from + length_in entry ≤ length sub →
-      r.held ≡ 0 → r.frames ≡ a.frames → r.bytes ≡ a.bytes → r.dropped ≡ a.dropped + count →
-      Placed (fate most held_by_now read) place a s r s
-  segment_orphan begins none whole h f b d =
-      let n = length_part s.holding place a.held inside in
-      let m = length_part sub from (length_in entry) whole in
-      rw (fate_orphan most held_by_now read begins (n ∙ none))
-      (placed_dropping place a s read.body r h f b (omega arith))
-
-  pub segment_joins : begins_in entry ≡ false → (a.held ≡ 0 → ⊥) →
-      Placed (settled most ends (held_by_now ++ part sub from count)) place a s r s' →
-      Placed (fate most held_by_now read) place a s r s'
-  segment_joins begins some q =
-      let n = length_part s.holding place a.held inside in
-      rw (fate_joins most held_by_now read begins (λ z. some (sym n ∙ z))) (rw (sized, marked) at q)
-
-  -- .. where what is held has made way for a segment with B
+  -- where what is held has made way for a segment with B, and nothing is held
   pub segment_lost : (begins : Bool) (b : Tally) → begins ≡ begins_in entry → b ≡ made_way begins a → (not begins && eqb b.held 0) ≡ true →
-      from + length_in entry ≤ length sub →
-      r.held ≡ 0 → r.frames ≡ b.frames → r.bytes ≡ b.bytes → r.dropped ≡ b.dropped + count →
+      r ≡ record { held = 0; frames = b.frames; bytes = b.bytes; dropped = b.dropped + length body } →
       Placed (fate most held_by_now read) place a s r s
-  segment_lost true b mark e t whole h f n d = absurd (true≢false (sym t))
-  segment_lost false b mark e t whole h f n d =
-      segment_orphan (sym mark) (rw e at (eqb-true b.held 0 t)) whole h (rw e at f) (rw e at n) (rw e at d)
+  segment_lost true b mark e t k = absurd (true≢false (sym t))
+  segment_lost false b mark e t k =
+      let none : a.held ≡ 0 = rw e at (eqb-true b.held 0 t) in
+      rw (fate_orphan most held_by_now read (sym mark) (held-length ∙ none))
+      (placed_dropping place a s body r (rw k refl) (rw (k, e) refl) (rw (k, e) refl) (rw (k, e) refl))
 
-  pub segment_settles : (begins : Bool) (b : Tally) → begins ≡ begins_in entry → b ≡ made_way begins a →
+  -- .. and else
+  pub segment_settles : (begins ends : Bool) (b : Tally) → begins ≡ begins_in entry → ends ≡ ends_in entry → b ≡ made_way begins a →
       (not begins && eqb b.held 0) ≡ false →
       a.bytes ≤ length s.output → a.frames ≤ length s.lengths →
-      Placed (settled most ends (part s.holding place b.held ++ part sub from count)) place b s r s' →
+      Placed (settled most ends (part s.holding place b.held ++ body)) place b s r s' →
       Placed (fate most held_by_now read) place a s r s'
-  segment_settles true b mark e t room places q = segment_begins b (sym mark) e room places q
-  segment_settles false b mark e t room places q =
-      segment_joins (sym mark) (λ z. true≢false (sym (eq-eqb b.held 0 (ap (λ (x : Tally). x.held) e ∙ z)) ∙ t)) (rw e at q)
+  segment_settles true ends b mark ended e t room places q =
+      let first : Placed (dropping held_by_now) place a s b s =
+      rw e (placed_dropping place a s held_by_now _ refl refl refl (omega (arith, held-length))) in
+      let none : part s.holding place b.held ≡ [] = rw e (part_none s.holding place) in
+      let then : Placed (settled most (ends_in entry) body) place b s r s' = rw (none, ended) at q in
+      rw (fate-begins most held_by_now read (sym mark))
+      (placed_then (rw e room) (rw e places) first refl then)
+  segment_settles false ends b mark ended e t room places q =
+      let some : length held_by_now ≡ 0 → ⊥ =
+      λ z. true≢false (sym (eq-eqb b.held 0 (ap (λ (x : Tally). x.held) e ∙ sym held-length ∙ z)) ∙ t) in
+      rw (fate_joins most held_by_now read (sym mark) some) (rw (ended, e) at q)
 
 -- What the account of a fate says of the counts that show it, from the start of a call.
 pub record Counted (bytes frames most : ℕ) (tally : Tally) : Type 0 where

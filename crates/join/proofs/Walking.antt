@@ -69,6 +69,10 @@ pub record Task : Type 0 where
   pub sub : List ℕ
   pub lent : Slices
 
+abbrev pub task : (most width gap held place : ℕ) (sub : List ℕ) (lent : Slices) → Task
+task most width gap held place sub lent =
+    record { most = most; width = width; gap = gap; held = held; place = place; sub = sub; lent = lent }
+
 -- .. and what is known of it
 pub record Ready (t : Task) : Type 0 where
   pub passed : SegmentsPassed t.width t.sub

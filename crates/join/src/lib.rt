@@ -5,15 +5,15 @@
 // (11). A frame that is delivered or dropped leaves the holding slice as it was.
 #![tactic(auto)]
 
-ghost use Rattle.std.specs.Prelude.{◌≡◌, ◌+◌, ◌*◌, ◌%◌, ◌≤◌, cond, ◌++◌, length};
+ghost use Rattle.std.specs.Prelude.{◌≡◌, ◌+◌, ◌*◌, ◌%◌, ◌<◌, ◌≤◌, cond, ◌++◌, length};
 ghost use Rattle.refusal.specs.Refusal.{first};
 ghost use Rattle.octets.specs.Stretch.{part};
 ghost use Rattle.flow.specs.Flow.{longest};
 ghost use Rattle.packet.specs.Header.{id_length, header_length, longest_packet};
-ghost use Rattle.packet.specs.Segments.{b_bit, e_bit, begins_in, ends_in, length_in, segments};
+ghost use Rattle.packet.specs.Segments.{b_bit, e_bit, begins_in, ends_in, segments};
 ghost use Rattle.packet.specs.Psp.{segment_refusals};
 ghost use Rattle.join.specs.Join.{settled, fate, psp_fate};
-ghost use Rattle.join.specs.Slices.{as_slices, most_frames, most_bytes};
+ghost use Rattle.join.specs.Slices.{with_output, SameSlices, most_frames, most_bytes};
 ghost use Rattle.join.specs.Inside.{nothing_yet, begun, Placed, Roomy, Fits, Within, Ran};
 
 use packet::{header, psp};
@@ -21,8 +21,15 @@ use packet::{header, psp};
 // What the entry of a whole frame of no bytes would be.
 const B_AND_E: u16 = psp::B_BIT + psp::E_BIT;
 
+// Where a call puts what comes out: the frames back to back, and their lengths.
+#[derive(Drop)]
+pub struct Output<'a> {
+    pub bytes: &'a mut [u8],
+    pub lengths: &'a mut [u16],
+}
+
 // What a call has come to: how many bytes the flow holds now, and the frames and bytes delivered and the bytes dropped so far.
-#[derive(Clone, Copy)]
+#[derive(Clone, Copy, Default)]
 pub struct Tally {
     pub held: usize,
     pub frames: usize,
@@ -30,23 +37,44 @@ pub struct Tally {
     pub dropped: usize,
 }
 
-// A flow that holds so many bytes, before the first segment: a gap above 0 drops them.
+impl Tally {
+    // So many bytes dropped, what was held among them.
+    pub fn dropping(self, lost: usize) -> Tally
+        requires { self.dropped + lost ≤ most_bytes }
+        ensures { result ≡ record { held = 0; frames = self.frames; bytes = self.bytes; dropped = self.dropped + lost } }
+    {
+        Tally {
+            held: 0,
+            dropped: self.dropped + lost,
+            ..self
+        }
+    }
+
+    // One frame of so many bytes delivered, what was held among them.
+    pub fn delivering(self, size: usize) -> Tally
+        requires { (self.bytes + size ≤ most_bytes) × (self.frames < most_frames) }
+        ensures { result ≡ record { held = 0; frames = self.frames + 1; bytes = self.bytes + size; dropped = self.dropped } }
+    {
+        Tally {
+            held: 0,
+            frames: self.frames + 1,
+            bytes: self.bytes + size,
+            ..self
+        }
+    }
+}
+
+// A flow that holds so many bytes, before the first segment: a gap above 0 drops them, so nothing joins across a gap.
 fn begin(gap: u16, held: usize) -> Tally
+    requires { held ≤ most_bytes }
     ensures { result ≡ begun gap held }
 {
-    if gap == 0 {
-        return Tally {
-            held,
-            frames: 0,
-            bytes: 0,
-            dropped: 0,
-        };
+    if gap > 0 {
+        return Tally::default().dropping(held);
     }
     Tally {
-        held: 0, // so nothing joins across a gap
-        frames: 0,
-        bytes: 0,
-        dropped: held,
+        held,
+        ..Tally::default()
     }
 }
 
@@ -57,111 +85,68 @@ fn give_way(begins: bool, tally: Tally) -> Tally
         (record { held = 0; frames = tally.frames; bytes = tally.bytes; dropped = tally.dropped + tally.held }) tally }
 {
     if begins {
-        let dropped = tally.dropped + tally.held;
-        return Tally {
-            held: 0,
-            frames: tally.frames,
-            bytes: tally.bytes,
-            dropped,
-        };
+        return tally.dropping(tally.held);
     }
     tally
 }
 
-// Joins `count` bytes of the packet, from place `from` on, to what is held, and settles it: too long, it is dropped; with E it is
-// delivered; else it is held.
+// Joins the bytes of a segment to what is held, and settles it: too long, it is dropped; with E it is delivered; else it is held.
 fn settle(
     holding: &mut [u8],
     place: usize,
-    output: &mut [u8],
-    lengths: &mut [u16],
-    sub: &[u8],
-    from: usize,
-    count: usize,
+    output: &mut Output,
+    body: &[u8],
     ends: bool,
     most: u16,
     tally: Tally,
 ) -> Tally
-    requires roomy { Roomy place (as_slices holding.old output.old lengths.old) }
-    requires most_le_longest { (most ≤ longest) × (from + count ≤ length sub.now) × Fits count tally }
-    ensures { Placed (settled most ends (part holding.old place tally.held ++ part sub.now from count))
-        place tally (as_slices holding.old output.old lengths.old)
-        result (as_slices holding.new output.new lengths.new) }
+    requires roomy { Roomy place (with_output holding.old output.old) }
+    requires fits { (most ≤ longest) × Fits (length body.now) tally }
+    ensures placed { Placed (settled most ends (part holding.old place tally.held ++ body.now))
+        place tally (with_output holding.old output.old) result (with_output holding.new output.new) }
+    ensures same_slices { SameSlices output.old output.new }
 {
-    let held = tally.held;
-    let frames = tally.frames;
-    let bytes = tally.bytes;
-    let dropped = tally.dropped;
-    let joined = held + count;
+    let joined = tally.held + body.len();
     let too_long = (most as usize) < joined;
     if too_long {
-        let lost = dropped + joined;
-        return Tally {
-            held: 0, // nor is its tail held as a frame of its own
-            frames,
-            bytes,
-            dropped: lost,
-        };
+        return tally.dropping(joined); // nor is its tail held as a frame of its own
     }
     if ends {
-        let more = frames + 1;
-        let seam = bytes + held;
-        let end = bytes + joined;
-        octets::copy(output, bytes, holding, place, held);
-        octets::copy(output, seam, sub, from, count);
-        lengths[frames] = joined as u16;
-        return Tally {
-            held: 0,
-            frames: more,
-            bytes: end,
-            dropped,
-        };
+        octets::copy(output.bytes, tally.bytes, holding, place, tally.held);
+        octets::copy(output.bytes, tally.bytes + tally.held, body, 0, body.len());
+        output.lengths[tally.frames] = joined as u16;
+        return tally.delivering(joined);
     }
-    let behind = place + held;
-    octets::copy(holding, behind, sub, from, count);
+    octets::copy(holding, place + tally.held, body, 0, body.len());
     Tally {
         held: joined,
-        frames,
-        bytes,
-        dropped,
+        ..tally
     }
 }
 
-// One segment: its marks, and its body in the packet. With B it drops what is held; without B it is dropped where nothing is held.
+// One segment: its bytes, and its entry, which has its marks. With B it drops what is held; without B it is dropped where nothing is held.
 fn place_segment(
     holding: &mut [u8],
     place: usize,
-    output: &mut [u8],
-    lengths: &mut [u16],
-    sub: &[u8],
-    from: usize,
+    output: &mut Output,
+    body: &[u8],
     entry: u16,
     most: u16,
     tally: Tally,
 ) -> Tally
-    requires roomy { Roomy place (as_slices holding.old output.old lengths.old) }
-    requires most_le_longest { (most ≤ longest) × (from + length_in entry ≤ length sub.now) × Fits (length_in entry) tally }
-    ensures { Placed (fate most (part holding.old place tally.held)
-        (record { begins = begins_in entry; ends = ends_in entry; body = part sub.now from (length_in entry) }))
-        place tally (as_slices holding.old output.old lengths.old)
-        result (as_slices holding.new output.new lengths.new) }
+    requires roomy { Roomy place (with_output holding.old output.old) }
+    requires fits { (most ≤ longest) × Fits (length body.now) tally }
+    ensures placed { Placed (fate most (part holding.old place tally.held)
+        (record { begins = begins_in entry; ends = ends_in entry; body = body.now }))
+        place tally (with_output holding.old output.old) result (with_output holding.new output.new) }
+    ensures same_slices { SameSlices output.old output.new }
 {
-    let count = psp::length_of(entry);
-    let ends = psp::ends(entry);
     let begins = psp::begins(entry);
     let before = give_way(begins, tally);
     if !begins & (before.held == 0) {
-        let lost = before.dropped + count;
-        return Tally {
-            held: 0,
-            frames: before.frames,
-            bytes: before.bytes,
-            dropped: lost,
-        };
+        return before.dropping(body.len());
     }
-    settle(
-        holding, place, output, lengths, sub, from, count, ends, most, before,
-    )
+    settle(holding, place, output, body, psp::ends(entry), most, before)
 }
 
 // The length of a whole frame, by its entry: how far the entry lies above B and E, modulo 65,536. Of an entry that lacks one of them this
@@ -169,7 +154,7 @@ fn place_segment(
 fn whole_length(entry: u16) -> u16
     ensures { (result + (b_bit + e_bit)) % 65536 ≡ entry }
 {
-    std::num::wrapping_sub_u16(entry, B_AND_E)
+    entry.wrapping_sub(B_AND_E)
 }
 
 // Whole frames one behind the other: how many, and how long together.
@@ -194,20 +179,19 @@ fn write_lengths(
     ensures ran { Ran most width sub.now k at lengths.old lengths.new result.frames result.bytes }
     ensures frames_bound { k + result.frames ≤ count }
 {
-    let mut frames: usize = 0;
     let mut bytes: usize = 0;
-    while k + frames < count {
-        let entry = psp::entry(sub, width, k + frames);
-        let size = whole_length(entry);
+    for frames in 0..count - k {
+        let size = whole_length(psp::entry(sub, width, k + frames));
         if most < size {
             return Run { frames, bytes };
         }
-        let place = at + frames;
-        lengths[place] = size;
+        lengths[at + frames] = size;
         bytes += size as usize;
-        frames += 1;
     }
-    Run { frames, bytes }
+    Run {
+        frames: count - k,
+        bytes,
+    }
 }
 
 // All segments of a packet that 9 to 11 do not refuse, in order, on a flow that holds so many bytes. Behind a segment nothing is held but
@@ -215,42 +199,38 @@ fn write_lengths(
 pub fn walk(
     holding: &mut [u8],
     place: usize,
-    output: &mut [u8],
-    lengths: &mut [u16],
+    output: &mut Output,
     sub: &[u8],
     width: usize,
     most: u16,
     gap: u16,
     held: usize,
 ) -> Tally
-    requires roomy { Roomy place (as_slices holding.old output.old lengths.old) }
+    requires roomy { Roomy place (with_output holding.old output.old) }
     requires le_width { (2 ≤ width) × (width ≤ 4) × (held ≤ most) × (most ≤ longest)
         × (id_length + length sub.now ≤ longest_packet) × (first (segment_refusals width sub.now) ≡ 0) }
     ensures placed { Placed (psp_fate most gap (part holding.old place held) (segments width sub.now))
-        place nothing_yet (as_slices holding.old output.old lengths.old)
-        result (as_slices holding.new output.new lengths.new) }
+        place nothing_yet (with_output holding.old output.old) result (with_output holding.new output.new) }
     ensures within { Within result }
+    ensures same_slices { SameSlices output.old output.new }
 {
     let count = header::segment_count(sub);
     let mut tally = begin(gap, held);
     let mut from = header::HEADER_LENGTH + width * count;
     let mut k: usize = 0;
+    // No `for`: a turn goes on behind the whole frames that it has placed together.
     while k < count {
         let entry = psp::entry(sub, width, k);
-        let joined = place_segment(
-            holding, place, output, lengths, sub, from, entry, most, tally,
-        );
         let behind = from + psp::length_of(entry);
+        let body = &sub[from..behind];
+        let joined = place_segment(holding, place, output, body, entry, most, tally);
         let next = k + 1;
-        let run = write_lengths(lengths, joined.frames, sub, width, next, count, most);
-        octets::copy(output, joined.bytes, sub, behind, run.bytes);
-        let frames = joined.frames + run.frames;
-        let bytes = joined.bytes + run.bytes;
+        let run = write_lengths(output.lengths, joined.frames, sub, width, next, count, most);
+        octets::copy(output.bytes, joined.bytes, sub, behind, run.bytes);
         tally = Tally {
-            held: joined.held,
-            frames,
-            bytes,
-            dropped: joined.dropped,
+            frames: joined.frames + run.frames,
+            bytes: joined.bytes + run.bytes,
+            ..joined
         };
         from = behind + run.bytes;
         k = next + run.frames;

@@ -21,38 +21,25 @@ pub const LINE_ROOM: usize = text::MOST_DIGITS + 1 + 5 + 5 * (1 + text::MOST_DIG
 
 pub const LISTING_ROOM: usize = HEADING_ROOM + LINE_ROOM * capture::MOST_ENTRIES;
 
-// What listing an entry answers: the place behind its text, and where the run stands afterwards.
-#[derive(Clone, Copy)]
-struct Listed {
-    next: usize,
-    walk: Walk,
-}
-
-// Runs an entry and writes its line.
+// Runs an entry and writes its line, and answers the place behind that.
 fn list_entry(
     file: &[u8],
-    walk: Walk,
+    walk: &mut Walk,
     holding: &mut [u8],
     output: &mut [u8],
     lengths: &mut [u16],
     text: &mut [u8],
     at: usize,
-) -> Listed
-    requires stands { Stands file.now walk holding.old output.old lengths.old × (walk.index < entry_count head_length file.now) }
+) -> usize
+    requires stands { Stands file.now walk.old holding.old output.old lengths.old
+        × (walk.old.index < entry_count head_length file.now) }
     requires line_room_in_bounds { at + line_room ≤ length text.old }
-    ensures wrote { Wrote text.old text.new at result.next (line_at file.now walk.index)
-        × (result.next ≤ at + line_room) }
-    ensures goes_on { GoesOn file.now walk result.walk holding.new output.new lengths.new }
+    ensures wrote { Wrote text.old text.new at result (line_at file.now walk.old.index) × (result ≤ at + line_room) }
+    ensures goes_on { GoesOn file.now walk.old walk.new holding.new output.new lengths.new }
 {
-    let index = walk.index;
-    let stepped = replay::step(file, walk, holding, output, lengths);
-    let answer = stepped.answer;
-    let next = line::write_line(text, at, index as u32, stepped.kind, answer);
-    let further = stepped.walk;
-    Listed {
-        next,
-        walk: further,
-    }
+    let index = walk.index as u32;
+    let stepped = walk.step(file, holding, output, lengths);
+    line::write_line(text, at, index, stepped.kind, stepped.answer)
 }
 
 // Writes the listing of a sound file: the heading, then a line for each entry.
@@ -66,13 +53,10 @@ fn list_entries(
     requires { Unused file.now holding.old output.old lengths.old × (listing_room ≤ length text.old) }
     ensures { Wrote text.old text.new 0 result (listing file.now) }
 {
-    let count = reader::entry_count(file);
-    let mut walk = replay::begin(file);
+    let mut walk = Walk::begin(file);
     let mut next = line::write_heading(text, 0);
-    while walk.index < count {
-        let listed = list_entry(file, walk, holding, output, lengths, text, next);
-        next = listed.next;
-        walk = listed.walk;
+    for _ in 0..reader::entry_count(file) {
+        next = list_entry(file, &mut walk, holding, output, lengths, text, next);
     }
     next
 }
@@ -82,9 +66,8 @@ pub fn list(file: &[u8], text: &mut [u8]) -> usize
     requires { listing_room ≤ length text.old }
     ensures { Wrote text.old text.new 0 result (listing file.now) }
 {
-    let refused = reader::check(file);
-    if refused != refusal::NONE {
-        return tool::write_refused(text, 0, refused);
+    if let Err(refusal) = reader::check(file) {
+        return tool::write_refused(text, 0, u32::from(refusal));
     }
     let mut holding = replay::holding_room();
     let mut output = replay::output_room();

@@ -4,6 +4,7 @@ ghost use Rattle.text.specs.Text.{Wrote};
 ghost use Rattle.listing.specs.Listing.{heading, word_for, columns, line};
 ghost use Rattle.listing.specs.Inside.{word_room, columns_room, line_room, heading_room, numbers_of};
 
+use capture::Kind;
 use card::Received;
 
 // Writes the heading.
@@ -20,13 +21,11 @@ fn write_kind(text: &mut [u8], at: usize, kind: u8) -> usize
     ensures wrote { Wrote text.old text.new at result (word_for kind) }
     ensures upper_bound { result ≤ at + word_room }
 {
-    if (kind == capture::OPEN_PSP) | (kind == capture::OPEN_DMPT) {
-        return text::write_words(text, at, b"open");
+    match Kind::try_from(kind) {
+        Ok(Kind::OpenPsp | Kind::OpenDmpt) => text::write_words(text, at, b"open"),
+        Ok(Kind::Close) => text::write_words(text, at, b"close"),
+        _ => text::write_words(text, at, b"data"),
     }
-    if kind == capture::CLOSE {
-        return text::write_words(text, at, b"close");
-    }
-    text::write_words(text, at, b"data")
 }
 
 // Writes the columns of an answer.

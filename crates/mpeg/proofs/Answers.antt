@@ -10,9 +10,8 @@ use borrow.Author.Tests.{ltb-false, le-ltb}
 use Rattle.octets.specs.Stretch.{rest, put, joined, lengths_of}
 use Rattle.octets.proofs.Counts.{or-false-left, or-false-right}
 use Rattle.octets.proofs.Stretches.{put_front, length-joined-none}
-use Rattle.mpeg.specs.declared.reader.Standing.{Standing}
 use Rattle.mpeg.specs.Read.{Reading, reading, AskedRead, frames_read, ReadOutcome, got_back, not_read, read_by, read}
-use Rattle.mpeg.specs.Inside.Standing.{standing_of}
+use Rattle.mpeg.specs.Inside.Standing.{Told, standing_of}
 use Rattle.mpeg.specs.Inside.Stream.{said_lengths, Laid, Surveyed}
 use Rattle.mpeg.proofs.Passes.{reading-lost, frames-good}
 use Rattle.mpeg.proofs.Lengths.{said_lengths_lem, frames-laid}
@@ -48,15 +47,15 @@ module _ (a : AskedRead) where
       let none : frames_read a ≡ [] = ap (λ (r : Reading). r.frames) (reading-lost a.packets s) in
       rw (none, length-joined-none, le-ltb (length a.output) 0 (omega arith), le-ltb (length a.lengths) 0 (omega arith)) refl
 
-  module _ (standing : Standing) (e : standing ≡ standing_of (reading a.packets)) where
+  module _ (standing : Told) (e : standing ≡ standing_of (reading a.packets)) where
     sound_is : standing.sound ≡ (reading a.packets).sound
-    sound_is = ap (λ (s : Standing). s.sound) e
+    sound_is = ap (λ (s : Told). s.sound) e
 
     bytes_is : standing.bytes ≡ length (joined (frames_read a))
-    bytes_is = ap (λ (s : Standing). s.bytes) e
+    bytes_is = ap (λ (s : Told). s.bytes) e
 
     frames_is : standing.frames ≡ length (frames_read a)
-    frames_is = ap (λ (s : Standing). s.frames) e
+    frames_is = ap (λ (s : Told). s.frames) e
 
     pub answers_53 : standing.sound ≡ false →
         ◌≡◌ {A = ReadOutcome} (record {

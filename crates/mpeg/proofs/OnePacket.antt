@@ -1,6 +1,6 @@
 -- One packet: each way out of the reader's `without_flag`, `with_flag` and `read_packet`, from what the code has tested and read. The code
 -- keeps numbers for a `Reading` s (`standing_of`), and each law says that its answer is the numbers of what the definition makes of s.
-use Prim.Native.Nat.{ℕ, ◌+◌, ◌-◌, ◌*◌, ◌%◌, ◌≤◌, ◌<◌}
+use Prim.Native.Nat.{ℕ, ◌+◌, ◌*◌, ◌%◌, ◌≤◌, ◌<◌}
 use mathlib.Core.Path.{◌≡◌, refl, sym, ap, ◌∙◌}
 use mathlib.Core.Bool.{Bool, true, false, not, cond, ◌&&◌, ◌||◌, and-false, true≢false}
 use mathlib.Core.Logic.{⊎_elim}
@@ -14,18 +14,17 @@ use Rattle.octets.specs.Stretch.{part, rest, joined}
 use Rattle.octets.specs.Tests.{none, same}
 use Rattle.octets.proofs.Counts.{true-or-false, or-false-left, or-false-right, or_true_right}
 use Rattle.octets.proofs.Elements.{length-one_more}
-use Rattle.octets.proofs.Stretches.{byte_part, rest_part, part_of_part_front, joined-append, length-joined-one_more}
+use Rattle.octets.proofs.Stretches.{part-rest_front, rest-rest, joined-append, length-joined-one_more}
 use Rattle.octets.proofs.Tests.{none-length, none-some}
 use Rattle.flow.specs.Flow.{longest}
-use Rattle.ts.specs.Packet.{mpeg_length, head_length, payload_length, sync_byte, payload_only, count_of, next_count, header, all_fill, null_packet}
+use Rattle.ts.specs.Packet.{head_length, sync_byte, payload_only, count_of, next_count, header, all_fill, null_packet}
 use Rattle.mpeg.specs.declared.reader.Front.{Front}
-use Rattle.mpeg.specs.declared.reader.Standing.{Standing}
 use Rattle.mpeg.specs.Packet.{pointed_length, frames_pid}
 use Rattle.mpeg.specs.Frame.{beside_field, said_length, starts_well, good, may_begin}
 use Rattle.mpeg.specs.Read.{Reading, Found, found, unsound, count_fits, has_header, without_flag}
 use Rattle.mpeg.specs.Read.{pointer, pointed, ended, found_in, ends_well, ended_frames, with_flag, read_packet}
-use Rattle.mpeg.specs.Inside.Standing.{front_of, standing_of}
-use Rattle.mpeg.specs.Inside.Fronts.{headed, spoilt, standing_with, found_between}
+use Rattle.mpeg.specs.Inside.Standing.{Told, front_of, standing_of, spoilt}
+use Rattle.mpeg.specs.Inside.Fronts.{headed, standing_with}
 use Rattle.mpeg.proofs.Fronts.{says_of}
 use Rattle.mpeg.proofs.Frames.{starts_append, begin_says, good_is, not-good_says, not-good_over, may_begin_is, not-begin_long}
 use Rattle.mpeg.proofs.Frames.{not-begin-whole}
@@ -36,7 +35,7 @@ use Rattle.mpeg.proofs.Ways.{without_none, without_good, without_more, without_b
 pub standing_is : (s : Reading) {expected frames bytes : ℕ} {front : Front} → s.sound ≡ true → expected ≡ s.expected →
     front ≡ front_of s.begun →
     frames ≡ length s.frames → bytes ≡ length (joined s.frames) →
-    ◌≡◌ {A = Standing} (record { sound = true; expected = expected; begun = front; frames = frames; bytes = bytes }) (standing_of s)
+    ◌≡◌ {A = Told} (record { sound = true; expected = expected; begun = front; frames = frames; bytes = bytes }) (standing_of s)
 standing_is s a b c d e = rw (a, b, c, d, e) refl
 
 -- a frame goes on as it began
@@ -44,28 +43,28 @@ starts_on : (begun more : List ℕ) → may_begin begun ≡ true → 0 < length 
 starts_on begun more may some = starts_append begun more some ∙ (begin_says begun may).starts
 
 -- Without the flag.
-pub flagless_none : {standing r : Standing} (packet : List ℕ) (s : Reading) → standing ≡ standing_of s → standing.begun.size ≡ 0 →
+pub flagless_none : {standing r : Told} (packet : List ℕ) (s : Reading) → standing ≡ standing_of s → standing.begun.size ≡ 0 →
     r ≡ spoilt →
     r ≡ standing_of (without_flag s packet)
 flagless_none packet s is none-begun spoils =
-    let empty = none-length s.begun (sym (ap (λ (st : Standing). st.begun.size) is) ∙ none-begun) in
+    let empty = none-length s.begun (sym (ap (λ (st : Told). st.begun.size) is) ∙ none-begun) in
     spoils ∙ ap standing_of (sym (without_none s packet empty))
 
-module _ (packets : List ℕ) (at : ℕ) (inside : at + mpeg_length ≤ length packets) {standing : Standing} (s : Reading)
+module _ (packet : List ℕ) {standing : Told} (s : Reading)
     (may : may_begin s.begun ≡ true) (is : standing ≡ standing_of s) (some : standing.begun.size ≡ 0 → ⊥) where
   begun-some : 0 < length s.begun
-  begun-some = omega (arith, some, ap (λ (st : Standing). st.begun.size) is)
+  begun-some = omega (arith, some, ap (λ (st : Told). st.begun.size) is)
 
   begun-not : none s.begun ≡ false
   begun-not = none-some s.begun begun-some
 
-  module _ {front : Front} (is_front : front ≡ front_of (s.begun ++ part packets (at + head_length) payload_length)) {said : ℕ}
+  module _ {front : Front} (is_front : front ≡ front_of (s.begun ++ rest packet head_length)) {said : ℕ}
       (reads : said ≡ front.high * 256 + front.low + beside_field) where
     abbrev frame : List ℕ
-    frame = s.begun ++ part packets (at + head_length) payload_length
+    frame = s.begun ++ rest packet head_length
 
-    frame_is : longer s (part packets at mpeg_length) ≡ frame
-    frame_is = ap (λ (l : List ℕ). s.begun ++ l) (rest_part packets at mpeg_length head_length (omega arith) inside)
+    frame_is : longer s packet ≡ frame
+    frame_is = refl
 
     flagless_says : said ≡ said_length frame
     flagless_says = says_of frame is_front reads
@@ -74,11 +73,11 @@ module _ (packets : List ℕ) (at : ℕ) (inside : at + mpeg_length ≤ length p
     flagless_size = ap (λ (f : Front). f.size) is_front
 
     flagless_starts : starts_well frame ≡ true
-    flagless_starts = starts_on s.begun (part packets (at + head_length) payload_length) may begun-some
+    flagless_starts = starts_on s.begun (rest packet head_length) may begun-some
 
     -- longer than the longest, or than it says
-    pub flagless_spoilt : {r : Standing} → (ltb longest said || ltb said front.size) ≡ true → r ≡ spoilt →
-        r ≡ standing_of (without_flag s (part packets at mpeg_length))
+    pub flagless_spoilt : {r : Told} → (ltb longest said || ltb said front.size) ≡ true → r ≡ spoilt →
+        r ≡ standing_of (without_flag s packet)
     flagless_spoilt {r} over spoils =
         let says : said ≡ said_length frame = flagless_says in
         let size : front.size ≡ length frame = flagless_size in
@@ -91,68 +90,68 @@ module _ (packets : List ℕ) (at : ℕ) (inside : at + mpeg_length ≤ length p
         let k : said < front.size = ltb-true _ _ (or_true_right (ltb longest said) (ltb said front.size) over t) in
         (not-good_says frame (λ e. omega arith), not-begin-whole frame (omega arith)))
         (true-or-false (ltb longest said)) in
-        spoils ∙ ap standing_of (sym (without_bad s (part packets at mpeg_length) begun-not (rw frame_is bad.0) (rw frame_is bad.1)))
+        spoils ∙ ap standing_of (sym (without_bad s packet begun-not (rw frame_is bad.0) (rw frame_is bad.1)))
 
     module _ (not-over : (ltb longest said || ltb said front.size) ≡ false) {expected : ℕ}
-        (counted : expected ≡ next_count (count_of (part packets at mpeg_length))) where
+        (counted : expected ≡ next_count (count_of packet)) where
       short : said ≤ longest
       short = ltb-false _ _ (or-false-left (ltb longest said) (ltb said front.size) not-over)
 
       -- the frame ends with the packet
       pub flagless_ended : {empty : Front} → said ≡ front.size → empty ≡ front_of [] →
-          ◌≡◌ {A = Standing} (record {
+          ◌≡◌ {A = Told} (record {
             sound = true;
             expected = expected;
             begun = empty;
             frames = standing.frames + 1;
             bytes = standing.bytes + said;
           })
-          (standing_of (without_flag s (part packets at mpeg_length)))
+          (standing_of (without_flag s packet))
       flagless_ended {empty} whole is-empty =
           let says : said ≡ said_length frame = flagless_says in
           let size : front.size ≡ length frame = flagless_size in
           let few : said ≤ longest = short in
           let well : good frame ≡ true = good_is frame (omega arith) (omega arith) flagless_starts in
           let long : said ≡ length frame = omega arith in
-          let frames_are : standing.frames ≡ length s.frames = ap (λ (st : Standing). st.frames) is in
-          let bytes_are : standing.bytes ≡ length (joined s.frames) = ap (λ (st : Standing). st.bytes) is in
+          let frames_are : standing.frames ≡ length s.frames = ap (λ (st : Told). st.frames) is in
+          let bytes_are : standing.bytes ≡ length (joined s.frames) = ap (λ (st : Told). st.bytes) is in
           let next : List ℕ → Reading =
           λ l. record {
             sound = true;
-            expected = next_count (count_of (part packets at mpeg_length));
+            expected = next_count (count_of packet);
             begun = [];
             frames = s.frames ++ (l ∷ []);
           } in
-          let over : after_finished s (part packets at mpeg_length) ≡ next frame = ap next frame_is in
+          let over : after_finished s packet ≡ next frame = ap next frame_is in
           standing_is (next frame)
           refl counted is-empty
           (ap (λ (n : ℕ). n + 1) frames_are ∙ sym (length-one_more s.frames frame))
           (rw (bytes_are, long) (sym (length-joined-one_more s.frames frame)))
-          ∙ ap standing_of (sym (without_good s (part packets at mpeg_length) begun-not (rw frame_is well) ∙ over))
+          ∙ ap standing_of (sym (without_good s packet begun-not (rw frame_is well) ∙ over))
 
       -- more of it is to come
       pub flagless_more : (said ≡ front.size → ⊥) →
-          ◌≡◌ {A = Standing} (record {
+          ◌≡◌ {A = Told} (record {
             sound = true;
             expected = expected;
             begun = front;
             frames = standing.frames;
             bytes = standing.bytes;
           })
-          (standing_of (without_flag s (part packets at mpeg_length)))
+          (standing_of (without_flag s packet))
       flagless_more part-only =
           let says : said ≡ said_length frame = flagless_says in
           let size : front.size ≡ length frame = flagless_size in
           let few : said ≤ longest = short in
           let k : front.size ≤ said = ltb-false _ _ (or-false-right (ltb longest said) (ltb said front.size) not-over) in
           let less : length frame < said_length frame = omega (arith, part-only) in
-          let frames_are : standing.frames ≡ length s.frames = ap (λ (st : Standing). st.frames) is in
-          let bytes_are : standing.bytes ≡ length (joined s.frames) = ap (λ (st : Standing). st.bytes) is in
+          let frames_are : standing.frames ≡ length s.frames = ap (λ (st : Told). st.frames) is in
+          let bytes_are : standing.bytes ≡ length (joined s.frames) = ap (λ (st : Told). st.bytes) is in
           let next : List ℕ → Reading =
-          λ l. record { sound = true; expected = next_count (count_of (part packets at mpeg_length)); begun = l; frames = s.frames } in
-          let on : after_went_on s (part packets at mpeg_length) ≡ next frame = ap next frame_is in
+          λ l. record { sound = true; expected = next_count (count_of packet); begun = l; frames = s.frames } in
+          let on : after_went_on s packet ≡ next frame = ap next frame_is in
           standing_is (next frame) refl counted is_front frames_are bytes_are
-          ∙ ap standing_of (sym (without_more s (part packets at mpeg_length) begun-not (rw frame_is (not-good_says frame (λ e. omega arith)))
+          ∙ ap standing_of (sym (without_more s packet begun-not (rw frame_is (not-good_says frame (λ e. omega arith)))
           (rw frame_is (may_begin_is frame less (omega arith) flagless_starts)) ∙ on))
 
 -- With the flag.
@@ -184,73 +183,59 @@ unfolding with_flag standing_with
 flag_found s packet before f a b c d =
     rw (a, b, c, d) (sym (by_found (next_count (count_of packet)) before f f.well))
 
-module _ (packets : List ℕ) (at : ℕ) (inside : at + mpeg_length ≤ length packets) {pointed-at : ℕ}
-    (read : pointed-at ≡ byte_at packets (at + head_length)) where
-  pointer_is : pointer (part packets at mpeg_length) ≡ pointed-at
-  pointer_is = byte_part packets at mpeg_length head_length (omega arith) ∙ sym read
+module _ (packet : List ℕ) {pointed-at : ℕ} (read : pointed-at ≡ byte_at packet head_length) where
+  pointer_is : pointer packet ≡ pointed-at
+  pointer_is = sym read
 
   -- the pointer points past the packet's end
-  pub flag_outside : {r : Standing} (s : Reading) → pointed_length < pointed-at → r ≡ spoilt →
-      r ≡ standing_of (with_flag s (part packets at mpeg_length))
+  pub flag_outside : {r : Told} (s : Reading) → pointed_length < pointed-at → r ≡ spoilt →
+      r ≡ standing_of (with_flag s packet)
   flag_outside s h spoils =
-      let packet = part packets at mpeg_length in
       let over : leb (pointer packet) pointed_length ≡ false = ap (λ (n : ℕ). leb n pointed_length) pointer_is ∙ lt-leb _ _ h in
       spoils ∙ flag_spoilt s packet (ap (λ (t : Bool). t && (ends_well s packet && (found_in packet).well)) over)
 
   module _ (within : pointed-at ≤ pointed_length) where
-    pointer-fits : leb (pointer (part packets at mpeg_length)) pointed_length ≡ true
+    pointer-fits : leb (pointer packet) pointed_length ≡ true
     pointer-fits = ap (λ (n : ℕ). leb n pointed_length) pointer_is ∙ le-leb _ _ within
 
-    pointed_is : pointed (part packets at mpeg_length) ≡ part packets (at + head_length + 1) pointed_length
-    pointed_is =
-        let e : at + (head_length + 1) ≡ at + head_length + 1 = omega arith in
-        rest_part packets at mpeg_length (head_length + 1) (omega arith) inside ∙ ap (λ (i : ℕ). part packets i pointed_length) e
-
-    found_is : found_in (part packets at mpeg_length) ≡ found_between packets (at + head_length + 1 + pointed-at) (at + mpeg_length)
+    found_is : found_in packet ≡ found pointed_length (rest packet (head_length + 1 + pointed-at))
     found_is =
-        let left : pointed_length - pointed-at ≡ at + mpeg_length - (at + head_length + 1 + pointed-at) = omega arith in
-        ap (λ (n : ℕ). found pointed_length (rest (pointed (part packets at mpeg_length)) n)) pointer_is
-        ∙ ap (λ (l : List ℕ). found pointed_length (rest l pointed-at)) pointed_is
-        ∙ ap (found pointed_length) (rest_part packets (at + head_length + 1) pointed_length pointed-at within (omega arith))
-        ∙ ap (λ (n : ℕ). found pointed_length (part packets (at + head_length + 1 + pointed-at) n)) left
+        ap (found pointed_length) (rest-rest packet (head_length + 1) (pointer packet))
+        ∙ ap (λ (n : ℕ). found pointed_length (rest packet (head_length + 1 + n))) pointer_is
 
-    ended_is : (s : Reading) → ended s (part packets at mpeg_length) ≡ s.begun ++ part packets (at + head_length + 1) pointed-at
+    ended_is : (s : Reading) → ended s packet ≡ s.begun ++ part packet (head_length + 1) pointed-at
     ended_is s =
-        ap (λ (n : ℕ). s.begun ++ part (pointed (part packets at mpeg_length)) 0 n) pointer_is
-        ∙ ap (λ (l : List ℕ). s.begun ++ part l 0 pointed-at) pointed_is
-        ∙ ap (λ (l : List ℕ). s.begun ++ l) (part_of_part_front packets (at + head_length + 1) pointed_length pointed-at within)
+        ap (λ (l : List ℕ). s.begun ++ l) (part-rest_front packet (head_length + 1) (pointer packet))
+        ∙ ap (λ (n : ℕ). s.begun ++ part packet (head_length + 1) n) pointer_is
 
-    spoilt_end : (s : Reading) → ends_well s (part packets at mpeg_length) ≡ false →
-        spoilt ≡ standing_of (with_flag s (part packets at mpeg_length))
+    spoilt_end : (s : Reading) → ends_well s packet ≡ false →
+        spoilt ≡ standing_of (with_flag s packet)
     spoilt_end s e =
-        let packet = part packets at mpeg_length in
         flag_spoilt s packet
         (ap (λ (t : Bool). leb (pointer packet) pointed_length && (t && (found_in packet).well)) e
         ∙ and-false (leb (pointer packet) pointed_length))
 
-    module _ {standing : Standing} (s : Reading) (is : standing ≡ standing_of s) {expected : ℕ}
-        (counted : expected ≡ next_count (count_of (part packets at mpeg_length))) where
+    module _ {standing : Told} (s : Reading) (is : standing ≡ standing_of s) {expected : ℕ}
+        (counted : expected ≡ next_count (count_of packet)) where
       frames_are : standing.frames ≡ length s.frames
-      frames_are = ap (λ (st : Standing). st.frames) is
+      frames_are = ap (λ (st : Told). st.frames) is
 
       bytes_are : standing.bytes ≡ length (joined s.frames)
-      bytes_are = ap (λ (st : Standing). st.bytes) is
+      bytes_are = ap (λ (st : Told). st.bytes) is
 
       size_is : standing.begun.size ≡ length s.begun
-      size_is = ap (λ (st : Standing). st.begun.size) is
+      size_is = ap (λ (st : Told). st.begun.size) is
 
       -- no frame has begun
       module _ (none-begun : standing.begun.size ≡ 0) {filled : Bool}
-          (all : filled ≡ all_fill (part packets (at + head_length + 1) (at + mpeg_length - (at + head_length + 1)))) where
-        ends-none : ends_well s (part packets at mpeg_length) ≡ (eqb pointed-at 0 && not filled)
+          (all : filled ≡ all_fill (rest packet (head_length + 1))) where
+        ends-none : ends_well s packet ≡ (eqb pointed-at 0 && not filled)
         ends-none =
-            let left : at + mpeg_length - (at + head_length + 1) ≡ pointed_length = omega arith in
-            let same_fill : all_fill (pointed (part packets at mpeg_length)) ≡ filled =
-            ap all_fill pointed_is ∙ sym (all ∙ ap (λ (n : ℕ). all_fill (part packets (at + head_length + 1) n)) left) in
+            let same_fill : all_fill (pointed packet) ≡ filled = sym all in
             rw (none-length s.begun (sym size_is ∙ none-begun), pointer_is, same_fill) refl
 
-        pub flag_none-spoilt : {r : Standing} → (not (eqb pointed-at 0) || filled) ≡ true → r ≡ spoilt →
-            r ≡ standing_of (with_flag s (part packets at mpeg_length))
+        pub flag_none-spoilt : {r : Told} → (not (eqb pointed-at 0) || filled) ≡ true → r ≡ spoilt →
+            r ≡ standing_of (with_flag s packet)
         flag_none-spoilt over spoils = spoils ∙ spoilt_end s (ends-none ∙ contrary (eqb pointed-at 0) filled over)
           where
             contrary : (a b : Bool) → (not a || b) ≡ true → (a && not b) ≡ false
@@ -258,21 +243,20 @@ module _ (packets : List ℕ) (at : ℕ) (inside : at + mpeg_length ≤ length p
             contrary true false h = absurd (true≢false (sym h))
             contrary false b h = refl
 
-        pub flag_none-found : {r : Standing} → (not (eqb pointed-at 0) || filled) ≡ false →
-            r ≡ standing_with expected standing.frames standing.bytes (found_between packets (at + head_length + 1) (at + mpeg_length)) →
-            r ≡ standing_of (with_flag s (part packets at mpeg_length))
+        pub flag_none-found : {r : Told} → (not (eqb pointed-at 0) || filled) ≡ false →
+            r ≡ standing_with expected standing.frames standing.bytes (found pointed_length (rest packet (head_length + 1))) →
+            r ≡ standing_of (with_flag s packet)
         flag_none-found ready is_found =
-            let packet = part packets at mpeg_length in
             let zero-pointer : pointed-at ≡ 0 = eqb-true _ _ (not-false _ (or-false-left (not (eqb pointed-at 0)) filled ready)) in
-            let start : at + head_length + 1 + pointed-at ≡ at + head_length + 1 = omega arith in
+            let start : head_length + 1 + pointed-at ≡ head_length + 1 = omega arith in
             let no-ended : s.frames ++ ended_frames s packet ≡ s.frames =
             ap (λ (t : Bool). s.frames ++ cond t [] (ended s packet ∷ [])) (none-length s.begun (sym size_is ∙ none-begun))
             ∙ append-nil s.frames in
             is_found
             ∙ rw (counted, frames_are, bytes_are)
-            (flag_found s packet s.frames (found_between packets (at + head_length + 1) (at + mpeg_length)) pointer-fits
+            (flag_found s packet s.frames (found pointed_length (rest packet (head_length + 1))) pointer-fits
             (ends-none ∙ agree (eqb pointed-at 0) filled ready) no-ended
-            (found_is ∙ ap (λ (i : ℕ). found_between packets i (at + mpeg_length)) start))
+            (found_is ∙ ap (λ (i : ℕ). found pointed_length (rest packet i)) start))
           where
             agree : (a b : Bool) → (not a || b) ≡ false → (a && not b) ≡ true
             agree true true h = absurd (true≢false h)
@@ -281,7 +265,7 @@ module _ (packets : List ℕ) (at : ℕ) (inside : at + mpeg_length ≤ length p
 
       -- a frame has begun
       module _ (may : may_begin s.begun ≡ true) (some : standing.begun.size ≡ 0 → ⊥) {front : Front}
-          (is_front : front ≡ front_of (s.begun ++ part packets (at + head_length + 1) pointed-at)) {said : ℕ}
+          (is_front : front ≡ front_of (s.begun ++ part packet (head_length + 1) pointed-at)) {said : ℕ}
           (reads : said ≡ front.high * 256 + front.low + beside_field) where
         begun-there : 0 < length s.begun
         begun-there = omega (arith, some, size_is)
@@ -289,19 +273,19 @@ module _ (packets : List ℕ) (at : ℕ) (inside : at + mpeg_length ≤ length p
         none-not : none s.begun ≡ false
         none-not = none-some s.begun begun-there
 
-        ends_some : ends_well s (part packets at mpeg_length) ≡ good (s.begun ++ part packets (at + head_length + 1) pointed-at)
+        ends_some : ends_well s packet ≡ good (s.begun ++ part packet (head_length + 1) pointed-at)
         ends_some = rw (none-not) (ap good (ended_is s))
 
-        ended_says : said ≡ said_length (s.begun ++ part packets (at + head_length + 1) pointed-at)
-        ended_says = says_of (s.begun ++ part packets (at + head_length + 1) pointed-at) is_front reads
+        ended_says : said ≡ said_length (s.begun ++ part packet (head_length + 1) pointed-at)
+        ended_says = says_of (s.begun ++ part packet (head_length + 1) pointed-at) is_front reads
 
-        ended-size : front.size ≡ length (s.begun ++ part packets (at + head_length + 1) pointed-at)
+        ended-size : front.size ≡ length (s.begun ++ part packet (head_length + 1) pointed-at)
         ended-size = ap (λ (f : Front). f.size) is_front
 
-        pub flag_some-spoilt : {r : Standing} → (ltb longest said || not (eqb said front.size)) ≡ true → r ≡ spoilt →
-            r ≡ standing_of (with_flag s (part packets at mpeg_length))
+        pub flag_some-spoilt : {r : Told} → (ltb longest said || not (eqb said front.size)) ≡ true → r ≡ spoilt →
+            r ≡ standing_of (with_flag s packet)
         flag_some-spoilt over spoils =
-            let frame = s.begun ++ part packets (at + head_length + 1) pointed-at in
+            let frame = s.begun ++ part packet (head_length + 1) pointed-at in
             let says : said ≡ said_length frame = ended_says in
             let size : front.size ≡ length frame = ended-size in
             let bad : good frame ≡ false =
@@ -314,13 +298,12 @@ module _ (packets : List ℕ) (at : ℕ) (inside : at + mpeg_length ≤ length p
             (true-or-false (ltb longest said)) in
             spoils ∙ spoilt_end s (ends_some ∙ bad)
 
-        pub flag_some-found : {r : Standing} → (ltb longest said || not (eqb said front.size)) ≡ false →
+        pub flag_some-found : {r : Told} → (ltb longest said || not (eqb said front.size)) ≡ false →
             r ≡ standing_with expected (standing.frames + 1) (standing.bytes + said)
-            (found_between packets (at + head_length + 1 + pointed-at) (at + mpeg_length)) →
-            r ≡ standing_of (with_flag s (part packets at mpeg_length))
+            (found pointed_length (rest packet (head_length + 1 + pointed-at))) →
+            r ≡ standing_of (with_flag s packet)
         flag_some-found ready is_found =
-            let packet = part packets at mpeg_length in
-            let frame = s.begun ++ part packets (at + head_length + 1) pointed-at in
+            let frame = s.begun ++ part packet (head_length + 1) pointed-at in
             let says : said ≡ said_length frame = ended_says in
             let size : front.size ≡ length frame = ended-size in
             let short : said ≤ longest = ltb-false _ _ (or-false-left (ltb longest said) (not (eqb said front.size)) ready) in
@@ -337,7 +320,7 @@ module _ (packets : List ℕ) (at : ℕ) (inside : at + mpeg_length ≤ length p
             rw (bytes_are, long) (sym (length-joined-one_more s.frames frame)) in
             is_found
             ∙ rw (counted, count, bytes)
-            (flag_found s packet (s.frames ++ (frame ∷ [])) (found_between packets (at + head_length + 1 + pointed-at) (at + mpeg_length))
+            (flag_found s packet (s.frames ++ (frame ∷ [])) (found pointed_length (rest packet (head_length + 1 + pointed-at)))
             pointer-fits
             (ends_some ∙ well) one_ended found_is)
 
@@ -366,15 +349,15 @@ packet_data s packet true false false a b c d e = read_neither s packet a b c d 
 packet_data s packet false true with a b c d e = rw (and-false with) (read_misfit s packet a b c)
 packet_data s packet false false with a b c d e = rw (and-false with) (read_misfit s packet a b c)
 
-module _ {standing : Standing} (sound : standing.sound ≡ true) (packet : List ℕ) {null : Bool} (is-null : null ≡ same packet null_packet)
+module _ {standing : Told} (sound : standing.sound ≡ true) (packet : List ℕ) {null : Bool} (is-null : null ≡ same packet null_packet)
     (s : Reading) (is : standing ≡ standing_of s) where
   s-sound : s.sound ≡ true
-  s-sound = sym (ap (λ (st : Standing). st.sound) is) ∙ sound
+  s-sound = sym (ap (λ (st : Told). st.sound) is) ∙ sound
 
   s-size : standing.begun.size ≡ length s.begun
-  s-size = ap (λ (st : Standing). st.begun.size) is
+  s-size = ap (λ (st : Told). st.begun.size) is
 
-  pub null_inside : {r : Standing} → null ≡ true → (standing.begun.size ≡ 0 → ⊥) → r ≡ spoilt → r ≡ standing_of (read_packet s packet)
+  pub null_inside : {r : Told} → null ≡ true → (standing.begun.size ≡ 0 → ⊥) → r ≡ spoilt → r ≡ standing_of (read_packet s packet)
   null_inside t some spoils =
       spoils ∙ ap standing_of (sym (read_null s packet s-sound (sym is-null ∙ t)
       ∙ ap (λ (b : Bool). cond b s unsound) (none-some s.begun (omega (arith, some, s-size)))))
@@ -386,7 +369,7 @@ module _ {standing : Standing} (sound : standing.sound ≡ true) (packet : List 
 
   module _ (not_null : null ≡ false) {without : Bool} (is-without : without ≡ headed 0x1F standing.expected packet) where
     s-expected : standing.expected ≡ s.expected
-    s-expected = ap (λ (st : Standing). st.expected) is
+    s-expected = ap (λ (st : Told). st.expected) is
 
     tests_without : without ≡ (has_header false packet && count_fits s.expected packet)
     tests_without = is-without ∙ ap (λ (n : ℕ). headed 0x1F n packet) s-expected ∙ headed_without s.expected packet
@@ -396,7 +379,7 @@ module _ {standing : Standing} (sound : standing.sound ≡ true) (packet : List 
         (cond (has_header true packet && count_fits s.expected packet) (with_flag s packet) unsound)
     as_data = packet_data s packet _ _ _ s-sound (sym is-null ∙ not_null) refl refl refl
 
-    pub data_without : {r : Standing} → without ≡ true → r ≡ standing_of (without_flag s packet) → r ≡ standing_of (read_packet s packet)
+    pub data_without : {r : Told} → without ≡ true → r ≡ standing_of (without_flag s packet) → r ≡ standing_of (read_packet s packet)
     data_without t e =
         e ∙ ap standing_of (sym (as_data
         ∙ ap (λ (b : Bool). cond b (without_flag s packet)
@@ -415,8 +398,8 @@ module _ {standing : Standing} (sound : standing.sound ≡ true) (packet : List 
           (sym tests_without ∙ not_without)
           ∙ ap (λ (b : Bool). cond b (with_flag s packet) unsound) (sym tests_with)
 
-      pub data_with : {r : Standing} → with ≡ true → r ≡ standing_of (with_flag s packet) → r ≡ standing_of (read_packet s packet)
+      pub data_with : {r : Told} → with ≡ true → r ≡ standing_of (with_flag s packet) → r ≡ standing_of (read_packet s packet)
       data_with t e = e ∙ ap standing_of (sym (as_flagged ∙ ap (λ (b : Bool). cond b (with_flag s packet) unsound) t))
 
-      pub data_other : {r : Standing} → with ≡ false → r ≡ spoilt → r ≡ standing_of (read_packet s packet)
+      pub data_other : {r : Told} → with ≡ false → r ≡ spoilt → r ≡ standing_of (read_packet s packet)
       data_other t spoils = spoils ∙ ap standing_of (sym (as_flagged ∙ ap (λ (b : Bool). cond b (with_flag s packet) unsound) t))

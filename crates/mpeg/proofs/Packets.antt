@@ -1,6 +1,5 @@
 -- A packet as it comes about in the output: the header, the pointer, the bytes that wait and what the packet is filled up with, put one
--- behind the other. `Filling` is the invariant of the loop that fills up, with a begin, a turn and an end. And which slice the hand-out
--- takes from.
+-- behind the other. And which slice the hand-out takes from.
 use Prim.Native.Nat.{ℕ, ◌+◌, ◌-◌, ◌≤◌, ◌<◌, min}
 use mathlib.Core.Path.{◌≡◌, refl, sym, ap, ◌∙◌}
 use mathlib.Core.Bool.{true, false}
@@ -9,12 +8,12 @@ use mathlib.Core.Logic.{⊎_elim}
 use native.Mathlib.Omega.{arith}
 use denote.Ref.{Bor}
 use lib.Dec.{leb}
-use lib.ListN.{length, set, replicate, length-set, length-replicate, replicate-append-replicate}
+use lib.ListN.{length, set, replicate}
 use borrow.Author.Tests.{leb-true, leb-false, le-leb, lt-leb}
 use Rattle.octets.specs.Stretch.{part, rest, put}
 use Rattle.octets.proofs.Counts.{true-or-false}
 use Rattle.octets.proofs.Stretches.{length_part, length_rest, length-put, part_all, part-min, part-rest_front}
-use Rattle.octets.proofs.Stretches.{put-nil, put-put, put_more, put_on, set-put}
+use Rattle.octets.proofs.Stretches.{put-put, put_more, put_on, set-put}
 use Rattle.ts.specs.Packet.{mpeg_length, head_length, payload_length, header, fill_byte, null_packet}
 use Rattle.mpeg.specs.Packet.{pointed_length, frames_pid}
 use Rattle.mpeg.specs.HandOut.{source, handed_length, handed_out, PermitsHandOut}
@@ -66,50 +65,6 @@ handed_long queue =
     (λ (some : leb mpeg_length (length queue) ≡ true). rw some (length_part queue 0 mpeg_length (leb-true mpeg_length (length queue) some)))
     (λ (no : leb mpeg_length (length queue) ≡ false). rw no refl)
     (true-or-false (leb mpeg_length (length queue)))
-
--- The loop that fills up, from `at` on.
-pub record Filling (d : List ℕ) (at : ℕ) (output : List ℕ) (i : ℕ) : Type 0 where
-  pub begun : at ≤ i
-  pub within : i ≤ mpeg_length
-  pub long : length output ≡ length d
-  pub so_far : output ≡ put d at (replicate (i - at) fill_byte)
-
-pub fill_begin : (d : List ℕ) (at : ℕ) → at ≤ mpeg_length → Filling d at d at
-fill_begin d at h =
-    let none : at - at ≡ 0 = omega arith in
-    record {
-      begun = omega arith;
-      within = h;
-      long = refl;
-      so_far = sym (put-nil d at) ∙ ap (λ (n : ℕ). put d at (replicate n fill_byte)) (sym none);
-    }
-
-pub fill_turn : {d : List ℕ} {at : ℕ} {output : List ℕ} {i : ℕ} → Filling d at output i → mpeg_length ≤ length d → i < mpeg_length →
-    Filling d at (set output i fill_byte) (i + 1)
-fill_turn {d} {at} {output} {i} f room more =
-    let n = i - at in
-    let here : i ≡ at + n = omega (arith, f.begun) in
-    let next : n + 1 ≡ i + 1 - at = omega (arith, f.begun) in
-    let filled = replicate n fill_byte in
-    let size : length filled ≡ n = length-replicate n fill_byte in
-    let place : at + n ≡ at + length filled = omega (arith, size) in
-    record {
-      begun = omega (arith, f.begun);
-      within = omega arith;
-      long = length-set output i fill_byte ∙ f.long;
-      so_far =
-          set-put output i fill_byte (omega (arith, f.long))
-          ∙ ap (λ (l : List ℕ). put l i (fill_byte ∷ [])) f.so_far
-          ∙ ap (λ (k : ℕ). put (put d at filled) k (fill_byte ∷ [])) (here ∙ place)
-          ∙ put-put d at filled (fill_byte ∷ []) (omega (arith, f.begun, size))
-          ∙ ap (put d at) (replicate-append-replicate n 1 fill_byte ∙ ap (λ (k : ℕ). replicate k fill_byte) next);
-    }
-
-pub fill_end : {d : List ℕ} {at : ℕ} {output : List ℕ} {i : ℕ} → Filling d at output i → mpeg_length ≤ i →
-    output ≡ put d at (replicate (mpeg_length - at) fill_byte)
-fill_end {d} {at} {output} {i} f done =
-    let all : i ≡ mpeg_length = omega (arith, f.within) in
-    f.so_far ∙ ap (λ (n : ℕ). put d at (replicate (n - at) fill_byte)) all
 
 -- Many bytes, copied in three blocks.
 module _ (d s : List ℕ) (at from n : ℕ) (long : 128 ≤ n) (in-d : at + n ≤ length d) (in-s : from + n ≤ length s) where

@@ -1,12 +1,12 @@
 -- Packet after packet: what is read behind so many packets (`reading_at`), and the two passes over all of them, the one that only reads
 -- (`Passing`) and the one that writes the frames' bytes besides (`Pouring`), each with a begin, a turn and an end.
-use Prim.Native.Nat.{ℕ, zero, suc, ◌+◌, ◌-◌, ◌*◌, ◌/◌, ◌%◌, ◌≤◌, ◌<◌, min}
+use Prim.Native.Nat.{ℕ, zero, suc, ◌+◌, ◌-◌, ◌*◌, ◌/◌, ◌%◌, ◌^◌, ◌≤◌, ◌<◌, min}
 use mathlib.Core.Path.{◌≡◌, refl, sym, ap, subst, ◌∙◌}
 use mathlib.Core.Bool.{true, false, ◌&&◌, true≢false}
 use mathlib.Core.Logic.{⊎_elim}
 use mathlib.Core.List.{List, [], ◌∷◌, ◌++◌}
 use native.Mathlib.Omega.{arith}
-use native.Mathlib.Nat.{eq-or-lt_of_le, le_of_suc-le-suc, min-eq_left, min-eq_right, min-le_left, min-le_right}
+use native.Mathlib.Nat.{eq-or-lt_of_le, le_of_suc-le-suc}
 use lib.Dec.{eqb, ltb}
 use lib.ListN.{length, length-append}
 use borrow.Author.Tests.{eqb-true, eq-eqb, ne_eqb, ltb-false}
@@ -15,13 +15,14 @@ use Rattle.octets.specs.Each.{Each}
 use Rattle.octets.specs.Count.{up_to}
 use Rattle.octets.specs.Stretch.{part, put, joined}
 use Rattle.octets.proofs.Counts.{true-or-false}
-use Rattle.octets.proofs.Stretches.{length_part, byte_part, part_none, part_past, part-append, part_of_part, part-short, put-nil}
+use Rattle.octets.proofs.Stretches.{length_part, part_none, part_past, part-append, part-short, put-nil}
 use Rattle.octets.proofs.Stretches.{put-part-append, length-put, joined-none, length-joined, length-joined-none}
-use Rattle.ts.specs.Packet.{mpeg_length, head_length}
-use Rattle.mpeg.specs.declared.reader.Standing.{Standing}
+use Rattle.ts.specs.Packet.{mpeg_length, head_length, counts}
 use Rattle.mpeg.specs.Packet.{frames_pid}
 use Rattle.mpeg.specs.Read.{Reading, at_start, unsound, read_packet, read_from, packets_in, reading}
-use Rattle.mpeg.specs.Inside.Standing.{standing_of, Within, Follows}
+use Rattle.std.specs.Prelude.{Some}
+use Rattle.mpeg.specs.declared.reader.Standing.{Standing}
+use Rattle.mpeg.specs.Inside.Standing.{Told, standing_of, told, Within, Follows}
 use Rattle.mpeg.specs.Inside.Stream.{stream, bytes_at, Surveyed, Writable}
 use Rattle.mpeg.proofs.Frames.{GoodFrame, good-some, may_begin-none}
 use Rattle.mpeg.proofs.Ways.{stays_unsound}
@@ -147,16 +148,29 @@ module _ (packets : List ℕ) where
       let s = steady_at n (omega arith) (ap (λ (r : Reading). r.sound) e ∙ sound) in
       rw e at s.all_good_lem
 
--- What the code keeps of a steady reading is within its bounds.
-pub steady_within : (at : ℕ) (s : Reading) → Steady at s → Within at (standing_of s)
+-- What the code keeps of a steady reading is within bounds: no more has been found than stood before place `at`.
+pub record Bounded (at : ℕ) (standing : Told) : Type 0 where
+  pub count_known : standing.expected ≤ counts
+  pub few_bytes : standing.bytes + standing.begun.size ≤ at
+  pub few-frames : standing.frames ≤ standing.bytes
+
+pub steady_within : (at : ℕ) (s : Reading) → Steady at s → Bounded at (standing_of s)
 unfolding stream
 steady_within at s steady =
     record {
-      still_sound = steady.still_sound;
       count_known = steady.count_known;
       few_bytes = omega (arith, steady.short, length-append (joined s.frames) s.begun);
       few-frames = few-frames s.frames steady.all_good_lem;
     }
+
+-- .. so that no count wraps in one packet more
+pub within_of : {at : ℕ} (standing : Standing) → Bounded at (told (Some standing)) → at + mpeg_length < 2 ^ 64 → Within standing
+within_of standing b small =
+    record { count_known = b.count_known; few_bytes = omega (arith, b.few_bytes); few-frames = b.few-frames }
+
+-- a packet that stands among others
+pub follows_at : {packet l : List ℕ} {a b : Told} → packet ≡ l → Follows (λ s. read_packet s packet) a b → Follows (λ s. read_packet s l) a b
+follows_at {packet} {l} {a} {b} e follows = λ s may is. follows s may is ∙ ap (λ (p : List ℕ). standing_of (read_packet s p)) e
 
 -- A reading finds no more bytes than there are, and no more frames than bytes.
 pub record FitsIn (n : ℕ) (s : Reading) : Type 0 where
@@ -181,32 +195,32 @@ reading-fits packets =
     (true-or-false (reading packets).sound)
 
 -- The pass that reads. `standing` is what the code has behind the packets before place `at`.
-pub record Passing (packets : List ℕ) (standing : Standing) (at : ℕ) : Type 0 where
+pub record Passing (packets : List ℕ) (standing : Told) (at : ℕ) : Type 0 where
   pub k : ℕ
   pub place : at ≡ mpeg_length * k
   pub within : at ≤ length packets
   pub stands : standing ≡ standing_of (reading_at packets k)
 
-pub pass_begin : (packets : List ℕ) (standing : Standing) → standing ≡ standing_of at_start → Passing packets standing 0
+pub pass_begin : (packets : List ℕ) (standing : Told) → standing ≡ standing_of at_start → Passing packets standing 0
 pass_begin packets standing e =
     record { k = 0; place = omega arith; within = omega arith; stands = e ∙ ap standing_of (sym (reading-none packets)) }
 
-module _ {packets : List ℕ} {standing : Standing} {at : ℕ} (p : Passing packets standing at) where
+module _ {packets : List ℕ} {standing : Told} {at : ℕ} (p : Passing packets standing at) where
   module _ (whole : length packets % mpeg_length ≡ 0) (more : at < length packets) where
     pub pass_inside : at + mpeg_length ≤ length packets
     pass_inside = omega (arith, p.place)
 
     module _ (sound : standing.sound ≡ true) where
       pub pass_sound : (reading_at packets p.k).sound ≡ true
-      pass_sound = sym (ap (λ (s : Standing). s.sound) p.stands) ∙ sound
+      pass_sound = sym (ap (λ (s : Told). s.sound) p.stands) ∙ sound
 
       pub pass_steady : Steady at (reading_at packets p.k)
       pass_steady = rw p.place (steady_at packets p.k (omega (arith, p.place, p.within)) pass_sound)
 
-      pub pass_within : Within at standing
+      pub pass_within : Bounded at standing
       pass_within = rw p.stands (steady_within at (reading_at packets p.k) pass_steady)
 
-      pub pass_turn : (next : Standing) → Follows (λ s. read_packet s (part packets at mpeg_length)) standing next →
+      pub pass_turn : (next : Told) → Follows (λ s. read_packet s (part packets at mpeg_length)) standing next →
           Passing packets next (at + mpeg_length)
       pass_turn next follows =
           record {
@@ -232,61 +246,35 @@ module _ {packets : List ℕ} {standing : Standing} {at : ℕ} (p : Passing pack
       p.stands ∙ ap standing_of (pass_through (ltb-false at (length packets) done)))
       (λ (t : standing.sound ≡ false).
       let n = length packets / mpeg_length in
-      let lost = unsound_at packets p.k (sym (ap (λ (s : Standing). s.sound) p.stands) ∙ t) in
+      let lost = unsound_at packets p.k (sym (ap (λ (s : Told). s.sound) p.stands) ∙ t) in
       let last = unsound_on packets p.k n (omega (arith, p.place, p.within)) lost in
       p.stands ∙ ap standing_of (lost ∙ sym last ∙ reading_all packets n (omega arith)))
       (true-or-false standing.sound)
 
--- What one packet's bytes are in the slice of all packets.
-pub end_total : (end behind total : ℕ) → end ≡ total → total ≤ behind → end ≡ min behind total
-end_total end behind total e l = e ∙ sym (min-eq_right l)
-
-pub end_behind : (end behind total : ℕ) → end ≡ behind → behind ≤ total → end ≡ min behind total
-end_behind end behind total e l = e ∙ sym (min-eq_left l)
-
-module _ (packets : List ℕ) (at : ℕ) where
-  abbrev packet_from : List ℕ
-  packet_from = part packets at mpeg_length
-
-  pub bytes_at-header : byte_at packets (at + 1) ≡ frames_pid / 256 → head_length ≡ bytes_at packet_from
+-- What of a packet's bytes is written.
+module _ (packet : List ℕ) where
+  pub bytes_at-header : byte_at packet 1 ≡ frames_pid / 256 → head_length ≡ bytes_at packet
   unfolding bytes_at
-  bytes_at-header e =
-      let second : byte_at packet_from 1 ≡ frames_pid / 256 = byte_part packets at mpeg_length 1 (omega arith) ∙ e in
-      rw second refl
+  bytes_at-header e = rw e refl
 
-  pub bytes_at-pointer : (byte_at packets (at + 1) ≡ frames_pid / 256 → ⊥) → head_length + 1 ≡ bytes_at packet_from
+  pub bytes_at-pointer : (byte_at packet 1 ≡ frames_pid / 256 → ⊥) → head_length + 1 ≡ bytes_at packet
   unfolding bytes_at
-  bytes_at-pointer s =
-      let other : eqb (byte_at packet_from 1) (frames_pid / 256) ≡ false =
-      ne_eqb (byte_at packet_from 1) (frames_pid / 256) (λ e. s (sym (byte_part packets at mpeg_length 1 (omega arith)) ∙ e)) in
-      rw other refl
+  bytes_at-pointer s = rw (ne_eqb (byte_at packet 1) (frames_pid / 256) s) refl
 
-  module _ {output : List ℕ} {before behind total : ℕ} (w : Writable packets packet_from output at before behind total) (end : ℕ)
+  module _ {output : List ℕ} {before behind total : ℕ} (w : Writable packet output before behind total) (end : ℕ)
       (least : end ≡ min behind total) where
-    end_room : end ≤ total
-    end_room = omega (arith, least, min-le_right behind total)
-
-    pub copy_to : before < end → before + (end - before) ≤ length output
-    copy_to l = omega (arith, end_room, w.room)
-
-    module _ (from : ℕ) (f : from ≡ bytes_at packet_from) where
-      from-inside : from + (end - before) ≤ mpeg_length
-      from-inside = omega (arith, least, min-le_left behind total, w.bytes_inside)
-
-      pub copy_from : at + from + (end - before) ≤ length packets
-      copy_from = omega (arith, from-inside, w.packet-inside)
-
-      pub copied : (output' : List ℕ) → output' ≡ put output before (part packets (at + from) (end - before)) →
-          output' ≡ put output before (part packet_from (bytes_at packet_from) (min behind total - before))
+    module _ (from : ℕ) (f : from ≡ bytes_at packet) where
+      pub copied : (output' : List ℕ) → output' ≡ put output before (part packet from (end - before)) →
+          output' ≡ put output before (part packet (bytes_at packet) (min behind total - before))
       copied output' e =
-          e ∙ ap (put output before) (sym (part_of_part packets at mpeg_length from (end - before) w.packet-inside from-inside)
-          ∙ ap (λ (n : ℕ). part packet_from n (end - before)) f ∙ ap (λ (n : ℕ). part packet_from (bytes_at packet_from) (n - before)) least)
+          e ∙ ap (λ (n : ℕ). put output before (part packet n (end - before))) f
+          ∙ ap (λ (n : ℕ). put output before (part packet (bytes_at packet) (n - before))) least
 
-    pub not_copied : end ≤ before → output ≡ put output before (part packet_from (bytes_at packet_from) (min behind total - before))
+    pub not_copied : end ≤ before → output ≡ put output before (part packet (bytes_at packet) (min behind total - before))
     not_copied l =
         let none : min behind total - before ≡ 0 = omega (arith, least) in
-        sym (ap (λ (n : ℕ). put output before (part packet_from (bytes_at packet_from) n)) none
-        ∙ ap (put output before) (part_none packet_from (bytes_at packet_from)) ∙ put-nil output before)
+        sym (ap (λ (n : ℕ). put output before (part packet (bytes_at packet) n)) none
+        ∙ ap (put output before) (part_none packet (bytes_at packet)) ∙ put-nil output before)
 
 -- how many bytes the code says have come
 pub so_far : (s : Reading) → (standing_of s).bytes + (standing_of s).begun.size ≡ length (stream s)
@@ -294,11 +282,11 @@ unfolding stream
 so_far s = sym (length-append (joined s.frames) s.begun)
 
 -- The pass that writes.
-pub record Pouring (packets output : List ℕ) (total : ℕ) (standing : Standing) (at : ℕ) (output' : List ℕ) : Type 0 where
+pub record Pouring (packets output : List ℕ) (total : ℕ) (standing : Told) (at : ℕ) (output' : List ℕ) : Type 0 where
   pub passing : Passing packets standing at
   pub stands : output' ≡ put output 0 (part (stream (reading_at packets passing.k)) 0 total)
 
-pub pour_begin : (packets output : List ℕ) (total : ℕ) (standing : Standing) → standing ≡ standing_of at_start →
+pub pour_begin : (packets output : List ℕ) (total : ℕ) (standing : Told) → standing ≡ standing_of at_start →
     Pouring packets output total standing 0 output
 unfolding stream pass_begin
 pour_begin packets output total standing e =
@@ -310,7 +298,7 @@ pour_begin packets output total standing e =
           ∙ ap (put output 0) (part_past [] total (omega arith)) ∙ put-nil output 0);
     }
 
-module _ {packets output : List ℕ} {total : ℕ} {standing : Standing} {at : ℕ} {output' : List ℕ}
+module _ {packets output : List ℕ} {total : ℕ} {standing : Told} {at : ℕ} {output' : List ℕ}
     (w : Pouring packets output total standing at output')
     (surveyed : Surveyed packets output total) where
   abbrev here : Reading
@@ -339,13 +327,13 @@ module _ {packets output : List ℕ} {total : ℕ} {standing : Standing} {at : �
 
     standing-sound : standing.sound ≡ true
     standing-sound =
-        ap (λ (s : Standing). s.sound) w.passing.stands
+        ap (λ (s : Told). s.sound) w.passing.stands
         ∙ sound_at w.passing.k (omega (arith, w.passing.place, w.passing.within))
 
-    pub pour_within : Within at standing
+    pub pour_within : Bounded at standing
     pour_within = pass_within w.passing whole more standing-sound
 
-    module _ (next : Standing) (follows : Follows (λ s. read_packet s (part packets at mpeg_length)) standing next) where
+    module _ (next : Told) (follows : Follows (λ s. read_packet s (part packets at mpeg_length)) standing next) where
       pub pour_passing : Passing packets next (at + mpeg_length)
       pour_passing = pass_turn w.passing whole more standing-sound next follows
 
@@ -364,6 +352,10 @@ module _ {packets output : List ℕ} {total : ℕ} {standing : Standing} {at : �
       next_is : next ≡ standing_of (read_packet here packet)
       next_is = follows here (pass_steady w.passing whole more standing-sound).may_begin_lem w.passing.stands
 
+      -- so the reader is not lost
+      pub pour_kept : next.sound ≡ true
+      pour_kept = ap (λ (s : Told). s.sound) next_is ∙ next-sound
+
       -- how many bytes had come before this packet, and with it
       abbrev before : ℕ
       before = standing.bytes + standing.begun.size
@@ -372,23 +364,22 @@ module _ {packets output : List ℕ} {total : ℕ} {standing : Standing} {at : �
       behind = next.bytes + next.begun.size
 
       before_is : before ≡ length (stream here)
-      before_is = ap (λ (s : Standing). s.bytes + s.begun.size) w.passing.stands ∙ so_far here
+      before_is = ap (λ (s : Told). s.bytes + s.begun.size) w.passing.stands ∙ so_far here
 
       behind_is : behind ≡ length (stream here) + pour_adds.size
       behind_is =
           let a = pour_adds in
           let long =
           length_part packet (bytes_at packet) a.size (omega (arith, a.inside, length_part packets at mpeg_length pour_inside)) in
-          ap (λ (s : Standing). s.bytes + s.begun.size) next_is ∙ so_far (read_packet here packet) ∙ ap length a.bytes_of
+          ap (λ (s : Told). s.bytes + s.begun.size) next_is ∙ so_far (read_packet here packet) ∙ ap length a.bytes_of
           ∙ length-append (stream here) (part packet (bytes_at packet) a.size) ∙ ap (λ (n : ℕ). length (stream here) + n) long
 
       pub behind_small : behind ≤ length packets
       behind_small = omega (arith, behind_is, before_is, pour_within.few_bytes, pour_adds.inside, pour_inside)
 
-      pub pour_writable : Writable packets packet output' at before behind total
+      pub pour_writable : Writable packet output' before behind total
       pour_writable =
           record {
-            packet-inside = pour_inside;
             bytes_inside = omega (arith, before_is, behind_is, pour_adds.inside);
             room = omega (arith, pour_long, surveyed.room);
           }

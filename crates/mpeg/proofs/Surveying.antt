@@ -9,7 +9,7 @@ use mathlib.Core.List.{List, [], ◌∷◌}
 use native.Mathlib.Omega.{arith}
 use lib.Dec.{eqb, ltb, leb}
 use lib.ListN.{length}
-use borrow.Author.Tests.{ltb-false, leb-true, leb-false, eqb-true, eqb-false, lt-ltb, le-ltb, le-leb, lt-leb, eq-eqb, ne_eqb, not-false}
+use borrow.Author.Tests.{ltb-false, leb-true, leb-false, eqb-true, eqb-false, le-ltb, le-leb, lt-leb, eq-eqb, ne_eqb, not-false}
 use Rattle.octets.specs.Bytes.{byte_at, be16_at}
 use Rattle.octets.specs.Stretch.{part, rest}
 use Rattle.octets.proofs.Counts.{true-or-false, or-false-left, or-false-right}
@@ -18,7 +18,7 @@ use Rattle.flow.specs.Flow.{longest}
 use Rattle.ts.specs.Packet.{fill_byte}
 use Rattle.mpeg.specs.Frame.{field_at, beside_field, good}
 use Rattle.mpeg.specs.Write.{bad_frames, left_at}
-use Rattle.mpeg.specs.Inside.Writing.{bad_first, not_all}
+use Rattle.mpeg.specs.Inside.Writing.{bad_first}
 use Rattle.mpeg.proofs.Frames.{good_says}
 
 -- One frame.
@@ -65,9 +65,6 @@ module _ (bytes : List ℕ) (start size : ℕ) (inside : start ≤ length bytes)
 
     pub there : start + size ≤ length bytes
     there = ltb-false (length bytes) (start + size) (or-false-right (ltb size beside_field || ltb longest size) _ h)
-
-    pub field_there : start + field_at + 1 < length bytes
-    field_there = omega (arith, enough, there)
 
     pub judged : (said : ℕ) → said ≡ be16_at bytes (start + field_at) →
         (not (eqb (said + beside_field) size) || eqb (byte_at bytes start) fill_byte) ≡ bad_first from-here size
@@ -173,9 +170,6 @@ module _ {bytes lengths : List ℕ} {place begun start k : ℕ} (s : Surveying b
     pub survey_stop : true ≡ bad_first (rest bytes start) n → true ≡ bad_frames lengths bytes
     survey_stop h = sym (these ∙ rw (← h) refl)
 
-    pub survey_not_all : true ≡ bad_first (rest bytes start) n → not_all k start lengths bytes ≡ bad_frames lengths bytes
-    survey_not_all h = rw (lt-ltb k (length lengths) more) (survey_stop h)
-
     module _ (sound : false ≡ bad_first (rest bytes start) n) where
       fits : Sized (rest bytes start) n
       fits = sized (rest bytes start) n (sym sound)
@@ -229,7 +223,7 @@ module _ {bytes lengths : List ℕ} {place begun start k : ℕ} (s : Surveying b
           }
 
   module _ (done : length lengths ≤ k) where
-    left_over : not (eqb start (length bytes)) ≡ bad_frames lengths bytes
+    pub left_over : not (eqb start (length bytes)) ≡ bad_frames lengths bytes
     unfolding bad_frames
     left_over =
         sym (s.to_come ∙ rw (rest_past lengths k done, length_rest bytes start) (ap not (by (true-or-false (eqb start (length bytes))))))
@@ -240,9 +234,6 @@ module _ {bytes lengths : List ℕ} {place begun start k : ℕ} (s : Surveying b
         by (inr d) =
             let other = eqb-false start (length bytes) d in
             ne_eqb (length bytes - start) 0 (λ z. other (omega (arith, z, s.in_bytes))) ∙ sym d
-
-    pub survey_all : not_all k start lengths bytes ≡ bad_frames lengths bytes
-    survey_all = rw (le-ltb k (length lengths) done) left_over
 
     pub survey_left : begun - place ≡ left_at lengths place
     unfolding left_at

@@ -1,13 +1,14 @@
 // The writer: one call, one packet. It is given frames, back to back with their lengths, how many of their bytes have been sent, and the
 // count, and answers where the next call goes on.
-ghost use Rattle.std.specs.Prelude.{◌≡◌, ◌+◌, ◌-◌, ◌<◌, ◌≤◌, min, false, length, replicate};
+ghost use Rattle.std.specs.Prelude.{◌≡◌, ◌+◌, ◌-◌, ◌<◌, ◌≤◌, min, length};
 ghost use Rattle.octets.specs.Stretch.{part, rest, put};
-ghost use Rattle.ts.specs.Packet.{mpeg_length, head_length, fill_byte};
+ghost use Rattle.ts.specs.Packet.{mpeg_length, head_length};
 ghost use Rattle.mpeg.specs.Packet.{pointed_length};
-ghost use Rattle.mpeg.specs.Write.{bad_frames, left_at, data_packet, carries, PermitsWrite};
-ghost use Rattle.mpeg.specs.Inside.Writing.{bad_first, not_all, behind_pointer, Waiting};
+ghost use Rattle.mpeg.specs.Write.{data_packet, carries, PermitsWrite};
+ghost use Rattle.mpeg.specs.Inside.Writing.{bad_first, behind_pointer, Surveys, Waiting, Writes};
 
 use crate::{BESIDE_FIELD, FIELD_AT, FRAMES_PID, LONGEST, POINTED_LENGTH};
+use refusal::Refusal;
 
 // What a call answers: 0 or the refusal's number, how many bytes have been sent now, the next count, and whether the packet is a null
 // packet. Refused: the place and the count that were given.
@@ -20,20 +21,12 @@ pub struct Written {
     pub null: bool,
 }
 
-// What the lengths say: whether a frame may not be written, and how many bytes are left of the one that has begun.
+// What a call that is not refused answers: the same but for the number.
 #[derive(Clone, Copy)]
-struct Surveyed {
-    bad: bool,
-    left: usize,
-}
-
-// How far the survey came: the frames that it passed, where the last of them ends, and where the last of those ends that start before the
-// place; the place itself where none does.
-#[derive(Clone, Copy)]
-struct Passed {
-    frames: usize,
-    end: usize,
-    begun: usize,
+struct Sent {
+    place: usize,
+    count: u8,
+    null: bool,
 }
 
 // Whether the `size` bytes from place `start` on are no frame that may be written, or are not there.
@@ -44,69 +37,31 @@ fn bad_frame(frames: &[u8], start: usize, size: usize) -> bool
     if (size < BESIDE_FIELD) | (LONGEST < size) | (frames.len() < start + size) {
         return true;
     }
-    let said = octets::wide_u16(octets::read_u16(frames, start + FIELD_AT)) + BESIDE_FIELD;
+    let said = usize::from(octets::read_u16(frames, start + FIELD_AT)) + BESIDE_FIELD;
     (said != size) | (frames[start] == ts::FILL_BYTE)
 }
 
-// Goes through the frames up to one that may not be written. It says how far it came, and not whether that is the end: so nothing is at
-// hand in the loop but what it counts, and a turn is short.
-fn pass(frames: &[u8], lengths: &[u16], place: usize) -> Passed
-    ensures frames_value { not_all result.frames result.end lengths.now frames.now
-        ≡ bad_frames lengths.now frames.now }
-    ensures place_value { bad_frames lengths.now frames.now ≡ false →
-        result.begun - place ≡ left_at lengths.now place }
+// Goes through all frames, and answers how many bytes are left of the one that has begun; or refuses one that may not be written, or bytes
+// behind the last.
+fn survey(frames: &[u8], lengths: &[u16], place: usize) -> Result<usize, Refusal>
+    ensures { Surveys frames.now lengths.now place result }
 {
-    let mut begun: usize = place;
-    let mut start: usize = 0;
-    let mut k: usize = 0;
-    while k < lengths.len() {
-        let size = octets::wide_u16(lengths[k]);
+    let mut begun = place; // where the last frame ends that starts before the place
+    let mut start = 0;
+    for length in lengths {
+        let size = usize::from(*length);
         if bad_frame(frames, start, size) {
-            return Passed {
-                frames: k,
-                end: start,
-                begun,
-            };
+            return Err(Refusal::FrameNotWritten);
         }
         if start < place {
             begun = start + size;
         }
         start += size;
-        k += 1;
     }
-    Passed {
-        frames: k,
-        end: start,
-        begun,
+    if start != frames.len() {
+        return Err(Refusal::FrameNotWritten);
     }
-}
-
-// Goes through all frames.
-fn survey(frames: &[u8], lengths: &[u16], place: usize) -> Surveyed
-    ensures bad_value { result.bad ≡ bad_frames lengths.now frames.now }
-    ensures left_value { result.bad ≡ false → result.left ≡ left_at lengths.now place }
-{
-    let passed = pass(frames, lengths, place);
-    let mut left: usize = 0;
-    if place < passed.begun {
-        left = passed.begun - place;
-    }
-    Surveyed {
-        bad: (passed.frames < lengths.len()) | (passed.end != frames.len()),
-        left,
-    }
-}
-
-// Fills up with 0xFF, from place `at` to the packet's end.
-fn fill(output: &mut [u8], at: usize)
-    requires { (at ≤ mpeg_length) × (mpeg_length ≤ length output.old) }
-    ensures { output.new ≡ put output.old at (replicate (mpeg_length - at) fill_byte) }
-{
-    let mut i = at;
-    while i < ts::MPEG_LENGTH {
-        output[i] = ts::FILL_BYTE;
-        i += 1;
-    }
+    Ok(begun.saturating_sub(place))
 }
 
 // What is copied first, in two blocks. The compiler moves a block of a size that it knows without a call, as long as it has at most 128
@@ -141,7 +96,7 @@ fn write_pointed(output: &mut [u8], frames: &[u8], place: usize) -> usize
         return POINTED_LENGTH;
     }
     octets::copy(output, ts::HEAD_LENGTH + 1, frames, place, waiting);
-    fill(output, ts::HEAD_LENGTH + 1 + waiting);
+    output[ts::HEAD_LENGTH + 1 + waiting..ts::MPEG_LENGTH].fill(ts::FILL_BYTE);
     waiting
 }
 
@@ -173,38 +128,56 @@ pub fn write(frames: &[u8], lengths: &[u16], place: usize, count: u8, output: &m
         })
         (record { answer = result; output = output.new }) }
 {
-    let surveyed = survey(frames, lengths, place);
-    if surveyed.bad {
-        return Written {
-            code: refusal::FRAME_NOT_WRITTEN,
+    match write_next(frames, lengths, place, count, output) {
+        Ok(sent) => Written {
+            code: refusal::code(Ok(())),
+            place: sent.place,
+            count: sent.count,
+            null: sent.null,
+        },
+        Err(refused) => Written {
+            code: u32::from(refused),
             place,
             count,
             null: false,
-        };
+        },
     }
+}
+
+fn write_next(
+    frames: &[u8],
+    lengths: &[u16],
+    place: usize,
+    count: u8,
+    output: &mut [u8],
+) -> Result<Sent, Refusal>
+    ensures { Writes
+        (record {
+          bytes = frames.now;
+          lengths = lengths.now;
+          place = place;
+          count = count;
+          output = output.old;
+        })
+        result output.new }
+{
+    let left = survey(frames, lengths, place)?;
     if output.len() < ts::MPEG_LENGTH {
-        return Written {
-            code: refusal::MPEG_OUTPUT_TOO_SMALL,
-            place,
-            count,
-            null: false,
-        };
+        return Err(Refusal::MpegOutputTooSmall);
     }
     if frames.len() <= place {
         let null = ts::null_packet();
         octets::copy(output, 0, &null, 0, ts::MPEG_LENGTH);
-        return Written {
-            code: refusal::NONE,
+        return Ok(Sent {
             place,
             count, // a null packet does not move it
             null: true,
-        };
+        });
     }
-    let carried = write_data(output, frames, place, surveyed.left, count);
-    Written {
-        code: refusal::NONE,
+    let carried = write_data(output, frames, place, left, count);
+    Ok(Sent {
         place: place + carried,
         count: ts::next_count(count),
         null: false,
-    }
+    })
 }

@@ -9,9 +9,6 @@
 
 mod back;
 
-ghost use Rattle.std.specs.Prelude.{◌≡◌, ◌+◌, length};
-ghost use Rattle.mpegframes.specs.Rooms.{most_read, text_room};
-
 use std::io::Write;
 
 fn too_long(stderr: &mut impl Write) {
@@ -22,27 +19,14 @@ fn too_long(stderr: &mut impl Write) {
 }
 
 fn main(rt: HostRuntime) {
-    let mut file = file_room();
+    // one byte more than is read, so that a longer one is seen to be too long
+    let mut file: [u8; back::MOST_READ + 1] = tool::room();
     let read = tool::read_input(&mut rt.stdin(), &mut file);
     if back::MOST_READ < read {
         too_long(&mut rt.stderr());
         return;
     }
-    let mut text = text_room();
+    let mut text: [u8; back::TEXT_ROOM] = tool::room();
     let length = back::get_back(&file[..read], &mut text);
     tool::write_output(&mut rt.stdout(), &text[..length]);
-}
-
-// Rooms of zeros. The contracts say how long they are, which lending one as a slice needs. That for the file has one byte more than is
-// read, so that a longer one is seen to be too long.
-fn file_room() -> [u8; back::MOST_READ + 1]
-    ensures { most_read + 1 ≡ length result }
-{
-    [0; back::MOST_READ + 1]
-}
-
-fn text_room() -> [u8; back::TEXT_ROOM]
-    ensures { text_room ≡ length result }
-{
-    [0; back::TEXT_ROOM]
 }

@@ -1,5 +1,6 @@
 pub mod Stretches
 pub mod Counts
+pub mod Listed
 pub mod Elements
 pub mod Tests
 pub mod Bytes

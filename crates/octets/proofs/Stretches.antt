@@ -16,6 +16,7 @@ use lib.Seq.{length-take-le, take-length, take-take, take-append-le, take_at, ta
 use lib.Seq.{drop_at, drop-cons, drop-drop, drop-nil, drop-append-le, drop-append-add, drop-append_seam, split_at, set_split, append_snoc}
 use lib.Seq.{get_or-drop, get_or-take, get_or-append-add, ext_get_or}
 use borrow.Author.Tests.{leb-true, leb-false}
+use borrow.Rule.Slice.PartMut.{put_mid, post_of, Post-is}
 use Rattle.octets.specs.Bytes.{byte_at}
 use Rattle.octets.specs.Stretch.{part, rest, put, joined, lengths_of, cut_by}
 use Rattle.octets.specs.Count.{sum_to, up_to}
@@ -101,9 +102,18 @@ pub sliced_part : (l : List ℕ) (from to n : ℕ) → to - from ≡ n → take 
 unfolding part
 sliced_part l from to n e = ap (λ (k : ℕ). take k (drop from l)) e
 
+-- .. and how long such a one is
+pub length_taken : (l : List ℕ) (from n : ℕ) → from + n ≤ length l → length (take n (drop from l)) ≡ n
+unfolding part
+length_taken l from n h = length_part l from n h
+
 -- .. and how long one is that is taken from the front, `&l[..n]`
 pub length_sliced : (l : List ℕ) (n : ℕ) → n ≤ length l → n ≡ length (take n l)
 length_sliced l n h = sym (length-take-le n l h)
+
+-- .. and what stands at a place of it
+pub at_sliced : (l : List ℕ) (n i : ℕ) → i < n → get_or (take n l) i 0 ≡ get_or l i 0
+at_sliced l n i h = get_or-take n l i 0 h
 
 pub sliced_front : (l : List ℕ) (n : ℕ) → take n l ≡ part l 0 n
 unfolding part
@@ -344,6 +354,14 @@ part-put d at x h =
 pub sliced_put : {e : List ℕ} (d x : List ℕ) (n : ℕ) → e ≡ put d 0 x → n ≡ length x → n ≤ length d → take n e ≡ x
 sliced_put {e} d x n stood long inside =
     sliced_front e n ∙ ap (λ (l : List ℕ). part l 0 n) stood ∙ ap (part (put d 0 x) 0) long ∙ part-put d 0 x (omega (arith, long, inside))
+
+-- What a borrowed stretch of a list was made into is put in its place.
+pub put_sliced : {x : List ℕ} (d y : List ℕ) (at to : ℕ) → at ≤ to → x ≡ y → length y ≡ to - at → put_mid at (to - at) d x ≡ put d at y
+unfolding put
+put_sliced {x} d y at to h e size =
+    let end : to ≡ at + length y = omega arith in
+    ap (λ (l : List ℕ). take at d ++ (l ++ post_of at (to - at) d)) e ∙ ap (λ (l : List ℕ). take at d ++ (y ++ l)) (Post-is at to d h ∙ ap (λ (n : ℕ). drop n d) end)
+    ∙ sym (append_assoc (take at d) y (drop (at + length y) d))
 
 -- what is put over all of a list is the list
 pub put_whole : (d x : List ℕ) → length d ≡ length x → put d 0 x ≡ x

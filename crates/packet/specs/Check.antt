@@ -2,9 +2,11 @@
 -- answers 24 for another kind than 1 and 2 or another transport, else the first of 2, 3, 15, 4, 6, 7 and 9 to 11 that applies, else 0.
 -- Segment k is a stretch of the caller's own packet, an empty one where the request is refused; its cause is 24 for another kind than
 -- PSP, else the check's number, then 14 where the packet has no segment k, else 0.
-use Rattle.std.specs.Prelude.{ℕ, zero, suc, ◌+◌, ◌≡◌, Bool, cond, not, ◌&&◌, List, [], ◌∷◌, ◌++◌, eqb, leb, length}
+use Rattle.std.specs.Prelude.{ℕ, zero, suc, ◌+◌, ◌≡◌, Result, Ok, Err, Bool, cond, not, ◌&&◌, List, [], ◌∷◌, ◌++◌, eqb, leb, length}
 use Rattle.std.specs.Borrow.{Bor}
+use Rattle.refusal.specs.declared.Refusal as error
 use Rattle.refusal.specs.Refusal.{Refusal, ◌when◌, first}
+use Rattle.refusal.specs.Number.{number_of}
 use Rattle.octets.specs.Stretch.{part, put}
 use Rattle.packet.specs.declared.Extent.{Extent}
 use Rattle.packet.specs.Header.{Packet, packet_by, lead, id_length, sub, before_session, segment_count}
@@ -85,6 +87,11 @@ PermitsSegmentCause kind p k answer = answer ≡ segment_cause kind p k
 
 abbrev pub PermitsSegmentExtent : ℕ → Packet → ℕ → Extent → Type 0
 PermitsSegmentExtent kind p k answer = answer ≡ segment_extent kind p k
+
+-- .. and what the code answers before C is told of it: the extent, where nothing refuses the request; else the refusal.
+abbrev pub FindsSegment : ℕ → Packet → ℕ → Result Extent error.Refusal → Type 0
+FindsSegment kind p k (Ok extent) = (segment_cause kind p k ≡ 0) × (extent ≡ segment_extent kind p k)
+FindsSegment kind p k (Err refusal) = number_of refusal ≡ segment_cause kind p k
 
 abbrev pub PermitsSegmentCopy : ℕ → Packet → ℕ → List ℕ → CopyOutcome → Type 0
 PermitsSegmentCopy kind p k output o = o ≡ segment_copied kind p k output

@@ -1,11 +1,15 @@
 // The fixed part of a packet: over UDP four bytes of L2TP (RFC 3931, section 4.1.2.1), then the session ID, then the sub-layer header (DEPI
 // I05, sections 8.1.3, 8.2 and 8.3). Which transport a packet came by is a number that its caller gives.
-ghost use Rattle.std.specs.Prelude.{◌≡◌, ◌+◌, ◌<◌, ◌≤◌, length};
+ghost use Rattle.std.specs.Prelude.{◌≡◌, ◌+◌, ◌<◌, ◌≤◌, length, OnOk};
 ghost use Rattle.refusal.specs.Refusal.{first};
+ghost use Rattle.refusal.specs.Number.{code_of};
 ghost use Rattle.packet.specs.Header.{packet_by, udp_lead, lead_of, not_version3, id_length, session_id, sub, header_length, v_set, s_set};
 ghost use Rattle.packet.specs.Header.{h_bits, flow_values, flow_id, count_values, segment_count, number, not_plain, before_session};
 
-// The transports as the host program numbers them.
+use refusal::Refusal;
+
+// The transports as the host program numbers them. They stay numbers down to here: C gives any, and 24 for another has its place in the
+// order of refusals, behind 1 and 13 and before 2 (`data_refusals`).
 pub const IP: u32 = 1;
 
 pub const UDP: u32 = 2;
@@ -63,9 +67,11 @@ pub fn session_id(packet: &[u8], transport: u32) -> u32
 }
 
 // What follows the session ID.
+#[tactic(auto, using(octets::proofs::Stretches::sliced_rest))]
 pub fn sub_of(packet: &[u8], transport: u32) -> &[u8]
     requires { lead_of transport + id_length ≤ length packet.now }
-    ensures { result.now ≡ sub (packet_by transport packet.now) }
+    ensures its_bytes { result.now ≡ sub (packet_by transport packet.now) }
+    ensures its_length { lead_of transport + id_length + length result.now ≡ length packet.now }
 {
     let from = lead_of(transport) + ID_LENGTH;
     &packet[from..]
@@ -97,14 +103,14 @@ pub fn flow_id(sub: &[u8]) -> usize
     requires { header_length ≤ length sub.now }
     ensures { (result ≡ flow_id sub.now) × (result < flow_values) }
 {
-    octets::wide_u8(sub[0] % FLOW_VALUES)
+    usize::from(sub[0] % FLOW_VALUES)
 }
 
 pub fn segment_count(sub: &[u8]) -> usize
     requires { header_length ≤ length sub.now }
     ensures { (result ≡ segment_count sub.now) × (result < count_values) }
 {
-    octets::wide_u8(sub[1] % COUNT_VALUES)
+    usize::from(sub[1] % COUNT_VALUES)
 }
 
 // The sequence number.
@@ -134,28 +140,29 @@ fn not_version_3(packet: &[u8], transport: u32) -> bool
     (packet[0] / T_BIT % 2 == 1) | (packet[1] % VERSION_VALUES != VERSION)
 }
 
-// Refusals 24, 2, 3, 15 and 4, which need no session; or 0, and then the packet has a whole header.
-pub fn refuse_before_session(packet: &[u8], transport: u32) -> u32
-    ensures { result ≡ first (before_session (packet_by transport packet.now)) }
+// Refusals 24, 2, 3, 15 and 4, which need no session; or none, and then the packet has a whole header.
+pub fn refuse_before_session(packet: &[u8], transport: u32) -> Result<(), Refusal>
+    ensures its_number { code_of result ≡ first (before_session (packet_by transport packet.now)) }
+    ensures whole_header { OnOk result (lead_of transport + id_length + header_length ≤ length packet.now) }
 {
     // one question inside the other, so that over IP a single comparison settles all that is asked of the transport
     if transport != IP {
         if transport != UDP {
-            return refusal::TRANSPORT_UNKNOWN;
+            return Err(Refusal::NumberUnknown);
         }
     }
     let lead = lead_of(transport);
     if packet.len() < lead + SHORTEST_PACKET {
-        return refusal::PACKET_TOO_SHORT;
+        return Err(Refusal::PacketTooShort);
     }
     if lead + LONGEST_PACKET < packet.len() {
-        return refusal::PACKET_TOO_LONG;
+        return Err(Refusal::PacketTooLong);
     }
     if not_version_3(packet, transport) {
-        return refusal::NOT_VERSION_3;
+        return Err(Refusal::NotVersion3);
     }
     if session_id(packet, transport) == 0 {
-        return refusal::CONTROL_MESSAGE;
+        return Err(Refusal::ControlMessage);
     }
-    refusal::NONE
+    Ok(())
 }

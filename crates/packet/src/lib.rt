@@ -9,25 +9,26 @@ pub mod dmpt;
 pub mod header;
 pub mod psp;
 
+ghost use Rattle.refusal.specs.Number.{code_of};
 ghost use Rattle.packet.specs.Header.{packet_by};
-ghost use Rattle.packet.specs.Check.{PermitsCheck, PermitsSegmentCause, PermitsSegmentExtent, PermitsSegment};
+ghost use Rattle.packet.specs.Check.{PermitsCheck, PermitsSegmentCause, FindsSegment, PermitsSegment};
 
-// The kinds of session as the host program numbers them.
+use refusal::Refusal;
+
+// The kinds of session as the host program numbers them: C gives any number, and 24 for another is the first line of both orders.
 pub const KIND_PSP: u32 = 1;
 
 pub const KIND_DMPT: u32 = 2;
 
-// The packet check: the first refusal that a packet of this kind meets whatever the table, or 0.
-pub fn check(kind: u32, transport: u32, packet: &[u8]) -> u32
-    ensures { PermitsCheck kind (packet_by transport packet.now) result }
+// The packet check: the first refusal that a packet of this kind meets whatever the table.
+#[tactic(auto, unfolding(crate::specs::Check::check, crate::specs::Check::check_refusals))]
+pub fn check(kind: u32, transport: u32, packet: &[u8]) -> Result<(), Refusal>
+    ensures { PermitsCheck kind (packet_by transport packet.now) (code_of result) }
 {
     if (kind != KIND_PSP) & (kind != KIND_DMPT) {
-        return refusal::KIND_UNKNOWN;
+        return Err(Refusal::NumberUnknown);
     }
-    let early = header::refuse_before_session(packet, transport);
-    if early != refusal::NONE {
-        return early;
-    }
+    header::refuse_before_session(packet, transport)?;
     let sub = header::sub_of(packet, transport);
     if kind == KIND_PSP {
         return psp::refuse(sub, psp::ENTRY_WIDTH);
@@ -35,22 +36,20 @@ pub fn check(kind: u32, transport: u32, packet: &[u8]) -> u32
     dmpt::refuse(sub)
 }
 
-// Why segment k of a packet is refused, or 0. Only PSP packets have segments.
-pub fn segment_cause(kind: u32, transport: u32, packet: &[u8], k: usize) -> u32
-    ensures { PermitsSegmentCause kind (packet_by transport packet.now) k result }
+// Why segment k of a packet is refused, if it is. Only PSP packets have segments.
+#[tactic(auto, unfolding(crate::specs::Check::segment_cause, crate::specs::Check::cause_refusals, crate::specs::Check::check, crate::specs::Check::check_refusals))]
+pub fn segment_cause(kind: u32, transport: u32, packet: &[u8], k: usize) -> Result<(), Refusal>
+    ensures { PermitsSegmentCause kind (packet_by transport packet.now) k (code_of result) }
 {
     if kind != KIND_PSP {
-        return refusal::KIND_UNKNOWN;
+        return Err(Refusal::NumberUnknown);
     }
-    let refused = check(kind, transport, packet);
-    if refused != refusal::NONE {
-        return refused;
-    }
+    check(kind, transport, packet)?;
     let sub = header::sub_of(packet, transport);
     if header::segment_count(sub) <= k {
-        return refusal::SEGMENT_OUTSIDE;
+        return Err(Refusal::SegmentOutside);
     }
-    refusal::NONE
+    Ok(())
 }
 
 // Where segment k lies in the packet: its first place, counted from the packet's first byte, and its length. A stretch that is given
@@ -62,26 +61,29 @@ pub struct Extent {
     pub size: usize,
 }
 
-// Where segment k of a packet lies; start 0 and size 0 where it is refused.
-pub fn segment_extent(kind: u32, transport: u32, packet: &[u8], k: usize) -> Extent
-    ensures { PermitsSegmentExtent kind (packet_by transport packet.now) k result }
+// Where segment k of a packet lies; or why it is refused.
+pub fn segment_extent(kind: u32, transport: u32, packet: &[u8], k: usize) -> Result<Extent, Refusal>
+    ensures { FindsSegment kind (packet_by transport packet.now) k result }
 {
-    if segment_cause(kind, transport, packet, k) != refusal::NONE {
-        return Extent { start: 0, size: 0 };
-    }
+    segment_cause(kind, transport, packet, k)?;
     let sub = header::sub_of(packet, transport);
     let before = header::lead_of(transport) + header::ID_LENGTH;
     let start = before + psp::body_place(sub, psp::ENTRY_WIDTH, k);
     let size = psp::length_of(psp::entry(sub, psp::ENTRY_WIDTH, k));
-    Extent { start, size }
+    Ok(Extent { start, size })
 }
 
 // Segment k of a packet, as a stretch of that packet itself; an empty one where it is refused.
+#[tactic(auto, using(crate::proofs::Asked::extent_inside), unfolding(crate::specs::Check::segment_given))]
 pub fn segment(kind: u32, transport: u32, packet: &[u8], k: usize) -> &[u8]
     ensures { PermitsSegment kind transport packet.entry k result }
 {
-    let extent = segment_extent(kind, transport, packet, k);
-    let start = extent.start;
-    let end = start + extent.size;
-    &packet[start..end]
+    match segment_extent(kind, transport, packet, k) {
+        Ok(extent) => {
+            let start = extent.start;
+            let end = start + extent.size;
+            &packet[start..end]
+        }
+        Err(_) => &packet[..0],
+    }
 }

@@ -2,6 +2,7 @@
 // width is a parameter: its marks and its length stand in the first two bytes.
 ghost use Rattle.std.specs.Prelude.{◌≡◌, ◌+◌, ◌*◌, ◌<◌, ◌≤◌, length};
 ghost use Rattle.refusal.specs.Refusal.{first};
+ghost use Rattle.refusal.specs.Number.{code_of};
 ghost use Rattle.packet.specs.Header.{header_length, segment_count};
 ghost use Rattle.octets.specs.Count.{any, sum_to};
 ghost use Rattle.packet.specs.Segments.{length_values, entry_at, begins_in, ends_in, length_in, length_at, body_at};
@@ -9,6 +10,7 @@ ghost use Rattle.packet.specs.Psp.{bad_entry, bad_at, segment_refusals, psp_refu
 
 use crate::header;
 use flow::Flow;
+use refusal::Refusal;
 
 // The width of an entry in this edition of the header.
 pub const ENTRY_WIDTH: usize = 2;
@@ -43,7 +45,7 @@ pub fn ends(entry: u16) -> bool
 pub fn length_of(entry: u16) -> usize
     ensures { (result ≡ length_in entry) × (result < length_values) }
 {
-    (entry % LENGTH_VALUES) as usize
+    usize::from(entry % LENGTH_VALUES)
 }
 
 // Whether entry k of `count` is bad: its length is 0, or B is missing though it is not the first, or E though it is not the last.
@@ -60,15 +62,14 @@ fn total_length(sub: &[u8], width: usize, n: usize) -> usize
     ensures { (result ≡ sum_to (length_at width sub.now) n) × (result ≤ length_values * n) }
 {
     let mut total: usize = 0;
-    let mut k: usize = 0;
-    while k < n {
+    for k in 0..n {
         total += length_of(entry(sub, width, k));
-        k += 1;
     }
     total
 }
 
-// What a segment table says: how long all segments are together, and whether one of the entries is bad.
+// What a segment table says: how long all segments are together, and whether one of the entries is bad. Neither stands for the other: 10 is
+// judged by the length before 11 by the fault, and both are known after one pass.
 #[derive(Clone, Copy)]
 pub struct Surveyed {
     pub total: usize,
@@ -85,24 +86,23 @@ fn survey(sub: &[u8], width: usize, count: usize) -> Surveyed
     ensures total_in_bounds { result.total ≤ length_values * count }
 {
     let first = entry(sub, width, 0);
-    let mut total = (first % LENGTH_VALUES) as u32;
+    let mut total = u32::from(first % LENGTH_VALUES);
     let mut bad = bad_entry(count, 0, first);
-    let mut k: usize = 1;
-    while k + 1 < count {
-        let middle = entry(sub, width, k);
-        total += (middle % LENGTH_VALUES) as u32;
-        bad = bad | (middle <= B_BIT + E_BIT);
-        k += 1;
-    }
-    if count <= k {
+    if count == 1 {
         return Surveyed {
             total: total as usize,
             bad,
         }; // the first is the last
     }
-    let last = entry(sub, width, k);
-    total += (last % LENGTH_VALUES) as u32;
-    bad = bad | bad_entry(count, k, last);
+    let last_place = count - 1;
+    for k in 1..last_place {
+        let middle = entry(sub, width, k);
+        total += u32::from(middle % LENGTH_VALUES);
+        bad |= middle <= B_BIT + E_BIT;
+    }
+    let last = entry(sub, width, last_place);
+    total += u32::from(last % LENGTH_VALUES);
+    bad |= bad_entry(count, last_place, last);
     Surveyed {
         total: total as usize,
         bad,
@@ -110,6 +110,7 @@ fn survey(sub: &[u8], width: usize, count: usize) -> Surveyed
 }
 
 // Where the body of segment k starts.
+#[tactic(auto, unfolding(crate::specs::Segments::body_at))]
 pub fn body_place(sub: &[u8], width: usize, k: usize) -> usize
     requires le_width { (2 ≤ width) × (width ≤ 4) × (k ≤ segment_count sub.now) }
     requires sub_in_bounds { header_length + width * segment_count sub.now ≤ length sub.now }
@@ -120,39 +121,40 @@ pub fn body_place(sub: &[u8], width: usize, k: usize) -> usize
     header::HEADER_LENGTH + width * count + before
 }
 
-// Refusals 9 to 11, of the segments; or 0.
-fn refuse_segments(sub: &[u8], width: usize) -> u32
+// Refusals 9 to 11, of the segments.
+#[tactic(auto, unfolding(crate::specs::Psp::wanted, crate::specs::Segments::body_at))]
+fn refuse_segments(sub: &[u8], width: usize) -> Result<(), Refusal>
     requires { (2 ≤ width) × (width ≤ 4) × (header_length ≤ length sub.now) }
-    ensures { result ≡ first (segment_refusals width sub.now) }
+    ensures { code_of result ≡ first (segment_refusals width sub.now) }
 {
     let count = header::segment_count(sub);
     if count == 0 {
-        return refusal::NOTHING_CARRIED;
+        return Err(Refusal::NothingCarried);
     }
     let bodies = header::HEADER_LENGTH + width * count;
     if sub.len() < bodies {
-        return refusal::LENGTHS_DISAGREE; // the segment table itself is cut
+        return Err(Refusal::LengthsDisagree); // the segment table itself is cut
     }
     let surveyed = survey(sub, width, count);
     if bodies + surveyed.total != sub.len() {
-        return refusal::LENGTHS_DISAGREE;
+        return Err(Refusal::LengthsDisagree);
     }
     if surveyed.bad {
-        return refusal::CONTENT_SPOILT;
+        return Err(Refusal::ContentSpoilt);
     }
-    refusal::NONE
+    Ok(())
 }
 
-// Refusals 6, 7 and 9 to 11 of a PSP packet, or 0. Whether it has a number is not asked here (document 02, W2).
-pub fn refuse(sub: &[u8], width: usize) -> u32
+// Refusals 6, 7 and 9 to 11 of a PSP packet. Whether it has a number is not asked here (document 02, W2).
+pub fn refuse(sub: &[u8], width: usize) -> Result<(), Refusal>
     requires { (2 ≤ width) × (width ≤ 4) × (header_length ≤ length sub.now) }
-    ensures { result ≡ first (psp_refusals width sub.now) }
+    ensures { code_of result ≡ first (psp_refusals width sub.now) }
 {
     if header::not_plain(sub) {
-        return refusal::HEADER_NOT_PLAIN;
+        return Err(Refusal::HeaderNotPlain);
     }
     if Flow::TOP < header::flow_id(sub) {
-        return refusal::FLOW_OUTSIDE;
+        return Err(Refusal::FlowOutside);
     }
     refuse_segments(sub, width)
 }

@@ -17,14 +17,12 @@ use Rattle.octets.proofs.Counts.{true-or-false}
 use Rattle.octets.proofs.Stretches.{length_part, part-within, length-joined-none, length-joined, length-joined-append, joined_one}
 use Rattle.octets.proofs.Those.{those-none, those-cons, those-append, those-few}
 use Rattle.capture.specs.File.{Entry, body_of}
-use Rattle.pcap.specs.declared.judge.Judged.{Judged}
 use Rattle.pcap.specs.declared.import.Tally.{Tally}
-use Rattle.pcap.specs.declared.import.Found.{Found}
 use Rattle.pcap.specs.File.{is_little, whole, after, bytes_at, records_from, place_from, first_place, records, last_place, stops}
-use Rattle.pcap.specs.Judge.{skip_of, data_at, data_length, entry_of, judged}
+use Rattle.pcap.specs.Judge.{skip_of, data_at, data_length, entry_of, Judged, judged}
 use Rattle.pcap.specs.Import.{is_for, entries_of, skipped}
-use Rattle.pcap.specs.Inside.Importing.{tally_of, plus, count_limit, Countable, found_in}
-use Rattle.pcap.proofs.Judging.{judged-inside, cause_is, four_causes, taken_as}
+use Rattle.pcap.specs.Inside.Importing.{tally_of, plus, count_limit, Countable, Found, found_in}
+use Rattle.pcap.proofs.Judging.{judged-inside, cause_is, taken_as}
 use Rattle.pcap.proofs.Walk.{records_step, records_end, place_step, place_end, records_within}
 
 -- Entries, and what is skipped: of none, of one record, and of one before others.
@@ -146,9 +144,6 @@ module _ (r : List ℕ) (t : Tally) (j : Judged) (e : j ≡ judged r) where
 
   pub one_more : (cause : ℕ) → j.cause ≡ cause → skipped cause (r ∷ []) ≡ 1
   one_more cause z = by_cause cause cause z ∙ ap (λ (b : Bool). cond b 1 0) (eq-eqb cause cause refl)
-
-  pub others-left : (j.cause ≡ 0 → ⊥) → (j.cause ≡ 1 → ⊥) → (j.cause ≡ 2 → ⊥) → (j.cause ≡ 3 → ⊥) → j.cause ≡ 4
-  others-left a b c d = omega (arith, cause_is r j e, four_causes r)
 
   -- The tally with it, by its cause.
   abbrev with : ℕ → ℕ → ℕ → ℕ → ℕ → ℕ → Tally

@@ -19,11 +19,10 @@ use Rattle.capture.specs.File.{head_length, entry_length, longest_file, entry_co
 use Rattle.capture.specs.File.{Entry, nth_entry, entries, StandsAt}
 use Rattle.capture.proofs.Checking.{is_sound, start_first, start-next, body-inside, body_long}
 use Rattle.pcap.specs.declared.Addresses.{Addresses}
-use Rattle.pcap.specs.declared.export.Measured.{Measured}
 use Rattle.pcap.specs.declared.export.Exported.{Exported}
 use Rattle.pcap.specs.File.{file_header, file_header_in, record_in, pcap_of}
 use Rattle.pcap.specs.Export.{is_open, is_close, is_data, packet_of, export_of, export_refusals}
-use Rattle.pcap.specs.Export.{ExportOutcome, exported_by, exported}
+use Rattle.pcap.specs.Export.{Answer, ExportOutcome, exported_by, exported}
 use Rattle.pcap.specs.Inside.Exporting.{record_of, record_length, measured_to}
 use Rattle.pcap.proofs.Packets.{length_record, length-packet}
 use Rattle.pcap.proofs.Measuring.{measured, measured_same}
@@ -216,13 +215,13 @@ module _ {by : Addresses} {file headed output : List ℕ} {at start k : ℕ} (x 
       ∙ ap (put before 0) (sym (export_is by file))
 
 -- The ways out of an export, in their order.
-abbrev pub outcome : Exported → List ℕ → ExportOutcome
+abbrev pub outcome : Answer → List ℕ → ExportOutcome
 outcome answer output = record { answer = answer; output = output }
 
-abbrev refused_with : ℕ → Exported
+abbrev refused_with : ℕ → Answer
 refused_with code = record { code = code; length = 0; packets = 0; opens = 0; closes = 0 }
 
-abbrev answer_of : Measured → Exported
+abbrev answer_of : Exported → Answer
 answer_of m = record { code = 0; length = m.length; packets = m.packets; opens = m.opens; closes = m.closes }
 
 module _ (by : Addresses) (file output : List ℕ) where
@@ -237,7 +236,7 @@ module _ (by : Addresses) (file output : List ℕ) where
       let stopped = first_stopped (file_refusals head_length entry_length file) last (λ z. some (e ∙ z)) in
       ap (λ (n : ℕ). exported_by n by file output) (e ∙ sym stopped)
 
-  module _ (sound : file_refusal file ≡ 0) (m : Measured) (sender : length by.sender ≡ 6) (receiver : length by.receiver ≡ 6)
+  module _ (sound : file_refusal file ≡ 0) (m : Exported) (sender : length by.sender ≡ 6) (receiver : length by.receiver ≡ 6)
       (em : m ≡ measured_to file (entry_count head_length file)) where
     passed : first (export_refusals by file (length output)) ≡ first last
     unfolding file_refusal last
@@ -249,7 +248,7 @@ module _ (by : Addresses) (file output : List ℕ) where
     all_counted = em ∙ measured_is by sender receiver file sound
 
     pub counted_long : m.length ≡ length (export_of by (entries file))
-    counted_long = ap (λ (x : Measured). x.length) all_counted
+    counted_long = ap (λ (x : Exported). x.length) all_counted
 
     pub output-short : length output < m.length → outcome (refused_with 64) output ≡ exported by file output
     unfolding exported exported_by last
@@ -265,5 +264,5 @@ module _ (by : Addresses) (file output : List ℕ) where
         let passes = le-ltb (length output) (length (export_of by (entries file))) (omega (arith, room, counted_long)) in
         let number : first (export_refusals by file (length output)) ≡ 0 = passed ∙ rw passes refl in
         ap (outcome (answer_of m)) did
-        ∙ ap (λ (x : Measured). outcome (answer_of x) (put output 0 (export_of by (entries file)))) all_counted
+        ∙ ap (λ (x : Exported). outcome (answer_of x) (put output 0 (export_of by (entries file)))) all_counted
         ∙ ap (λ (n : ℕ). exported_by n by file output) (sym number)

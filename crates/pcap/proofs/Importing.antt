@@ -7,8 +7,11 @@ use mathlib.Core.Logic.{⊎_elim}
 use native.Mathlib.Omega.{arith}
 use lib.Dec.{eqb, ltb}
 use lib.ListN.{length, length-append, length-map}
-use borrow.Author.Tests.{lt-ltb, le-ltb, ltb-false, eqb-true, eqb-false}
+use borrow.Author.Tests.{ltb-false, eqb-true, eqb-false}
+use Rattle.refusal.specs.declared.Refusal.{Refusal}
+use Rattle.refusal.specs.Number.{number_of}
 use Rattle.refusal.specs.Refusal.{◌when◌, first}
+use Rattle.refusal.proofs.Numbers.{number_some}
 use Rattle.refusal.proofs.Laws.{none-applies, when_accepted, when_refused}
 use Rattle.octets.specs.Bytes.{two, four}
 use Rattle.octets.specs.Stretch.{joined, put}
@@ -17,11 +20,9 @@ use Rattle.octets.proofs.Stretches.{length-joined-map}
 use Rattle.capture.specs.declared.Writer.{Writer}
 use Rattle.capture.specs.File.{head_length, id_body, longest_file, most_entries, opening, body_of, file_of}
 use Rattle.capture.proofs.Writing.{file_length_lem, laid_none, laid_finished}
-use Rattle.pcap.specs.declared.import.Imported.{Imported}
-use Rattle.pcap.specs.declared.import.Found.{Found}
 use Rattle.pcap.specs.File.{bad_header, records, last_place}
-use Rattle.pcap.specs.Import.{entries_of, all_entries, import_refusals, ImportOutcome, imported_by, imported}
-use Rattle.pcap.specs.Inside.Importing.{tally_of, found_in, long_with, refusal_by, none_yet, RoomFor, LaysOn}
+use Rattle.pcap.specs.Import.{entries_of, all_entries, import_refusals, Answer, ImportOutcome, imported_by, imported}
+use Rattle.pcap.specs.Inside.Importing.{tally_of, Found, found_in, long_with, refusal_by, none_yet, RoomFor, LaysOn}
 use Rattle.pcap.proofs.Walk.{walk_stops}
 use Rattle.pcap.proofs.Laying.{bodies_both, room_front, room_behind, lays_both}
 
@@ -29,19 +30,6 @@ use Rattle.pcap.proofs.Laying.{bodies_both, room_front, room_behind, lays_both}
 module _ (long many small : Bool) where
   abbrev last : ℕ
   last = first (63 when (long || many) ∷ 64 when small ∷ [])
-
-too_long_by : (long many small : Bool) → long ≡ true → last long many small ≡ 63
-too_long_by long many small e = rw e refl
-
-too_many_by : (long many small : Bool) → many ≡ true → last long many small ≡ 63
-too_many_by true many small e = refl
-too_many_by false many small e = rw e refl
-
-too_small_by : (long many small : Bool) → long ≡ false → many ≡ false → small ≡ true → last long many small ≡ 64
-too_small_by long many small a b c = rw (a, b, c) refl
-
-none_by : (long many small : Bool) → long ≡ false → many ≡ false → small ≡ false → last long many small ≡ 0
-none_by long many small a b c = rw (a, b, c) refl
 
 module _ (sessions : ℕ) (found : Found) (room : ℕ) where
   abbrev entries_then : ℕ
@@ -59,37 +47,6 @@ module _ (sessions : ℕ) (found : Found) (room : ℕ) where
   module _ (none : found.cause ≡ 0) where
     by_size : refusal_by sessions found room ≡ last_ones
     by_size = when_accepted found.cause none last_ones found.cause
-
-    pub too_many : most_entries < entries_then → 63 ≡ refusal_by sessions found room
-    too_many h =
-        sym (
-        by_size
-        ∙ too_many_by (ltb longest_file long_then) (ltb most_entries entries_then) (ltb room long_then) (lt-ltb most_entries entries_then h)
-        )
-
-    pub too_long : longest_file < long_then → 63 ≡ refusal_by sessions found room
-    too_long h =
-        sym (
-        by_size
-        ∙ too_long_by (ltb longest_file long_then) (ltb most_entries entries_then) (ltb room long_then) (lt-ltb longest_file long_then h)
-        )
-
-    module _ (few : entries_then ≤ most_entries) (short : long_then ≤ longest_file) where
-      pub too_small : room < long_then → 64 ≡ refusal_by sessions found room
-      too_small h =
-          sym (
-          by_size
-          ∙ too_small_by (ltb longest_file long_then) (ltb most_entries entries_then) (ltb room long_then) (le-ltb longest_file long_then short)
-          (le-ltb most_entries entries_then few) (lt-ltb room long_then h)
-          )
-
-      pub not-refused : long_then ≤ room → 0 ≡ refusal_by sessions found room
-      not-refused h =
-          sym (
-          by_size
-          ∙ none_by (ltb longest_file long_then) (ltb most_entries entries_then) (ltb room long_then) (le-ltb longest_file long_then short)
-          (le-ltb most_entries entries_then few) (le-ltb room long_then h)
-          )
 
   -- The other way round: what is so where nothing is refused.
   pub record Accepted : Type 0 where
@@ -160,7 +117,7 @@ module _ (sessions file : List ℕ) (room : ℕ) where
       ∙ ap (by (found_in file).cause (long_with (length sessions) (tally_of (records file)))) (entries_long sessions file)
 
 -- What is answered and left.
-abbrev refused_with : ℕ → Imported
+abbrev refused_with : ℕ → Answer
 refused_with code = record { code = code; length = 0; packets = 0; foreign = 0; misfits = 0; fragments = 0; others = 0 }
 
 refused_by : (n code : ℕ) → n ≡ code → (code ≡ 0 → ⊥) → (sessions file output : List ℕ) →
@@ -192,9 +149,6 @@ module _ (sessions file output : List ℕ) (found : Found) (surveyed : found ≡
 
     bytes_are : found.tally.bytes ≡ length (joined (map body_of (entries_of (records file))))
     bytes_are = ap (λ (f : Found). f.tally.bytes) surveyed
-
-    pub sizes-small : (length sessions + found.tally.packets ≤ most_entries) × (found.tally.bytes ≤ longest_file)
-    sizes-small = (fits.few, omega (arith, fits.short))
 
     pub all_counted : length sessions + found.tally.packets ≡ length (all_entries sessions file)
     all_counted = omega (arith, packets_are, entries_long sessions file)
@@ -239,6 +193,13 @@ module _ (sessions file output : List ℕ) (found : Found) (surveyed : found ≡
           };
           output = written i;
         })
+
+-- where the first walk stops, that is the answer
+pub import_stopped : (sessions file output : List ℕ) (why : Refusal) → (found_in file).cause ≡ number_of why →
+    ◌≡◌ {A = ImportOutcome} (record { answer = refused_with (number_of why); output = output }) (imported sessions file output)
+import_stopped sessions file output why e =
+    import_refused sessions file output (found_in file) refl (number_of why)
+    (sym e ∙ stopped (length sessions) (found_in file) (length output) (λ z. number_some why (sym e ∙ z))) (number_some why)
 
 -- The capture stands in the output once all entries are laid and their number is written.
 module _ (sessions file : List ℕ) {count : ℕ} {output : List ℕ} (r : RoomFor (all_entries sessions file) count output none_yet) where

@@ -1,5 +1,5 @@
 -- What becomes of a record: each way out of the functions that judge it, and that the data of a record that is taken lies in it.
-use Prim.Native.Nat.{ℕ, zero, suc, ◌+◌, ◌-◌, ◌≤◌, ◌<◌}
+use Prim.Native.Nat.{ℕ, zero, suc, ◌+◌, ◌-◌, ◌≤◌}
 use mathlib.Core.Path.{◌≡◌, refl, sym, ap, ◌∙◌}
 use mathlib.Core.Bool.{Bool, true, false, not, cond, ◌&&◌, ◌||◌}
 use mathlib.Core.List.{List, [], ◌∷◌}
@@ -7,18 +7,18 @@ use mathlib.Core.Logic.{⊎_elim}
 use native.Mathlib.Omega.{arith}
 use lib.Dec.{eqb, ltb}
 use lib.ListN.{length}
-use borrow.Author.Tests.{lt-ltb, le-ltb, eq-eqb, ne_eqb, ltb-false}
+use borrow.Author.Tests.{eq-eqb, ne_eqb, ltb-false}
 use Rattle.refusal.specs.Refusal.{◌when◌, first}
 use Rattle.refusal.proofs.Laws.{none-applies, cond-true, cond-false, and-rest}
 use Rattle.octets.proofs.Counts.{true-or-false, or-false-left, or-false-right}
 use Rattle.capture.specs.File.{data_entry, data_over_udp}
-use Rattle.pcap.specs.declared.judge.Judged.{Judged}
-use Rattle.pcap.specs.Ethernet.{ethernet_length, ipv4_type, ether_type}
-use Rattle.pcap.specs.Ipv4.{ipv4_at, ipv4_length, l2tp_protocol, udp_protocol, version, header_length, total_length}
+use Rattle.pcap.specs.Ipv4.{ipv4_at, ipv4_length, l2tp_protocol, udp_protocol, header_length, total_length}
 use Rattle.pcap.specs.Ipv4.{fragment_bits, protocol, payload_at, payload_length}
 use Rattle.pcap.specs.Udp.{udp_length, l2tp_port, target_port, length_said}
 use Rattle.pcap.specs.Judge.{not_ipv4, bad_ipv4_lengths, is_fragment, is_udp, bad_udp_lengths, is_l2tp, skips, skip_of, data_at, data_length}
-use Rattle.pcap.specs.Judge.{judged_by, judged}
+use Rattle.pcap.specs.declared.judge.Cause.{Cause}
+use Rattle.pcap.specs.declared.judge.Cause.TheVariants as cause
+use Rattle.pcap.specs.Judge.{Judged, number_of, judged_by, judged}
 use Rattle.pcap.specs.Inside.Importing.{Uncut}
 
 abbrev skip : ℕ → Judged
@@ -28,41 +28,7 @@ abbrev found : ℕ → ℕ → ℕ → Judged
 found kind at size = record { cause = 0; kind = kind; at = at; length = size }
 
 module _ (r : List ℕ) where
-  -- Whether it is no IPv4 packet.
-  pub no_ethernet : length r < ethernet_length → true ≡ not_ipv4 r
-  no_ethernet h = rw (lt-ltb (length r) ethernet_length h) refl
-
-  module _ (headed : ethernet_length ≤ length r) (said : ℕ) (e : said ≡ ether_type r) where
-    pub another_type : (said ≡ ipv4_type → ⊥) → true ≡ not_ipv4 r
-    another_type h =
-        rw (le-ltb (length r) ethernet_length headed, ne_eqb (ether_type r) ipv4_type (λ z. h (e ∙ z))) refl
-
-    module _ (same : said ≡ ipv4_type) where
-      pub no_version : length r ≤ ethernet_length → false ≡ not_ipv4 r
-      no_version h =
-          rw (
-            le-ltb (length r) ethernet_length headed,
-            eq-eqb (ether_type r) ipv4_type (sym e ∙ same),
-            le-ltb ipv4_at (length r) h,
-          ) refl
-
-      pub by_version : ethernet_length < length r → not (eqb (version r) 4) ≡ not_ipv4 r
-      by_version h =
-          rw (
-            le-ltb (length r) ethernet_length headed,
-            eq-eqb (ether_type r) ipv4_type (sym e ∙ same),
-            lt-ltb ipv4_at (length r) h,
-          ) refl
-
-  -- Whether its lengths are bad.
-  pub no_header : length r < ipv4_at + ipv4_length → true ≡ bad_ipv4_lengths r
-  no_header h = rw (lt-ltb (length r) (ipv4_at + ipv4_length) h) refl
-
-  pub by_lengths : (header total : ℕ) → ipv4_at + ipv4_length ≤ length r → header ≡ header_length r → total ≡ total_length r →
-      (ltb header ipv4_length || ltb total header || ltb (length r) (ipv4_at + total)) ≡ bad_ipv4_lengths r
-  by_lengths header total h eh et = rw (le-ltb (length r) (ipv4_at + ipv4_length) h, eh, et) refl
-
-  -- .. and what is so where they are not
+  -- What is so where its lengths are not bad.
   pub record Fitting : Type 0 where
     pub headed : ipv4_at + ipv4_length ≤ length r
     pub header-inside : header_length r ≤ total_length r
@@ -81,13 +47,6 @@ module _ (r : List ℕ) where
         header-inside = ltb-false (total_length r) (header_length r) (or-false-right (short || small) ends three);
         all_inside = ltb-false (length r) (ipv4_at + total_length r) (or-false-right (short || small || ends) past good);
       }
-
-  pub no_udp : (room : ℕ) → room ≡ payload_length r → room < udp_length → true ≡ bad_udp_lengths r
-  no_udp room e h = rw (lt-ltb (payload_length r) udp_length (omega (arith, e, h))) refl
-
-  pub by_udp-lengths : (room said : ℕ) → room ≡ payload_length r → udp_length ≤ room → said ≡ length_said r →
-      (ltb said udp_length || ltb room said) ≡ bad_udp_lengths r
-  by_udp-lengths room said e h es = rw (le-ltb (payload_length r) udp_length (omega (arith, e, h)), e, es) refl
 
   pub record UdpFitting : Type 0 where
     pub room-enough : udp_length ≤ payload_length r
@@ -158,9 +117,6 @@ module _ (r : List ℕ) where
         by_cause 1 (by_second (not_ipv4 r) (bad_ipv4_lengths r) (is_fragment r) udp other (sym e ∙ not-foreign) (sym e' ∙ h))
 
     module _ (fits : b' ≡ false) where
-      pub fits-well : Fitting r
-      fits-well = fitting r (sym e' ∙ fits)
-
       module _ (field : ℕ) (ef : field ≡ fragment_bits r) where
         pub fragment_skipped : (field ≡ 0 → ⊥) → skip 3 ≡ judged r
         unfolding skip_of
@@ -168,20 +124,6 @@ module _ (r : List ℕ) where
             let cut : is_fragment r ≡ true = rw (ne_eqb (fragment_bits r) 0 (λ z. h (ef ∙ z))) refl in
             by_cause 2
             (by_third (not_ipv4 r) (bad_ipv4_lengths r) (is_fragment r) udp other (sym e ∙ not-foreign) (sym e' ∙ fits) cut)
-
-        pub whole-packet : (header total : ℕ) → field ≡ 0 → header ≡ header_length r → total ≡ total_length r →
-            Uncut r (ipv4_at + header) (total - header)
-        whole-packet header total z eh et =
-            let f = fits-well in
-            record {
-              is_ipv4 = sym e ∙ not-foreign;
-              lengths-good = sym e' ∙ fits;
-              not-cut = rw (eq-eqb (fragment_bits r) 0 (sym ef ∙ z)) refl;
-              headed = f.headed;
-              its_place = rw eh refl;
-              its_length = rw (eh, et) refl;
-              inside = omega (arith, f.header-inside, f.all_inside, eh, et);
-            }
 
   -- Judged by the protocol.
   module _ {at room : ℕ} (u : Uncut r at room) where
@@ -223,10 +165,6 @@ module _ (r : List ℕ) where
           (by_fourth (not_ipv4 r) (bad_ipv4_lengths r) (is_fragment r) udp other u.is_ipv4 u.lengths-good u.not-cut (by_udp ∙ h))
 
       module _ (good : b ≡ false) where
-        -- the header lies in the packet, and so does what it says
-        pub udp-fits : UdpFitting r
-        udp-fits = udp_fitting r (sym e ∙ good)
-
         module _ (port : ℕ) (ep : port ≡ target_port r) where
           pub port_skipped : (port ≡ l2tp_port → ⊥) → skip 4 ≡ judged r
           unfolding skip_of
@@ -271,6 +209,13 @@ judged-inside r z =
     ) inside)
     (true-or-false (is_udp r))
 
+-- No cause has the number 0, which a record that is taken is told by.
+pub cause_some : (c : Cause) → number_of c ≡ 0 → ⊥
+cause_some cause.NotIpv4 e = omega (arith, e)
+cause_some cause.BadLengths e = omega (arith, e)
+cause_some cause.Fragment e = omega (arith, e)
+cause_some cause.Other e = omega (arith, e)
+
 -- What the answer says: the cause, which is one of four or none, and of a record that is taken its entry.
 cause_by : (n : ℕ) (r : List ℕ) → (judged_by n r).cause ≡ n
 unfolding judged_by
@@ -279,19 +224,6 @@ cause_by (suc n) r = refl
 
 pub cause_is : (r : List ℕ) (j : Judged) → j ≡ judged r → j.cause ≡ skip_of r
 cause_is r j e = ap (λ (x : Judged). x.cause) e ∙ cause_by (skip_of r) r
-
-at_most : (b : Bool) (n m : ℕ) → n ≤ 4 → m ≤ 4 → cond b n m ≤ 4
-at_most true n m few few' = few
-at_most false n m few few' = few'
-
-pub four_causes : (r : List ℕ) → skip_of r ≤ 4
-unfolding skip_of
-four_causes r =
-    at_most (not_ipv4 r) 1 _ (omega arith)
-    (at_most (bad_ipv4_lengths r) 2 _ (omega arith)
-    (at_most (is_fragment r) 3 _ (omega arith)
-    (at_most (udp r) 2 _ (omega arith)
-    (at_most (other r) 4 0 (omega arith) (omega arith)))))
 
 pub taken_as : (r : List ℕ) (j : Judged) → j ≡ judged r → skip_of r ≡ 0 →
     j ≡ found (cond (is_udp r) data_over_udp data_entry) (data_at r) (data_length r)

@@ -14,9 +14,8 @@ use Rattle.capture.specs.declared.Writer.{Writer}
 use Rattle.capture.specs.File.{head_length, entry_length, id_body, open_psp, Entry, opening, content_of, body_of}
 use Rattle.capture.specs.Write.{added, bodies_from, FitsIn, laid}
 use Rattle.capture.proofs.Writing.{laid_more}
-use Rattle.pcap.specs.declared.judge.Judged.{Judged}
 use Rattle.pcap.specs.File.{is_little, whole, after, bytes_at, records_from, first_place, records}
-use Rattle.pcap.specs.Judge.{skip_of, entry_of, judged}
+use Rattle.pcap.specs.Judge.{skip_of, entry_of, Judged, judged}
 use Rattle.pcap.specs.Import.{entries_of}
 use Rattle.pcap.specs.Inside.Importing.{RoomFor, LaysOn}
 use Rattle.pcap.proofs.Walk.{records_step, records_end}

@@ -15,3 +15,4 @@ pub mod Laying
 pub mod Importing
 pub mod Measuring
 pub mod Exporting
+pub mod Answering

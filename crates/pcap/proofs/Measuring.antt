@@ -5,33 +5,18 @@ use mathlib.Core.Bool.{Bool, true, false, cond, ◌||◌}
 use mathlib.Core.List.{List}
 use native.Mathlib.Omega.{arith}
 use lib.Dec.{eqb}
-use borrow.Author.Tests.{ne_eqb}
 use Rattle.octets.specs.Count.{sum_to}
 use Rattle.octets.proofs.Counts.{sum_more}
 use Rattle.capture.specs.File.{head_length, entry_length, open_psp, open_dmpt, closing, data_entry, data_over_udp}
 use Rattle.capture.specs.File.{entry_count, kind_at, body_length, file_refusal}
 use Rattle.capture.proofs.Checking.{is_sound}
-use Rattle.pcap.specs.declared.export.Measured.{Measured}
+use Rattle.pcap.specs.declared.export.Exported.{Exported}
 use Rattle.pcap.specs.File.{file_header}
 use Rattle.pcap.specs.Udp.{udp_length}
 use Rattle.pcap.specs.Inside.Exporting.{front_length, record_length, counted_with, measured_to, Unhurried}
 
-abbrev pub measured : ℕ → ℕ → ℕ → ℕ → Measured
+abbrev pub measured : ℕ → ℕ → ℕ → ℕ → Exported
 measured long packets opens closes = record { length = long; packets = packets; opens = opens; closes = closes }
-
--- The length of a record, by the kind of its entry.
-pub length-over_ip : (kind size : ℕ) → kind ≡ data_entry → front_length + size ≡ record_length kind size
-length-over_ip kind size e = ap (λ (k : ℕ). record_length k size) (sym e)
-
-pub length-over_udp : (kind size : ℕ) → kind ≡ data_over_udp → front_length + udp_length + size ≡ record_length kind size
-length-over_udp kind size e = ap (λ (k : ℕ). record_length k size) (sym e)
-
-pub not_data : (kind : ℕ) → (kind ≡ data_entry → ⊥) → (kind ≡ data_over_udp → ⊥) → (eqb kind data_entry || eqb kind data_over_udp) ≡ false
-not_data kind not-ip not-udp = rw (ne_eqb kind data_entry not-ip, ne_eqb kind data_over_udp not-udp) refl
-
-pub length_none : (kind size : ℕ) → (kind ≡ data_entry → ⊥) → (kind ≡ data_over_udp → ⊥) → 0 ≡ record_length kind size
-length_none kind size not-ip not-udp =
-    ap (λ (b : Bool). cond b (front_length + cond (eqb kind data_over_udp) udp_length 0 + size) 0) (sym (not_data kind not-ip not-udp))
 
 -- An entry adds no more than so much.
 cond_short : (data-entry over_udp_lem : Bool) (size : ℕ) → cond data-entry (front_length + cond over_udp_lem udp_length 0 + size) 0 ≤ 58 + size
@@ -44,7 +29,7 @@ one_most true = omega arith
 one_most false = omega arith
 
 -- The loop: after k turns the first k entries are counted, and no count is large.
-pub record Measuring (file : List ℕ) (m : Measured) (k : ℕ) : Type 0 where
+pub record Measuring (file : List ℕ) (m : Exported) (k : ℕ) : Type 0 where
   pub within : k ≤ entry_count head_length file
   pub so_far : m ≡ measured_to file k
   pub few_bytes : m.length ≤ file_header + 65593 * k
@@ -80,8 +65,8 @@ measured_more file k =
     let closes = sum_more (λ i. cond (eqb (kind i) closing) 1 0) k in
     measured_same (omega (arith, bytes)) (sym packets) (sym opens) (sym closes)
 
-module _ {file : List ℕ} {m : Measured} {k : ℕ} (s : Measuring file m k) where
-  pub measure_turn : {kind size : ℕ} {r : Measured} → k < entry_count head_length file → kind ≡ kind_at head_length entry_length file k →
+module _ {file : List ℕ} {m : Exported} {k : ℕ} (s : Measuring file m k) where
+  pub measure_turn : {kind size : ℕ} {r : Exported} → k < entry_count head_length file → kind ≡ kind_at head_length entry_length file k →
       (size ≡ body_length head_length entry_length file k) × (size ≤ 65535) → r ≡ counted_with m kind size → Measuring file r (k + 1)
   measure_turn {kind} {size} {r} below ek es er =
       let data-entry = eqb kind data_entry || eqb kind data_over_udp in
@@ -89,7 +74,7 @@ module _ {file : List ℕ} {m : Measured} {k : ℕ} (s : Measuring file m k) whe
         within = omega (arith, below);
         so_far =
             er
-            ∙ ap (λ (x : Measured). counted_with x kind size) s.so_far
+            ∙ ap (λ (x : Exported). counted_with x kind size) s.so_far
             ∙ ap (λ (x : ℕ). counted_with (measured_to file k) x size) ek
             ∙ ap (counted_with (measured_to file k) (kind_at head_length entry_length file k)) es.0
             ∙ measured_more file k;
@@ -98,12 +83,12 @@ module _ {file : List ℕ} {m : Measured} {k : ℕ} (s : Measuring file m k) whe
               arith,
               s.few_bytes,
               es.1,
-              ap (λ (x : Measured). x.length) er,
+              ap (λ (x : Exported). x.length) er,
               cond_short data-entry (eqb kind data_over_udp) size,
             );
-        few-packets = omega (arith, s.few-packets, ap (λ (x : Measured). x.packets) er, one_most data-entry);
-        few-opens = omega (arith, s.few-opens, ap (λ (x : Measured). x.opens) er, one_most (eqb kind open_psp || eqb kind open_dmpt));
-        few-closes = omega (arith, s.few-closes, ap (λ (x : Measured). x.closes) er, one_most (eqb kind closing));
+        few-packets = omega (arith, s.few-packets, ap (λ (x : Exported). x.packets) er, one_most data-entry);
+        few-opens = omega (arith, s.few-opens, ap (λ (x : Exported). x.opens) er, one_most (eqb kind open_psp || eqb kind open_dmpt));
+        few-closes = omega (arith, s.few-closes, ap (λ (x : Exported). x.closes) er, one_most (eqb kind closing));
       }
 
   pub measure_small : file_refusal file ≡ 0 → Unhurried m

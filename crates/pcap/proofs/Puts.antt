@@ -1,23 +1,23 @@
 -- The headers of an export and the records, written piece by piece: each is one put.
 use Prim.Native.Nat.{ℕ, ◌+◌, ◌-◌, ◌≤◌}
 use mathlib.Core.Path.{◌≡◌, refl, sym, ap, ◌∙◌}
-use mathlib.Core.Bool.{Bool, true, cond}
+use mathlib.Core.Bool.{Bool, true, false, cond, ◌||◌}
+use lib.Dec.{eqb}
 use mathlib.Core.List.{List, [], ◌∷◌, ◌++◌, append_assoc}
 use native.Mathlib.Omega.{arith}
 use lib.ListN.{length, take, drop, length-append}
 use Rattle.octets.specs.Bytes.{two, four}
 use Rattle.octets.specs.Stretch.{part, put}
 use Rattle.octets.proofs.Stretches.{part_all, sliced_part, part-put, put-nil, put_more, put-inside}
-use Rattle.capture.specs.File.{data_entry, data_over_udp, Entry}
+use Rattle.capture.specs.File.{data_entry, data_over_udp}
 use Rattle.pcap.specs.declared.Addresses.{Addresses}
 use Rattle.pcap.specs.File.{record_header, record_header_in, record_in}
 use Rattle.pcap.specs.Ethernet.{ethernet_length, ipv4_type, ethernet_header}
 use Rattle.pcap.specs.Ipv4.{ipv4_length, l2tp_protocol, udp_protocol, time_to_live, checksum, ipv4_with, ipv4_header}
 use Rattle.pcap.specs.Udp.{udp_length, udp_header}
 use Rattle.pcap.specs.Export.{packet_of}
-use Rattle.pcap.specs.Inside.Exporting.{front_length, front_of, record_of}
+use Rattle.pcap.specs.Inside.Exporting.{front_length, front_of, record_of, record_length}
 use Rattle.pcap.proofs.Packets.{length-ethernet}
-use Rattle.pcap.proofs.Measuring.{not_data}
 
 -- all of a list is copied
 part-whole : (l : List ℕ) (n : ℕ) → length l ≡ n → part l 0 n ≡ l
@@ -140,8 +140,11 @@ module _ (by : Addresses) (sender : length by.sender ≡ 6) (receiver : length b
       ∙ ap (put d at) (sym (record_over_udp body))
 
 -- an entry that is no data entry has none
-pub record_none : (d : List ℕ) (at : ℕ) (by : Addresses) (kind : ℕ) (body : List ℕ) → (kind ≡ data_entry → ⊥) → (kind ≡ data_over_udp → ⊥) →
+pub record_none : (d : List ℕ) (at : ℕ) (by : Addresses) (kind : ℕ) (body : List ℕ) → record_length kind (length body) ≡ 0 →
     d ≡ put d at (record_of by (record { kind = kind; body = body }))
-record_none d at by kind body not-ip not-udp =
-    let e : Entry = record { kind = kind; body = body } in
-    sym (ap (λ (b : Bool). put d at (cond b (record_in true (packet_of by e)) [])) (not_data kind not-ip not-udp) ∙ put-nil d at)
+record_none d at by kind body none = by-test (eqb kind data_entry || eqb kind data_over_udp) none
+  where
+    by-test : (t : Bool) → cond t (front_length + cond (eqb kind data_over_udp) udp_length 0 + length body) 0 ≡ 0 →
+        d ≡ put d at (cond t (record_in true (packet_of by (record { kind = kind; body = body }))) [])
+    by-test true e = absurd (omega (arith, e))
+    by-test false e = sym (put-nil d at)

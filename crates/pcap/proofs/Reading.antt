@@ -8,28 +8,19 @@ use native.Mathlib.Omega.{arith}
 use lib.Dec.{eqb, ltb, leb}
 use lib.ListN.{length}
 use borrow.Author.Tests.{lt-ltb, le-ltb, ltb-false, leb-true, not-true}
-use Rattle.refusal.specs.Refusal.{first}
 use Rattle.refusal.proofs.Laws.{and_left, and_right, cond-true, cond-false}
 use Rattle.octets.specs.Order.{le32_at}
 use Rattle.octets.specs.Stretch.{part}
 use Rattle.octets.proofs.Counts.{or-false-left}
 use Rattle.octets.proofs.Stretches.{length_part}
 use Rattle.pcap.specs.File.{file_header, record_header, magic, is_little, wrong_fields, bad_header, first_place}
-use Rattle.pcap.specs.File.{left, kept, whole, start, size, after, bytes_at, stops}
+use Rattle.pcap.specs.File.{left, kept, whole, start, size, after, bytes_at}
 
 -- The header.
 module _ (file : List ℕ) where
-  pub little_short : length file < file_header → is_little file ≡ false
-  unfolding is_little
-  little_short h = rw (lt-ltb (length file) file_header h) refl
-
   pub little_long : file_header ≤ length file → is_little file ≡ eqb (le32_at file 0) magic
   unfolding is_little
   little_long h = rw (le-ltb (length file) file_header h) refl
-
-  pub header-short : length file < file_header → bad_header file ≡ true
-  unfolding bad_header
-  header-short h = rw (lt-ltb (length file) file_header h) refl
 
   pub header_long : file_header ≤ length file → bad_header file ≡ wrong_fields (is_little file) file
   unfolding bad_header
@@ -125,18 +116,3 @@ module _ (file : List ℕ) (at : ℕ) (little : Bool) where
       part file begin long ≡ bytes_at file at little
   unfolding bytes_at
   bytes_from b l = (λ i. part file (b i) (l i))
-
-  -- why a walk stops here
-  pub stops-header : bad_header file ≡ true → first (stops file at little) ≡ 61
-  stops-header h = rw h refl
-
-  module _ (good : bad_header file ≡ false) where
-    pub stops_end : length file ≤ at → first (stops file at little) ≡ 0
-    stops_end e = rw (good, le-ltb at (length file) e) refl
-
-    module _ (before-end : at < length file) where
-      pub stops-whole : whole file at little ≡ true → first (stops file at little) ≡ 0
-      stops-whole w = rw (good, lt-ltb at (length file) before-end, w) refl
-
-      pub stops-cut : whole file at little ≡ false → first (stops file at little) ≡ 62
-      stops-cut w = rw (good, lt-ltb at (length file) before-end, w) refl

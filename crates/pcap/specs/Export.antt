@@ -1,7 +1,9 @@
 -- The export (document 02, W5): the data entries of a capture become a pcap file, each in a packet of its own with Ethernet, IPv4 and, for
 -- what came over UDP, UDP headers. The file is little-endian, with snap length 65,535 and time 0. Opens and closes are not exported but
 -- counted. Refusals: 41 to 45 of the capture, then 64, the output is shorter than the file. An export that is refused changes nothing.
-use Rattle.std.specs.Prelude.{ℕ, zero, suc, ◌+◌, ◌≡◌, Bool, true, cond, ◌||◌, List, [], ◌∷◌, ◌++◌, map, eqb, ltb, length}
+use Rattle.std.specs.Prelude.{ℕ, zero, suc, ◌+◌, ◌≡◌, Bool, true, cond, ◌||◌, List, [], ◌∷◌, ◌++◌, map, eqb, ltb, length, Result, Ok, Err}
+use Rattle.refusal.specs.declared.Refusal.{Refusal as Why}
+use Rattle.refusal.specs.Number.{number_of}
 use Rattle.refusal.specs.Refusal.{Refusal, ◌when◌, first}
 use Rattle.octets.specs.Stretch.{put}
 use Rattle.octets.specs.Those.{those}
@@ -45,9 +47,22 @@ export_refusals by file room =
     file_refusals head_length entry_length file
     ++ (64 when ltb room (length (export_of by (entries file))) ∷ [])
 
+-- What an export answers, in numbers: that of its refusal, or 0, and its counts, which are 0 where it is refused. And what a call's answer
+-- tells of it.
+pub record Answer : Type 0 where
+  pub code : ℕ
+  pub length : ℕ
+  pub packets : ℕ
+  pub opens : ℕ
+  pub closes : ℕ
+
+abbrev pub told : Result Exported Why → Answer
+told (Ok e) = record { code = 0; length = e.length; packets = e.packets; opens = e.opens; closes = e.closes }
+told (Err why) = record { code = number_of why; length = 0; packets = 0; opens = 0; closes = 0 }
+
 -- everything that a call answers and leaves
 pub record ExportOutcome : Type 0 where
-  pub answer : Exported
+  pub answer : Answer
   pub output : List ℕ
 
 unfoldable pub exported_by : ℕ → Addresses → List ℕ → List ℕ → ExportOutcome

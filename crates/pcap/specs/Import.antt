@@ -1,7 +1,9 @@
 -- The import (document 02, W5): a pcap file becomes a capture. First come entries that open the sessions which the caller names, as PSP and
 -- as named, then a data entry for each record that is not skipped, in the file's order. Refusals: 61, the file's header; 62, a record runs
 -- past the end; 63, the capture would break 41 or 43; 64, the output is shorter than the capture. One that is refused changes nothing.
-use Rattle.std.specs.Prelude.{ℕ, zero, suc, ◌+◌, ◌≤◌, ◌≡◌, Bool, ◌||◌, List, [], ◌∷◌, ◌++◌, map, eqb, ltb, length}
+use Rattle.std.specs.Prelude.{ℕ, zero, suc, ◌+◌, ◌≤◌, ◌≡◌, Bool, ◌||◌, List, [], ◌∷◌, ◌++◌, map, eqb, ltb, length, Result, Ok, Err}
+use Rattle.refusal.specs.declared.Refusal.{Refusal as Why}
+use Rattle.refusal.specs.Number.{number_of}
 use Rattle.refusal.specs.Refusal.{Refusal, ◌when◌, first}
 use Rattle.octets.specs.Stretch.{part, put}
 use Rattle.octets.specs.Those.{those}
@@ -39,9 +41,33 @@ import_refusals sessions file room =
     ∷ 64 when ltb room (length (file_of es))
     ∷ []
 
+-- What an import answers, in numbers: that of its refusal, or 0, and its counts, which are 0 where it is refused. And what a call's answer
+-- tells of it.
+pub record Answer : Type 0 where
+  pub code : ℕ
+  pub length : ℕ
+  pub packets : ℕ
+  pub foreign : ℕ
+  pub misfits : ℕ
+  pub fragments : ℕ
+  pub others : ℕ
+
+abbrev pub told : Result Imported Why → Answer
+told (Ok i) =
+    record {
+      code = 0;
+      length = i.length;
+      packets = i.packets;
+      foreign = i.foreign;
+      misfits = i.misfits;
+      fragments = i.fragments;
+      others = i.others;
+    }
+told (Err why) = record { code = number_of why; length = 0; packets = 0; foreign = 0; misfits = 0; fragments = 0; others = 0 }
+
 -- everything that a call answers and leaves
 pub record ImportOutcome : Type 0 where
-  pub answer : Imported
+  pub answer : Answer
   pub output : List ℕ
 
 unfoldable pub imported_by : ℕ → List ℕ → List ℕ → List ℕ → ImportOutcome

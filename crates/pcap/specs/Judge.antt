@@ -2,11 +2,14 @@
 -- fragment, another protocol or port. A packet ends where its IP length says, and over UDP where the UDP length says, not where the record
 -- does: Ethernet pads short ones. UDP lengths are judged of whole packets alone, since a later fragment has no UDP header. Checksums, D and
 -- the source port are read by nobody.
-use Rattle.std.specs.Prelude.{ℕ, zero, suc, ◌+◌, ◌-◌, Bool, cond, not, ◌&&◌, ◌||◌, List, [], ◌∷◌, eqb, ltb, length}
+use Rattle.std.specs.Prelude.{ℕ, zero, suc, ◌+◌, ◌-◌, Bool, cond, not, ◌&&◌, ◌||◌, List, [], ◌∷◌, eqb, ltb, length, Result, Ok, Err}
 use Rattle.refusal.specs.Refusal.{Refusal, ◌when◌, first}
 use Rattle.octets.specs.Stretch.{part}
 use Rattle.capture.specs.File.{data_entry, data_over_udp, Entry}
-use Rattle.pcap.specs.declared.judge.Judged.{Judged}
+use Rattle.capture.specs.Kind as entry
+use Rattle.pcap.specs.declared.judge.Cause.{Cause}
+use Rattle.pcap.specs.declared.judge.Cause.TheVariants as cause
+use Rattle.pcap.specs.declared.judge.Data.{Data}
 use Rattle.pcap.specs.Ethernet.{ethernet_length, ipv4_type, ether_type}
 use Rattle.pcap.specs.Ipv4.{ipv4_at, ipv4_length, l2tp_protocol, udp_protocol, version, header_length, total_length, fragment_bits, protocol}
 use Rattle.pcap.specs.Ipv4.{payload_at, payload_length}
@@ -68,7 +71,23 @@ data_length r = cond (is_udp r) (length_said r - udp_length) (payload_length r)
 unfoldable pub entry_of : List ℕ → Entry
 entry_of r = record { kind = cond (is_udp r) data_over_udp data_entry; body = part r (data_at r) (data_length r) }
 
--- What judging a record answers: the cause, or 0 and the entry by its kind and place.
+-- What judging a record comes to: the number of the cause; or 0, and the entry by its kind and place. And what an answer tells of it.
+pub record Judged : Type 0 where
+  pub cause : ℕ
+  pub kind : ℕ
+  pub at : ℕ
+  pub length : ℕ
+
+abbrev pub number_of : Cause → ℕ
+number_of cause.NotIpv4 = 1
+number_of cause.BadLengths = 2
+number_of cause.Fragment = 3
+number_of cause.Other = 4
+
+abbrev pub told : Result Data Cause → Judged
+told (Ok d) = record { cause = 0; kind = entry.number_of d.kind; at = d.at; length = d.length }
+told (Err c) = record { cause = number_of c; kind = 0; at = 0; length = 0 }
+
 unfoldable pub judged_by : ℕ → List ℕ → Judged
 judged_by zero r = record { cause = 0; kind = cond (is_udp r) data_over_udp data_entry; at = data_at r; length = data_length r }
 judged_by (suc c) r = record { cause = suc c; kind = 0; at = 0; length = 0 }

@@ -1,41 +1,32 @@
 // A pcap file made of a capture. The entries are walked twice: first the file is measured, so that nothing is written before it is known
 // that nothing is refused; then it is written.
 
-ghost use Rattle.std.specs.Prelude.{◌≡◌, true, cond, ◌+◌, ◌≤◌, length};
+ghost use Rattle.std.specs.Prelude.{◌≡◌, true, ◌+◌, ◌≤◌, length};
 ghost use Rattle.octets.specs.Stretch.{put};
 ghost use Rattle.capture.specs.File.{head_length, data_entry, data_over_udp, entry_count, file_refusal, entries};
 ghost use Rattle.pcap.specs.File.{record_in};
 ghost use Rattle.pcap.specs.Udp.{udp_length};
-ghost use Rattle.pcap.specs.Export.{packet_of, export_of, PermitsExport};
+ghost use Rattle.pcap.specs.Export.{packet_of, export_of, told, PermitsExport};
 ghost use Rattle.pcap.specs.Inside.Exporting.{front_length, record_of, record_length, counted_with, measured_to, Unhurried};
 
 use crate::{
     Addresses, ETHERNET_LENGTH, IPV4_LENGTH, L2TP_PROTOCOL, UDP_LENGTH, UDP_PROTOCOL, headers,
     records,
 };
-use capture::reader;
+use capture::{Kind, reader};
+use refusal::Refusal;
 
 // How long the headers of a record are, up to what its IPv4 packet carries.
 const FRONT: usize = records::RECORD_HEADER + ETHERNET_LENGTH + IPV4_LENGTH;
 
-// What an export answers: the number of its refusal, or 0; how long the file is, how many packets it has, and how many opens and closes
-// were left out.
+// What an export answers, and the entries of a capture come to: how long the file is, how many packets it has, and how many opens and
+// closes were left out.
 #[derive(Clone, Copy)]
 pub struct Exported {
-    pub code: u32,
     pub length: usize,
     pub packets: usize,
     pub opens: usize,
     pub closes: usize,
-}
-
-// What the entries of a capture come to: how long the file is, and how many of each kind there are.
-#[derive(Clone, Copy)]
-struct Measured {
-    length: usize,
-    packets: usize,
-    opens: usize,
-    closes: usize,
 }
 
 // How long the record of an entry is: 0 for one that has none.
@@ -43,60 +34,55 @@ fn record_length(kind: u8, size: usize) -> usize
     requires { size ≤ 65535 }
     ensures { (result ≡ record_length kind size) × (result ≤ front_length + udp_length + size) }
 {
-    if kind == capture::DATA {
-        return FRONT + size;
+    match Kind::try_from(kind) {
+        Ok(Kind::Data) => FRONT + size,
+        Ok(Kind::DataOverUdp) => FRONT + UDP_LENGTH + size,
+        _ => 0,
     }
-    if kind == capture::DATA_OVER_UDP {
-        return FRONT + UDP_LENGTH + size;
-    }
-    0
-}
-
-// What counts one entry: 1 where it is of the kind that is counted.
-fn one_if(counts: bool) -> usize
-    ensures { (result ≡ cond counts 1 0) × (result ≤ 1) }
-{
-    if counts {
-        return 1;
-    }
-    0
 }
 
 // A measure, with one more entry: its kind, and the length of its body.
-fn count_entry(measured: Measured, kind: u8, size: usize) -> Measured
+fn count_entry(measured: Exported, kind: u8, size: usize) -> Exported
     requires { Unhurried measured × (size ≤ 65535) }
     ensures { result ≡ counted_with measured kind size }
 {
     let length = measured.length + record_length(kind, size);
-    let packets = one_if((kind == capture::DATA) | (kind == capture::DATA_OVER_UDP));
-    let opens = one_if((kind == capture::OPEN_PSP) | (kind == capture::OPEN_DMPT));
-    let closes = one_if(kind == capture::CLOSE);
-    Measured {
-        length,
-        packets: measured.packets + packets,
-        opens: measured.opens + opens,
-        closes: measured.closes + closes,
+    match Kind::try_from(kind) {
+        Ok(Kind::Data | Kind::DataOverUdp) => Exported {
+            length,
+            packets: measured.packets + 1,
+            ..measured
+        },
+        Ok(Kind::OpenPsp | Kind::OpenDmpt) => Exported {
+            length,
+            opens: measured.opens + 1,
+            ..measured
+        },
+        Ok(Kind::Close) => Exported {
+            length,
+            closes: measured.closes + 1,
+            ..measured
+        },
+        _ => Exported { length, ..measured },
     }
 }
 
 // Measures the file of a sound capture.
-fn measure(file: &[u8]) -> Measured
+fn measure(file: &[u8]) -> Exported
     requires { file_refusal file.now ≡ 0 }
     ensures { result ≡ measured_to file.now (entry_count head_length file.now) }
 {
     let count = reader::entry_count(file);
-    let mut measured = Measured {
+    let mut measured = Exported {
         length: records::FILE_HEADER,
         packets: 0,
         opens: 0,
         closes: 0,
     };
-    let mut k: usize = 0;
-    while k < count {
+    for k in 0..count {
         let kind = reader::kind_at(file, k);
         let size = reader::length_at(file, k);
         measured = count_entry(measured, kind, size);
-        k += 1;
     }
     measured
 }
@@ -137,13 +123,11 @@ fn write_entry(addresses: Addresses, kind: u8, body: &[u8], output: &mut [u8], a
         (record_of addresses (record { kind = kind; body = body.now })) }
     ensures value { result ≡ at + record_length kind (length body.now) }
 {
-    if kind == capture::DATA {
-        return write_over_ip(addresses, body, output, at);
+    match Kind::try_from(kind) {
+        Ok(Kind::Data) => write_over_ip(addresses, body, output, at),
+        Ok(Kind::DataOverUdp) => write_over_udp(addresses, body, output, at),
+        _ => at,
     }
-    if kind == capture::DATA_OVER_UDP {
-        return write_over_udp(addresses, body, output, at);
-    }
-    at
 }
 
 // Writes the file of a sound capture.
@@ -155,47 +139,24 @@ fn write_file(addresses: Addresses, file: &[u8], output: &mut [u8])
     headers::write_file_header(output);
     let mut at = records::FILE_HEADER;
     let mut start = capture::HEAD_LENGTH + capture::ENTRY_LENGTH * count;
-    let mut k: usize = 0;
-    while k < count {
+    for k in 0..count {
         let kind = reader::kind_at(file, k);
         let body = reader::body_at(file, k, start);
         at = write_entry(addresses, kind, body, output, at);
         start += body.len();
-        k += 1;
-    }
-}
-
-fn refuse(code: u32) -> Exported
-    ensures { result ≡ record { code = code; length = 0; packets = 0; opens = 0; closes = 0 } }
-{
-    Exported {
-        code,
-        length: 0,
-        packets: 0,
-        opens: 0,
-        closes: 0,
     }
 }
 
 // Writes the data entries of a capture to the output as a pcap file.
-pub fn export(addresses: Addresses, file: &[u8], output: &mut [u8]) -> Exported
+pub fn export(addresses: Addresses, file: &[u8], output: &mut [u8]) -> Result<Exported, Refusal>
     ensures { PermitsExport addresses file.now output.old
-        (record { answer = result; output = output.new }) }
+        (record { answer = told result; output = output.new }) }
 {
-    let code = reader::check(file);
-    if code != refusal::NONE {
-        return refuse(code);
-    }
+    reader::check(file)?;
     let measured = measure(file);
     if output.len() < measured.length {
-        return refuse(refusal::PCAP_OUTPUT_TOO_SMALL);
+        return Err(Refusal::PcapOutputTooSmall);
     }
     write_file(addresses, file, output);
-    Exported {
-        code: refusal::NONE,
-        length: measured.length,
-        packets: measured.packets,
-        opens: measured.opens,
-        closes: measured.closes,
-    }
+    Ok(measured)
 }

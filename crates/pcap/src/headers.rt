@@ -74,10 +74,8 @@ fn checksum(header: &[u8]) -> u16
     ensures { result ≡ checksumOf header.now }
 {
     let mut sum: usize = 0;
-    let mut i: usize = 0;
-    while i < IPV4_LENGTH / 2 {
-        sum += octets::wide_u16(octets::read_u16(header, 2 * i));
-        i += 1;
+    for i in 0..IPV4_LENGTH / 2 {
+        sum += usize::from(octets::read_u16(header, 2 * i));
     }
     (65535 - fold(fold(sum))) as u16
 }

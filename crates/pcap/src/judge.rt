@@ -1,23 +1,32 @@
 // What becomes of a record: a data entry, or it is skipped by the first cause that applies.
 ghost use Rattle.std.specs.Prelude.{◌≡◌, ◌+◌, ◌≤◌, length};
 ghost use Rattle.pcap.specs.Ipv4.{ipv4_at, ipv4_length, udp_protocol, header_length, total_length, protocol};
-ghost use Rattle.pcap.specs.Judge.{not_ipv4, bad_ipv4_lengths, bad_udp_lengths, judged};
+ghost use Rattle.pcap.specs.Judge.{not_ipv4, bad_ipv4_lengths, bad_udp_lengths, told, judged};
 ghost use Rattle.pcap.specs.Inside.Importing.{Uncut};
 
 use crate::{
     ETHERNET_LENGTH, IPV4_LENGTH, IPV4_TYPE, L2TP_PORT, L2TP_PROTOCOL, UDP_LENGTH, UDP_PROTOCOL,
 };
+use capture::Kind;
 
-// The causes.
-pub const TAKEN: u32 = 0;
+// Why a record is skipped, in the order in which the causes are tried.
+#[derive(Clone, Copy, PartialEq, Eq)]
+pub enum Cause {
+    NotIpv4,
+    BadLengths,
+    Fragment,
 
-pub const NOT_IPV4: u32 = 1;
+    // Of another protocol or to another port.
+    Other,
+}
 
-pub const BAD_LENGTHS: u32 = 2;
-
-pub const FRAGMENT: u32 = 3;
-
-pub const OTHER: u32 = 4;
+// The data of a record that is not skipped: the kind of its entry, and where in the record it is.
+#[derive(Clone, Copy)]
+pub struct Data {
+    pub kind: Kind,
+    pub at: usize,
+    pub length: usize,
+}
 
 // Where a record has what is looked at.
 const TYPE_AT: usize = 12;
@@ -35,26 +44,6 @@ const FRAGMENT_BITS: u16 = 16384;
 const PORT_AT: usize = 2;
 
 const LENGTH_AT: usize = 4;
-
-// A record that is skipped has its cause; another one has cause 0, the kind of its entry, and where in the record its data is.
-#[derive(Clone, Copy)]
-pub struct Judged {
-    pub cause: u32,
-    pub kind: u8,
-    pub at: usize,
-    pub length: usize,
-}
-
-fn skip(cause: u32) -> Judged
-    ensures { result ≡ record { cause = cause; kind = 0; at = 0; length = 0 } }
-{
-    Judged {
-        cause,
-        kind: 0,
-        at: 0,
-        length: 0,
-    }
-}
 
 // Whether a record is no IPv4 packet, by its type, or by its version where it is long enough to say one.
 fn not_ipv4(packet: &[u8]) -> bool
@@ -77,7 +66,7 @@ fn header_length(packet: &[u8]) -> usize
     requires { ipv4_at + ipv4_length ≤ length packet.now }
     ensures { (result ≡ header_length packet.now) × (result ≤ 60) }
 {
-    let first = octets::wide_u8(packet[ETHERNET_LENGTH]);
+    let first = usize::from(packet[ETHERNET_LENGTH]);
     4 * (first % 16)
 }
 
@@ -85,7 +74,7 @@ fn total_length(packet: &[u8]) -> usize
     requires { ipv4_at + ipv4_length ≤ length packet.now }
     ensures { (result ≡ total_length packet.now) × (result ≤ 65535) }
 {
-    octets::wide_u16(octets::read_u16(packet, TOTAL_AT))
+    usize::from(octets::read_u16(packet, TOTAL_AT))
 }
 
 // Whether the lengths of a record and of its IPv4 packet do not go together.
@@ -108,22 +97,22 @@ fn bad_udp_lengths(packet: &[u8], at: usize, room: usize) -> bool
     if room < UDP_LENGTH {
         return true;
     }
-    let said = octets::wide_u16(octets::read_u16(packet, at + LENGTH_AT));
+    let said = usize::from(octets::read_u16(packet, at + LENGTH_AT));
     (said < UDP_LENGTH) | (room < said)
 }
 
 // Judges a record.
-pub fn judge(packet: &[u8]) -> Judged
-    ensures { result ≡ judged packet.now }
+pub fn judge(packet: &[u8]) -> Result<Data, Cause>
+    ensures { told result ≡ judged packet.now }
 {
     if not_ipv4(packet) {
-        return skip(NOT_IPV4);
+        return Err(Cause::NotIpv4);
     }
     if bad_ipv4_lengths(packet) {
-        return skip(BAD_LENGTHS);
+        return Err(Cause::BadLengths);
     }
     if octets::read_u16(packet, FRAGMENT_AT) % FRAGMENT_BITS != 0 {
-        return skip(FRAGMENT);
+        return Err(Cause::Fragment);
     }
     let header = header_length(packet);
     let total = total_length(packet);
@@ -133,41 +122,39 @@ pub fn judge(packet: &[u8]) -> Judged
 }
 
 // Judges a whole IPv4 packet by what it carries: `at` is where that begins, and `room` how long it is.
-fn judge_payload(packet: &[u8], at: usize, room: usize) -> Judged
+fn judge_payload(packet: &[u8], at: usize, room: usize) -> Result<Data, Cause>
     requires { Uncut packet.now at room }
-    ensures { result ≡ judged packet.now }
+    ensures { told result ≡ judged packet.now }
 {
     let carried = packet[PROTOCOL_AT];
     if carried == L2TP_PROTOCOL {
-        return Judged {
-            cause: TAKEN,
-            kind: capture::DATA,
+        return Ok(Data {
+            kind: Kind::Data,
             at,
             length: room,
-        };
+        });
     }
     if carried != UDP_PROTOCOL {
-        return skip(OTHER);
+        return Err(Cause::Other);
     }
     judge_udp(packet, at, room)
 }
 
 // Judges a whole UDP packet.
-fn judge_udp(packet: &[u8], at: usize, room: usize) -> Judged
+fn judge_udp(packet: &[u8], at: usize, room: usize) -> Result<Data, Cause>
     requires { Uncut packet.now at room × (protocol packet.now ≡ udp_protocol) }
-    ensures { result ≡ judged packet.now }
+    ensures { told result ≡ judged packet.now }
 {
     if bad_udp_lengths(packet, at, room) {
-        return skip(BAD_LENGTHS);
+        return Err(Cause::BadLengths);
     }
     if octets::read_u16(packet, at + PORT_AT) != L2TP_PORT {
-        return skip(OTHER);
+        return Err(Cause::Other);
     }
-    let said = octets::wide_u16(octets::read_u16(packet, at + LENGTH_AT));
-    Judged {
-        cause: TAKEN,
-        kind: capture::DATA_OVER_UDP,
+    let said = usize::from(octets::read_u16(packet, at + LENGTH_AT));
+    Ok(Data {
+        kind: Kind::DataOverUdp,
         at: at + UDP_LENGTH,
         length: said - UDP_LENGTH,
-    }
+    })
 }

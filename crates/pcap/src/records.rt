@@ -1,9 +1,6 @@
-// The header of a pcap file and the records behind it, on the file and a place in it. A place may be any number, and nothing here asks for
-// anything.
+// The header of a pcap file. Nothing here asks for anything but a file.
 ghost use Rattle.std.specs.Prelude.{◌≡◌, ◌≤◌, length};
-ghost use Rattle.refusal.specs.Refusal.{first};
-ghost use Rattle.pcap.specs.File.{file_header, is_little, wrong_fields, bad_header, left, whole, start, size, after, first_place, stops};
-ghost use Rattle.pcap.specs.Reader.{PermitsBytes};
+ghost use Rattle.pcap.specs.File.{file_header, is_little, wrong_fields, bad_header, first_place};
 
 // How long the file's header is, and a record's.
 pub const FILE_HEADER: usize = 24;
@@ -11,9 +8,6 @@ pub const FILE_HEADER: usize = 24;
 pub const RECORD_HEADER: usize = 16;
 
 pub const MAGIC: u32 = 0xA1B2C3D4;
-
-// Where a record says how many bytes it keeps.
-const KEPT_AT: usize = 8;
 
 // Where the file's header says version and link type, and what it has to say.
 const MAJOR_AT: usize = 4;
@@ -29,6 +23,7 @@ pub const MINOR: u16 = 4;
 pub const ETHERNET: u32 = 1;
 
 // Whether the file's numbers have the least significant byte first.
+#[tactic(auto, unfolding(crate::specs::File::is_little))]
 pub fn is_little(file: &[u8]) -> bool
     ensures { result ≡ is_little file.now }
 {
@@ -38,6 +33,7 @@ pub fn is_little(file: &[u8]) -> bool
     octets::read_little_u32(file, 0) == MAGIC
 }
 
+#[tactic(auto, unfolding(crate::specs::File::wrong_fields))]
 fn wrong_fields(file: &[u8], little: bool) -> bool
     requires { file_header ≤ length file.now }
     ensures { result ≡ wrong_fields little file.now }
@@ -50,6 +46,7 @@ fn wrong_fields(file: &[u8], little: bool) -> bool
 }
 
 // Whether the file's header is another one than that of a classic pcap file with Ethernet packets (61).
+#[tactic(auto, unfolding(crate::specs::File::bad_header))]
 pub fn bad_header(file: &[u8]) -> bool
     ensures { result ≡ bad_header file.now }
 {
@@ -60,6 +57,7 @@ pub fn bad_header(file: &[u8]) -> bool
 }
 
 // The place of the first record; of a file with a bad header, the end.
+#[tactic(auto, unfolding(crate::specs::File::first_place))]
 pub fn first_place(file: &[u8]) -> usize
     ensures { result ≡ first_place file.now }
 {
@@ -67,80 +65,4 @@ pub fn first_place(file: &[u8]) -> usize
         return file.len();
     }
     FILE_HEADER
-}
-
-// How many bytes the file has from a place on.
-fn left_at(file: &[u8], at: usize) -> usize
-    ensures { result ≡ left file.now at }
-{
-    if file.len() < at {
-        return 0;
-    }
-    file.len() - at
-}
-
-// Whether a whole record stands at a place.
-pub fn whole_at(file: &[u8], at: usize, little: bool) -> bool
-    ensures { result ≡ whole file.now at little }
-{
-    let left = left_at(file, at);
-    if left < RECORD_HEADER {
-        return false;
-    }
-    let kept = octets::read_u32_in(file, at + KEPT_AT, little) as usize;
-    kept <= left - RECORD_HEADER
-}
-
-// Where the bytes of the record at a place begin, and how many they are; where no whole record stands there are none, at the file's end.
-fn start_at(file: &[u8], at: usize, little: bool) -> usize
-    ensures { result ≡ start file.now at little }
-{
-    if whole_at(file, at, little) {
-        return at + RECORD_HEADER;
-    }
-    file.len()
-}
-
-fn size_at(file: &[u8], at: usize, little: bool) -> usize
-    ensures { result ≡ size file.now at little }
-{
-    if whole_at(file, at, little) {
-        return octets::read_u32_in(file, at + KEPT_AT, little) as usize;
-    }
-    0
-}
-
-// The bytes of the record at a place: a stretch of the file itself.
-pub fn bytes_at(file: &[u8], at: usize, little: bool) -> &[u8]
-    ensures { PermitsBytes file.entry at little result }
-{
-    let begin = start_at(file, at, little);
-    let end = begin + size_at(file, at, little);
-    &file[begin..end]
-}
-
-// The place of the next record; where no whole record stands, this place.
-pub fn after_at(file: &[u8], at: usize, little: bool) -> usize
-    ensures { result ≡ after file.now at little }
-{
-    if whole_at(file, at, little) {
-        return at + RECORD_HEADER + octets::read_u32_in(file, at + KEPT_AT, little) as usize;
-    }
-    at
-}
-
-// Why a walk stops at a place: 61, 62 where bytes are left there that are no whole record, or 0.
-pub fn stop_at(file: &[u8], at: usize, little: bool) -> u32
-    ensures { result ≡ first (stops file.now at little) }
-{
-    if bad_header(file) {
-        return refusal::PCAP_HEADER_WRONG;
-    }
-    if file.len() <= at {
-        return refusal::NONE;
-    }
-    if whole_at(file, at, little) {
-        return refusal::NONE;
-    }
-    refusal::RECORD_CUT
 }

@@ -10,11 +10,10 @@
 
 mod counts;
 
-ghost use Rattle.std.specs.Prelude.{◌≡◌, length};
-ghost use Rattle.pspexport.specs.Rooms.{output_room};
-
 use pcap::{Addresses, export};
+use std::env::Env;
 use std::io::{Read, Write};
+use tool::address;
 
 // Room for the longest file: 60,000 bytes of a capture, 58 for each of 1,000 entries, and 24, and more.
 const OUTPUT_ROOM: usize = 131072;
@@ -28,22 +27,9 @@ fn usage(stderr: &mut impl Write) {
 }
 
 fn main(rt: HostRuntime) {
-    let sender = tool::mac_argument(&rt, 1);
-    let receiver = tool::mac_argument(&rt, 2);
-    let source = tool::ipv4_argument(&rt, 3);
-    let target = tool::ipv4_argument(&rt, 4);
-    let all_good = sender.good & receiver.good & source.good & target.good;
-    if (tool::argument_count(&rt) != 5) | !all_good {
+    let Some(addresses) = addresses(&rt) else {
         usage(&mut rt.stderr());
         return;
-    }
-    let from = sender.bytes;
-    let to = receiver.bytes;
-    let addresses = Addresses {
-        sender: from,
-        receiver: to,
-        source: source.value as u32,
-        target: target.value as u32,
     };
     run(
         &mut rt.stdin(),
@@ -53,11 +39,21 @@ fn main(rt: HostRuntime) {
     );
 }
 
-// Room for the file. The contract says how long it is, which lending it as a slice needs.
-fn output_room() -> [u8; OUTPUT_ROOM]
-    ensures { output_room ≡ length result }
-{
-    [0; OUTPUT_ROOM]
+// The addresses that the four arguments say, if they say them.
+fn addresses(env: &impl Env) -> Option<Addresses> {
+    if tool::argument_count(env) != 5 {
+        return None;
+    }
+    let sender = tool::argument(env, 1, address::mac)?;
+    let receiver = tool::argument(env, 2, address::mac)?;
+    let source = tool::argument(env, 3, address::ipv4)?;
+    let target = tool::argument(env, 4, address::ipv4)?;
+    Some(Addresses {
+        sender,
+        receiver,
+        source,
+        target,
+    })
 }
 
 // Reads the capture, and writes the file with what was left out, or says why not.
@@ -67,14 +63,16 @@ fn run(
     stderr: &mut impl Write,
     addresses: Addresses,
 ) {
-    let mut file = tool::capture_room();
+    let mut file = [0u8; tool::CAPTURE_ROOM];
     let read = tool::read_input(stdin, &mut file);
-    let mut output = output_room();
-    let exported = export::export(addresses, &file[..read], &mut output);
-    if exported.code != refusal::NONE {
-        tool::refuse(stderr, exported.code);
-        return;
-    }
+    let mut output = [0u8; OUTPUT_ROOM];
+    let exported = match export::export(addresses, &file[..read], &mut output) {
+        Ok(exported) => exported,
+        Err(why) => {
+            tool::refuse(stderr, u32::from(why));
+            return;
+        }
+    };
     let length = exported.length;
     tool::write_output(stdout, &output[..length]);
     let mut text = [0u8; counts::COUNTS_ROOM];

@@ -8,11 +8,12 @@ use lib.ListN.{length}
 use borrow.Author.Tests.{ltb-false}
 use Rattle.refusal.specs.Refusal.{first}
 use Rattle.refusal.proofs.Laws.{none-applies}
+use Rattle.std.proofs.Common.{Ok}
 use Rattle.octets.proofs.Those.{those-few}
 use Rattle.capture.specs.File.{file_of}
 use Rattle.pcap.specs.declared.import.Imported.{Imported}
 use Rattle.pcap.specs.File.{is_little, whole, after, first_place, records, records_from}
-use Rattle.pcap.specs.Import.{is_for, skipped, all_entries, import_refusals, ImportOutcome, imported_by, imported, PermitsImport}
+use Rattle.pcap.specs.Import.{is_for, skipped, all_entries, import_refusals, Answer, told, ImportOutcome, imported_by, imported, PermitsImport}
 
 -- a walk of n steps finds at most n records
 records_few : (n : ℕ) (file : List ℕ) (at : ℕ) (little : Bool) → length (records_from n file at little) ≤ n
@@ -38,14 +39,14 @@ pub record Told (file output : List ℕ) (r : Imported) : Type 0 where
   pub others-few : r.others ≤ length file
 
 module _ (sessions file output behind : List ℕ) (r : Imported)
-    (permitted : PermitsImport sessions file output (record { answer = r; output = behind })) (taken : r.code ≡ 0) where
+    (permitted : PermitsImport sessions file output (record { answer = told (Ok r); output = behind })) where
   abbrev outcome : ℕ → ImportOutcome
   outcome code = imported_by code sessions file output
 
   abbrev code : ℕ
   code = first (import_refusals sessions file (length output))
 
-  is_outcome : record { answer = r; output = behind } ≡ outcome code
+  is_outcome : record { answer = told (Ok r); output = behind } ≡ outcome code
   unfolding imported
   is_outcome = permitted
 
@@ -53,11 +54,11 @@ module _ (sessions file output behind : List ℕ) (r : Imported)
   unfolding imported_by
   not-refused = by code (ap (λ (o : ImportOutcome). o.answer.code) is_outcome)
     where
-      by : (n : ℕ) → r.code ≡ (outcome n).answer.code → n ≡ 0
+      by : (n : ℕ) → 0 ≡ (outcome n).answer.code → n ≡ 0
       by zero e = refl
-      by (suc n) e = absurd (omega (arith, taken, e))
+      by (suc n) e = absurd (omega (arith, e))
 
-  answered : r ≡ (outcome 0).answer
+  answered : told (Ok r) ≡ (outcome 0).answer
   answered = ap (λ (o : ImportOutcome). o.answer) is_outcome ∙ ap (λ (n : ℕ). (outcome n).answer) not-refused
 
   pub import_told : Told file output r
@@ -66,9 +67,9 @@ module _ (sessions file output behind : List ℕ) (r : Imported)
       let fits = (none-applies (import_refusals sessions file (length output)) refl not-refused).1.1.1.0 in
       let long = ltb-false (length output) (length (file_of (all_entries sessions file))) fits in
       record {
-        capture_inside = omega (arith, ap (λ (a : Imported). a.length) answered, long);
-        foreign_few = omega (arith, ap (λ (a : Imported). a.foreign) answered, skipped-few 1 file);
-        misfits_few = omega (arith, ap (λ (a : Imported). a.misfits) answered, skipped-few 2 file);
-        fragments_few = omega (arith, ap (λ (a : Imported). a.fragments) answered, skipped-few 3 file);
-        others-few = omega (arith, ap (λ (a : Imported). a.others) answered, skipped-few 4 file);
+        capture_inside = omega (arith, ap (λ (a : Answer). a.length) answered, long);
+        foreign_few = omega (arith, ap (λ (a : Answer). a.foreign) answered, skipped-few 1 file);
+        misfits_few = omega (arith, ap (λ (a : Answer). a.misfits) answered, skipped-few 2 file);
+        fragments_few = omega (arith, ap (λ (a : Answer). a.fragments) answered, skipped-few 3 file);
+        others-few = omega (arith, ap (λ (a : Answer). a.others) answered, skipped-few 4 file);
       }

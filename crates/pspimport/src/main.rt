@@ -13,9 +13,8 @@
 mod counts;
 mod sessions;
 
-ghost use Rattle.std.specs.Prelude.{◌≡◌, ◌+◌, ◌≤◌, length};
-ghost use Rattle.capture.specs.File.{longest_file};
-ghost use Rattle.pspimport.specs.Rooms.{most_read, most_sessions};
+ghost use Rattle.std.specs.Prelude.{◌≤◌, length};
+ghost use Rattle.pspimport.specs.Rooms.{most_read};
 
 use pcap::import;
 use std::io::Write;
@@ -38,19 +37,18 @@ fn too_long(stderr: &mut impl Write) {
 }
 
 fn main(rt: HostRuntime) {
-    let mut sessions = sessions_room();
-    let named = sessions::take_sessions(&rt, &mut sessions);
-    if !named.good {
+    let mut sessions = [0u32; sessions::MOST_SESSIONS];
+    let Some(count) = sessions::take_sessions(&rt, &mut sessions) else {
         usage(&mut rt.stderr());
         return;
-    }
-    let mut file = file_room();
+    };
+    // one byte more than is read, so that a longer one is seen to be too long
+    let mut file: [u8; MOST_READ + 1] = tool::room();
     let read = tool::read_input(&mut rt.stdin(), &mut file);
     if MOST_READ < read {
         too_long(&mut rt.stderr());
         return;
     }
-    let count = named.value;
     run(
         &mut rt.stdout(),
         &mut rt.stderr(),
@@ -59,36 +57,18 @@ fn main(rt: HostRuntime) {
     );
 }
 
-// Rooms of zeros. The contracts say how long they are, which lending one as a slice needs. That for the file has one byte more than is
-// read, so that a longer one is seen to be too long.
-fn sessions_room() -> [u32; sessions::MOST_SESSIONS]
-    ensures { most_sessions ≡ length result }
-{
-    [0; sessions::MOST_SESSIONS]
-}
-
-fn file_room() -> [u8; MOST_READ + 1]
-    ensures { most_read + 1 ≡ length result }
-{
-    [0; MOST_READ + 1]
-}
-
-fn output_room() -> [u8; capture::LONGEST_FILE]
-    ensures { longest_file ≡ length result }
-{
-    [0; capture::LONGEST_FILE]
-}
-
 // Makes the capture, and writes it with what was skipped, or says why not.
 fn run(stdout: &mut impl Write, stderr: &mut impl Write, sessions: &[u32], file: &[u8])
     requires { length file.now ≤ most_read }
 {
-    let mut output = output_room();
-    let imported = import::import(sessions, file, &mut output);
-    if imported.code != refusal::NONE {
-        tool::refuse(stderr, imported.code);
-        return;
-    }
+    let mut output: [u8; capture::LONGEST_FILE] = tool::room();
+    let imported = match import::import(sessions, file, &mut output) {
+        Ok(imported) => imported,
+        Err(why) => {
+            tool::refuse(stderr, u32::from(why));
+            return;
+        }
+    };
     let length = imported.length;
     tool::write_output(stdout, &output[..length]);
     let mut text = [0u8; counts::COUNTS_ROOM];

@@ -5,20 +5,10 @@
 // read in and written out. One byte more than a capture may have is read, so that a longer one is seen to be too long (41).
 #![tactic(auto)]
 
-ghost use Rattle.std.specs.Prelude.{◌≡◌, length};
-ghost use Rattle.listing.specs.Inside.{listing_room};
-
 fn main(rt: HostRuntime) {
-    let mut file = tool::capture_room();
+    let mut file = [0u8; tool::CAPTURE_ROOM];
     let read = tool::read_input(&mut rt.stdin(), &mut file);
-    let mut text = text_room();
+    let mut text = [0u8; listing::LISTING_ROOM];
     let length = listing::list(&file[..read], &mut text);
     tool::write_output(&mut rt.stdout(), &text[..length]);
-}
-
-// Room for the text. The contract says how long it is, which lending it as a slice needs.
-fn text_room() -> [u8; listing::LISTING_ROOM]
-    ensures { listing_room ≡ length result }
-{
-    [0; listing::LISTING_ROOM]
 }

@@ -22,7 +22,6 @@ use Rattle.replay.specs.Run.{Running, standing, answer_at}
 use Rattle.replay.specs.Inside.{Stands, GoesOn, Steps, Findable}
 use Rattle.replay.proofs.Standing.{frames_found_lem, frames_findable}
 use Rattle.pspmpeg.specs.declared.gather.Gathered.{Gathered}
-use Rattle.pspmpeg.specs.declared.gather.Stage.{Stage}
 use Rattle.outputs.specs.Stream.{is_for, frames_at, delivered_before, delivered}
 use Rattle.pspmpeg.specs.Inside.{most_gathered, Adds, Fits, FitsFound, Gathers}
 use Rattle.pspmpeg.proofs.Cutting.{found_many, found_long}
@@ -62,7 +61,8 @@ not_chosen found {frames} {wanted} {bytes} {sizes} {g} e n =
         ap (λ (n : ℕ). record { count = n; bytes = g.bytes }) a ∙ ap (λ (n : ℕ). record { count = g.count + 0; bytes = n }) b
 
 -- .. and its frames lie in the slices that the step leaves
-module _ {file : List ℕ} {w : Walk} {s : Stepped} {holding output lengths : List ℕ} (stepped : Steps file w s holding output lengths) where
+module _ {file : List ℕ} {w further : Walk} {s : Stepped} {holding output lengths : List ℕ}
+    (stepped : Steps file w s further holding output lengths) where
   abbrev more : ℕ
   more = s.answer.frames
 
@@ -108,14 +108,14 @@ module _ {file : List ℕ} {w : Walk} {s : Stepped} {holding output lengths : Li
         subst (λ (l : List (List ℕ)). Adds l bytes sizes bytes' sizes' g g') (sym frames_are) a
 
 -- All entries.
-pub record Gathering (session : ℕ) (file bytes₀ sizes₀ : List ℕ) (stage : Stage)
+pub record Gathering (session : ℕ) (file bytes₀ sizes₀ : List ℕ) (w : Walk) (gathered : Gathered)
     (holding output lengths bytes sizes : List ℕ) : Type 0 where
-  pub stands : Stands file stage.walk holding output lengths
-  pub so_far : Gathers (delivered_before session file stage.walk.index) bytes₀ sizes₀ bytes sizes stage.gathered
+  pub stands : Stands file w holding output lengths
+  pub so_far : Gathers (delivered_before session file w.index) bytes₀ sizes₀ bytes sizes gathered
 
 pub gather_begin : {session : ℕ} {file holding output lengths : List ℕ} {w : Walk} (bytes sizes : List ℕ) →
     Stands file w holding output lengths → w.index ≡ 0 →
-    Gathering session file bytes sizes (record { walk = w; gathered = record { count = 0; bytes = 0 } }) holding output lengths bytes sizes
+    Gathering session file bytes sizes w (record { count = 0; bytes = 0 }) holding output lengths bytes sizes
 unfolding delivered_before
 gather_begin {session} {file} {holding} {output} {lengths} {w} bytes sizes s z =
     record {
@@ -130,20 +130,20 @@ gather_begin {session} {file} {holding} {output} {lengths} {w} bytes sizes s z =
           });
     }
 
-module _ {session : ℕ} {file bytes₀ sizes₀ : List ℕ} {stage : Stage} {holding output lengths bytes sizes : List ℕ}
-    (g : Gathering session file bytes₀ sizes₀ stage holding output lengths bytes sizes) (bytes-long : longest_file ≤ length bytes₀)
+module _ {session : ℕ} {file bytes₀ sizes₀ : List ℕ} {w : Walk} {gathered : Gathered} {holding output lengths bytes sizes : List ℕ}
+    (g : Gathering session file bytes₀ sizes₀ w gathered holding output lengths bytes sizes) (bytes-long : longest_file ≤ length bytes₀)
     (sizes-long : most_gathered ≤ length sizes₀) where
   abbrev before : List (List ℕ)
-  before = delivered_before session file stage.walk.index
+  before = delivered_before session file w.index
 
-  few : stage.walk.index ≤ most_entries
+  few : w.index ≤ most_entries
   few = omega (arith, g.stands.within, (is_sound file g.stands.sound).few)
 
   short : length (joined before) ≤ longest_file
-  short = few_bytes session file stage.walk.index g.stands.sound g.stands.within
+  short = few_bytes session file w.index g.stands.sound g.stands.within
 
   many : length before ≤ most_gathered
-  many = omega (arith, few-frames session file stage.walk.index, few)
+  many = omega (arith, few-frames session file w.index, few)
 
   pub bytes_same : length bytes ≡ length bytes₀
   bytes_same = ap length g.so_far.bytes_now ∙ length-put bytes₀ 0 (joined before) (omega (arith, short, bytes-long))
@@ -152,19 +152,19 @@ module _ {session : ℕ} {file bytes₀ sizes₀ : List ℕ} {stage : Stage} {ho
   sizes-same =
       ap length g.so_far.sizes_now ∙ length-put sizes₀ 0 (lengths_of before) (omega (arith, length-lengths_of before, many, sizes-long))
 
-  module _ (more : stage.walk.index < entry_count head_length file) where
+  module _ (more : w.index < entry_count head_length file) where
     abbrev next : List (List ℕ)
-    next = frames_at session file stage.walk.index
+    next = frames_at session file w.index
 
-    joined-next : length (joined (delivered_before session file (suc stage.walk.index))) ≡ length (joined before) + length (joined next)
+    joined-next : length (joined (delivered_before session file (suc w.index))) ≡ length (joined before) + length (joined next)
     unfolding delivered_before
     joined-next = ap length (joined-append before next) ∙ length-append (joined before) (joined next)
 
-    length-next : length (delivered_before session file (suc stage.walk.index)) ≡ length before + length next
+    length-next : length (delivered_before session file (suc w.index)) ≡ length before + length next
     unfolding delivered_before
     length-next = length-append before next
 
-    pub next_fits : Fits next bytes sizes stage.gathered
+    pub next_fits : Fits next bytes sizes gathered
     next_fits =
         record {
           bytes_fit =
@@ -174,7 +174,7 @@ module _ {session : ℕ} {file bytes₀ sizes₀ : List ℕ} {stage : Stage} {ho
                 bytes-long,
                 g.so_far.total_is,
                 joined-next,
-                few_bytes session file (suc stage.walk.index) g.stands.sound (omega (arith, more)),
+                few_bytes session file (suc w.index) g.stands.sound (omega (arith, more)),
               );
           sizes_fit =
               omega (
@@ -183,31 +183,31 @@ module _ {session : ℕ} {file bytes₀ sizes₀ : List ℕ} {stage : Stage} {ho
                 sizes-long,
                 g.so_far.counted,
                 length-next,
-                few-frames session file (suc stage.walk.index),
+                few-frames session file (suc w.index),
                 more,
                 (is_sound file g.stands.sound).few,
               );
         }
 
-    pub gather_turn : {stage' : Stage} {holding' output' lengths' bytes' sizes' : List ℕ} →
-        GoesOn file stage.walk stage'.walk holding' output' lengths' →
-        Adds next bytes sizes bytes' sizes' stage.gathered stage'.gathered →
-        Gathering session file bytes₀ sizes₀ stage' holding' output' lengths' bytes' sizes'
+    pub gather_turn : {w' : Walk} {gathered' : Gathered} {holding' output' lengths' bytes' sizes' : List ℕ} →
+        GoesOn file w w' holding' output' lengths' →
+        Adds next bytes sizes bytes' sizes' gathered gathered' →
+        Gathering session file bytes₀ sizes₀ w' gathered' holding' output' lengths' bytes' sizes'
     unfolding delivered_before
-    gather_turn {stage'} {holding'} {output'} {lengths'} {bytes'} {sizes'} on a =
-        let index : stage'.walk.index ≡ suc stage.walk.index = on.one_on ∙ add-one stage.walk.index in
+    gather_turn {w'} {gathered'} {holding'} {output'} {lengths'} {bytes'} {sizes'} on a =
+        let index : w'.index ≡ suc w.index = on.one_on ∙ add-one w.index in
         record {
           stands = on.stands;
           so_far =
-              subst (λ (n : ℕ). Gathers (delivered_before session file n) bytes₀ sizes₀ bytes' sizes' stage'.gathered) (sym index)
+              subst (λ (n : ℕ). Gathers (delivered_before session file n) bytes₀ sizes₀ bytes' sizes' gathered') (sym index)
               (record {
                 bytes_now =
-                    a.bytes_then ∙ ap (λ (l : List ℕ). put l stage.gathered.bytes (joined next)) g.so_far.bytes_now
+                    a.bytes_then ∙ ap (λ (l : List ℕ). put l gathered.bytes (joined next)) g.so_far.bytes_now
                     ∙ ap (λ (n : ℕ). put (put bytes₀ 0 (joined before)) n (joined next)) g.so_far.total_is
                     ∙ put-put_front bytes₀ (joined before) (joined next) (omega (arith, short, bytes-long))
                     ∙ ap (put bytes₀ 0) (sym (joined-append before next));
                 sizes_now =
-                    a.sizes_then ∙ ap (λ (l : List ℕ). put l stage.gathered.count (lengths_of next)) g.so_far.sizes_now
+                    a.sizes_then ∙ ap (λ (l : List ℕ). put l gathered.count (lengths_of next)) g.so_far.sizes_now
                     ∙ ap (λ (n : ℕ). put (put sizes₀ 0 (lengths_of before)) n (lengths_of next))
                     (g.so_far.counted ∙ sym (length-lengths_of before))
                     ∙ put-put_front sizes₀ (lengths_of before) (lengths_of next) (omega (arith, length-lengths_of before, many, sizes-long))
@@ -221,12 +221,12 @@ module _ {session : ℕ} {file bytes₀ sizes₀ : List ℕ} {stage : Stage} {ho
               });
         }
 
-  pub gather_end : entry_count head_length file ≤ stage.walk.index →
-      Gathers (delivered session file) bytes₀ sizes₀ bytes sizes stage.gathered × (stage.gathered.bytes ≤ longest_file)
-      × (stage.gathered.count ≤ most_gathered)
+  pub gather_end : entry_count head_length file ≤ w.index →
+      Gathers (delivered session file) bytes₀ sizes₀ bytes sizes gathered × (gathered.bytes ≤ longest_file)
+      × (gathered.count ≤ most_gathered)
   gather_end past =
-      let all : stage.walk.index ≡ entry_count head_length file = omega (arith, g.stands.within, past) in (
-        subst (λ (n : ℕ). Gathers (delivered_before session file n) bytes₀ sizes₀ bytes sizes stage.gathered) all g.so_far,
+      let all : w.index ≡ entry_count head_length file = omega (arith, g.stands.within, past) in (
+        subst (λ (n : ℕ). Gathers (delivered_before session file n) bytes₀ sizes₀ bytes sizes gathered) all g.so_far,
         omega (arith, g.so_far.total_is, short),
         omega (arith, g.so_far.counted, many),
       )

@@ -1,4 +1,3 @@
-pub mod Choosing
 pub mod Cutting
 pub mod Rooms
 pub mod Gathering

@@ -7,7 +7,7 @@ ghost use Rattle.replay.specs.Inside.{Stands, GoesOn, Unused};
 ghost use Rattle.outputs.specs.Stream.{is_for, frames_at, delivered};
 ghost use Rattle.pspmpeg.specs.Inside.{most_gathered, Fits, FitsFound, Adds, Gathers};
 
-use capture::reader;
+use capture::{Kind, reader};
 use packet::header;
 use replay::{Walk, run};
 use table::Table;
@@ -22,36 +22,25 @@ pub struct Gathered {
     pub bytes: usize,
 }
 
-// Where the run stands, and what has been gathered up to there.
-#[derive(Clone, Copy)]
-struct Stage {
-    walk: Walk,
-    gathered: Gathered,
-}
-
 // Whether an entry is a packet for the session, while the session is open as PSP.
 fn is_for(table: Table, kind: u8, body: &[u8], session: u32) -> bool
     requires { broken table ≡ false }
     ensures { result ≡ is_for session table (record { kind = kind; body = body.now }) }
 {
-    if (kind != capture::DATA) & (kind != capture::DATA_OVER_UDP) {
+    let Ok(Kind::Data | Kind::DataOverUdp) = Kind::try_from(kind) else {
         return false;
-    }
+    };
     let transport = run::transport_of(kind);
-    if header::refuse_before_session(body, transport) != refusal::NONE {
+    if header::refuse_before_session(body, transport).is_err() {
         return false;
     }
     if header::session_id(body, transport) != session {
         return false;
     }
-    let at = table::find_row(table, session);
-    if table::ROWS <= at {
-        return false;
+    match table.find_row(session) {
+        Some(at) => !table::is_dmpt(table::terms_of(table.rows[at]).kind),
+        None => false,
     }
-    let row = table.rows[at];
-    let terms = table::terms_of(row);
-    let kind_of_row = terms.kind;
-    !table::is_dmpt(kind_of_row)
 }
 
 // Puts the frames that a call delivered behind those gathered before.
@@ -70,12 +59,9 @@ fn append(
     let count = before.count;
     let total = before.bytes;
     let mut sum: usize = 0;
-    let mut i: usize = 0;
-    while i < more {
-        let size = octets::wide_u16(lengths[i]);
-        sizes[count + i] = size as u16;
-        sum += size;
-        i += 1;
+    for i in 0..more {
+        sizes[count + i] = lengths[i];
+        sum += usize::from(lengths[i]);
     }
     octets::copy(bytes, total, output, 0, sum);
     Gathered {
@@ -88,43 +74,29 @@ fn append(
 fn gather_entry(
     file: &[u8],
     session: u32,
-    stage: Stage,
+    walk: &mut Walk,
     holding: &mut [u8],
     output: &mut [u8],
     lengths: &mut [u16],
     bytes: &mut [u8],
     sizes: &mut [u16],
-) -> Stage
-    requires stands { Stands file.now stage.walk holding.old output.old lengths.old
-        × (stage.walk.index < entry_count head_length file.now) }
-    requires fits { Fits (frames_at session file.now stage.walk.index) bytes.old sizes.old stage.gathered }
-    ensures goes_on { GoesOn file.now stage.walk result.walk holding.new output.new lengths.new }
-    ensures adds { Adds (frames_at session file.now stage.walk.index)
-        bytes.old sizes.old bytes.new sizes.new stage.gathered result.gathered }
+    before: Gathered,
+) -> Gathered
+    requires stands { Stands file.now walk.old holding.old output.old lengths.old
+        × (walk.old.index < entry_count head_length file.now) }
+    requires fits { Fits (frames_at session file.now walk.old.index) bytes.old sizes.old before }
+    ensures goes_on { GoesOn file.now walk.old walk.new holding.new output.new lengths.new }
+    ensures adds { Adds (frames_at session file.now walk.old.index) bytes.old sizes.old bytes.new sizes.new before result }
 {
-    let walk = stage.walk;
-    let before = stage.gathered;
-    let index = walk.index;
-    let start = walk.start;
-    let table = walk.table;
-    let kind = reader::kind_at(file, index);
-    let body = reader::body_at(file, index, start);
-    let wanted = is_for(table, kind, body, session);
-    let stepped = replay::step(file, walk, holding, output, lengths);
-    let further = stepped.walk;
+    let kind = reader::kind_at(file, walk.index);
+    let body = reader::body_at(file, walk.index, walk.start);
+    let wanted = is_for(walk.table, kind, body, session);
+    let stepped = walk.step(file, holding, output, lengths);
     if !wanted {
-        return Stage {
-            walk: further,
-            gathered: before,
-        };
+        return before;
     }
-    let answer = stepped.answer;
-    let more = answer.frames as usize;
-    let gathered = append(output, lengths, more, bytes, sizes, before);
-    Stage {
-        walk: further,
-        gathered,
-    }
+    let more = stepped.answer.frames as usize;
+    append(output, lengths, more, bytes, sizes, before)
 }
 
 // Gathers the frames that a sound capture delivers on the session: their bytes, back to back, and their lengths.
@@ -143,15 +115,12 @@ pub fn gather(
         bytes.old sizes.old bytes.new sizes.new result }
     ensures bytes_le_longest_file { (result.bytes ≤ longest_file) × (result.count ≤ most_gathered) }
 {
-    let count = reader::entry_count(file);
-    let walk = replay::begin(file);
-    let none = Gathered { count: 0, bytes: 0 };
-    let mut stage = Stage {
-        walk,
-        gathered: none,
-    };
-    while stage.walk.index < count {
-        stage = gather_entry(file, session, stage, holding, output, lengths, bytes, sizes);
+    let mut walk = Walk::begin(file);
+    let mut gathered = Gathered { count: 0, bytes: 0 };
+    for _ in 0..reader::entry_count(file) {
+        gathered = gather_entry(
+            file, session, &mut walk, holding, output, lengths, bytes, sizes, gathered,
+        );
     }
-    stage.gathered
+    gathered
 }

@@ -11,17 +11,15 @@
 mod gather;
 mod packets;
 
-ghost use Rattle.std.specs.Prelude.{◌≡◌, ◌≤◌, length};
+ghost use Rattle.std.specs.Prelude.{◌≤◌, length};
 ghost use Rattle.text.specs.Text.{Wrote};
-ghost use Rattle.capture.specs.File.{longest_file};
 ghost use Rattle.outputs.specs.Stream.{stream};
-ghost use Rattle.pspmpeg.specs.Inside.{most_gathered, stream_room};
+ghost use Rattle.pspmpeg.specs.Inside.{stream_room};
 
 use capture::reader;
+use std::env::Env;
 use std::io::{Read, Write};
-
-// The greatest session ID.
-const GREATEST_ID: usize = 4294967295;
+use tool::number;
 
 fn usage(stderr: &mut impl Write) {
     tool::write_error(
@@ -31,42 +29,27 @@ fn usage(stderr: &mut impl Write) {
 }
 
 fn main(rt: HostRuntime) {
-    let session = tool::argument(&rt, 1);
-    if (tool::argument_count(&rt) != 2) | !session.good {
+    let Some(session) = session(&rt) else {
         usage(&mut rt.stderr());
         return;
+    };
+    run(&mut rt.stdin(), &mut rt.stdout(), session);
+}
+
+// The session ID that the only argument says, if it says one.
+fn session(env: &impl Env) -> Option<u32> {
+    if tool::argument_count(env) != 2 {
+        return None;
     }
-    if GREATEST_ID < session.value {
-        usage(&mut rt.stderr());
-        return;
-    }
-    run(&mut rt.stdin(), &mut rt.stdout(), session.value as u32);
-}
-
-// Rooms of zeros. The contracts say how long they are, which lending one as a slice needs.
-fn stream_room() -> [u8; packets::STREAM_ROOM]
-    ensures { stream_room ≡ length result }
-{
-    [0; packets::STREAM_ROOM]
-}
-
-fn bytes_room() -> [u8; capture::LONGEST_FILE]
-    ensures { longest_file ≡ length result }
-{
-    [0; capture::LONGEST_FILE]
-}
-
-fn sizes_room() -> [u16; gather::MOST_GATHERED]
-    ensures { most_gathered ≡ length result }
-{
-    [0; gather::MOST_GATHERED]
+    let id = tool::argument(env, 1, number::number)?;
+    u32::try_from(id).ok()
 }
 
 // Reads the capture and writes the packets.
 fn run(stdin: &mut impl Read, stdout: &mut impl Write, session: u32) {
-    let mut file = tool::capture_room();
+    let mut file = [0u8; tool::CAPTURE_ROOM];
     let read = tool::read_input(stdin, &mut file);
-    let mut text = stream_room();
+    let mut text = [0u8; packets::STREAM_ROOM];
     let length = write_stream(&file[..read], session, &mut text);
     tool::write_output(stdout, &text[..length]);
 }
@@ -76,15 +59,14 @@ fn write_stream(file: &[u8], session: u32, text: &mut [u8]) -> usize
     requires { stream_room ≤ length text.old }
     ensures { Wrote text.old text.new 0 result (stream session file.now) }
 {
-    let refused = reader::check(file);
-    if refused != refusal::NONE {
-        return tool::write_refused(text, 0, refused);
+    if let Err(refusal) = reader::check(file) {
+        return tool::write_refused(text, 0, u32::from(refusal));
     }
     let mut holding = replay::holding_room();
     let mut output = replay::output_room();
     let mut lengths = replay::lengths_room();
-    let mut bytes = bytes_room();
-    let mut sizes = sizes_room();
+    let mut bytes = [0u8; capture::LONGEST_FILE];
+    let mut sizes = [0u16; gather::MOST_GATHERED];
     let gathered = gather::gather(
         file,
         session,

@@ -7,6 +7,7 @@ use Rattle.sender.specs.Series.{Job, packet_left}
 use Rattle.capture.specs.Write.{added, within, Roomy, contents_after, bodies_after, Holds}
 use Rattle.capture.specs.File.{opening}
 use Rattle.outputs.specs.Sent.{data_of, sent_from, packets_for, first_answer}
+use Rattle.pspsend.specs.declared.series.Sending.{Sending}
 use Rattle.pspsend.specs.declared.series.Series.{Series}
 
 -- room for any packet; and how many bytes of frames there can be: the program's own room for them
@@ -15,6 +16,10 @@ packet_room = longest_packet
 
 abbrev pub most_bytes : ℕ
 most_bytes = 262144
+
+-- what all sends of a series are given
+abbrev pub job_of : Sending → List ℕ → List ℕ → Job
+job_of sending bytes lengths = record { session = sending.session; flow = sending.flow; bytes = bytes; lengths = lengths }
 
 -- far from the end of counting
 pub record Unhurried (s : Series) : Type 0 where

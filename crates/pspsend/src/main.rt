@@ -13,20 +13,16 @@
 mod input;
 mod series;
 
-ghost use Rattle.std.specs.Prelude.{◌≡◌, ◌+◌, ◌*◌, ◌≤◌, length};
-ghost use Rattle.capture.specs.File.{head_length, entry_length, longest_file, most_entries};
-ghost use Rattle.outputs.specs.Sent.{most};
+ghost use Rattle.std.specs.Prelude.{◌≤◌, length};
 ghost use Rattle.pspsend.specs.Inside.{most_bytes};
 
+use series::Sending;
+use std::env::Env;
 use std::io::{Read, Write};
+use tool::number;
 
 // Room for the longest frames file that is not refused, 127 frames of 2,048 bytes with their lengths, and more: a longer one is refused.
 const FILE_ROOM: usize = 262144;
-
-// The greatest session ID and sequence number.
-const GREATEST_ID: usize = 4294967295;
-
-const GREATEST_NUMBER: usize = 65535;
 
 fn usage(stderr: &mut impl Write) {
     tool::write_error(
@@ -40,109 +36,55 @@ fn usage(stderr: &mut impl Write) {
 }
 
 fn main(rt: HostRuntime) {
-    let session = tool::argument(&rt, 1);
-    let flow = tool::argument(&rt, 2);
-    let number = tool::argument(&rt, 3);
-    let limit = tool::argument(&rt, 4);
-    let all_good = session.good & flow.good & number.good & limit.good;
-    if (tool::argument_count(&rt) != 5) | !all_good {
+    let Some(sending) = sending(&rt) else {
         usage(&mut rt.stderr());
         return;
+    };
+    run(&mut rt.stdin(), &mut rt.stdout(), &mut rt.stderr(), sending);
+}
+
+// What the four arguments say, if each says a number that is not too great.
+fn sending(env: &impl Env) -> Option<Sending> {
+    if tool::argument_count(env) != 5 {
+        return None;
     }
-    if (GREATEST_ID < session.value) | (GREATEST_NUMBER < number.value) {
-        usage(&mut rt.stderr());
-        return;
-    }
-    run(
-        &mut rt.stdin(),
-        &mut rt.stdout(),
-        &mut rt.stderr(),
-        session.value as u32,
-        flow.value,
-        number.value as u16,
-        limit.value,
-    );
-}
-
-// Rooms of zeros. The contracts say how long they are, which lending one as a slice needs.
-fn file_room() -> [u8; FILE_ROOM]
-    ensures { most_bytes ≡ length result }
-{
-    [0; FILE_ROOM]
-}
-
-fn lengths_room() -> [u16; input::MOST]
-    ensures { most ≡ length result }
-{
-    [0; input::MOST]
-}
-
-fn contents_room() -> [u8; series::CONTENTS_ROOM]
-    ensures { head_length + entry_length * most_entries ≡ length result }
-{
-    [0; series::CONTENTS_ROOM]
-}
-
-fn bodies_room() -> [u8; capture::LONGEST_FILE]
-    ensures { longest_file ≡ length result }
-{
-    [0; capture::LONGEST_FILE]
+    let session = tool::argument(env, 1, number::number)?;
+    let flow = tool::argument(env, 2, number::number)?;
+    let number = tool::argument(env, 3, number::number)?;
+    let limit = tool::argument(env, 4, number::number)?;
+    Some(Sending {
+        session: u32::try_from(session).ok()?,
+        flow,
+        number: u16::try_from(number).ok()?,
+        limit,
+    })
 }
 
 // Reads the frames and sends them.
-fn run(
-    stdin: &mut impl Read,
-    stdout: &mut impl Write,
-    stderr: &mut impl Write,
-    session: u32,
-    flow: usize,
-    number: u16,
-    limit: usize,
-) {
-    let mut file = file_room();
+fn run(stdin: &mut impl Read, stdout: &mut impl Write, stderr: &mut impl Write, sending: Sending) {
+    let mut file: [u8; FILE_ROOM] = tool::room();
     let read = tool::read_input(stdin, &mut file);
-    let mut bytes = file_room();
-    let mut lengths = lengths_room();
+    let mut bytes: [u8; FILE_ROOM] = tool::room();
+    let mut lengths: [u16; input::MOST] = tool::lengths_room();
     let taken = input::take_frames(&file[..read], &mut bytes, &mut lengths);
     let count = taken.count;
     let total = taken.bytes;
-    send(
-        stdout,
-        stderr,
-        session,
-        flow,
-        number,
-        limit,
-        &bytes[..total],
-        &lengths[..count],
-    );
+    send(stdout, stderr, sending, &bytes[..total], &lengths[..count]);
 }
 
 // Makes the capture, and writes it or says why not.
 fn send(
     stdout: &mut impl Write,
     stderr: &mut impl Write,
-    session: u32,
-    flow: usize,
-    number: u16,
-    limit: usize,
+    sending: Sending,
     bytes: &[u8],
     lengths: &[u16],
 )
     requires { length bytes.now ≤ most_bytes }
 {
-    let mut contents = contents_room();
-    let mut bodies = bodies_room();
-    let made = series::make(
-        session,
-        flow,
-        number,
-        limit,
-        bytes,
-        lengths,
-        &mut contents,
-        &mut bodies,
-    );
+    let mut contents: [u8; series::CONTENTS_ROOM] = tool::room();
+    let mut bodies: [u8; capture::LONGEST_FILE] = tool::room();
+    let made = series::make(sending, bytes, lengths, &mut contents, &mut bodies);
     if made.code != refusal::NONE {
         tool::refuse(stderr, made.code);
         return;

@@ -5,9 +5,9 @@ ghost use Rattle.packet.specs.Header.{id_length};
 ghost use Rattle.capture.specs.File.{head_length, entry_length, longest_file, most_entries, opening};
 ghost use Rattle.capture.specs.Write.{Roomy, Holds};
 ghost use Rattle.pspsend.specs.Capture.{Makes};
-ghost use Rattle.pspsend.specs.Inside.{packet_room, most_bytes, Unhurried, series_after, contents_then, bodies_then, SentAll};
+ghost use Rattle.pspsend.specs.Inside.{packet_room, most_bytes, job_of, Unhurried, series_after, contents_then, bodies_then, SentAll};
 
-use capture::Writer;
+use capture::{Kind, Writer};
 use packet::header;
 use sender::Position;
 
@@ -17,6 +17,15 @@ pub const CONTENTS_ROOM: usize = capture::HEAD_LENGTH
 
 // Room for any packet: the greatest limit and the session ID before it.
 const PACKET_ROOM: usize = sender::GREATEST_LIMIT + header::ID_LENGTH;
+
+// How frames are sent: the session, the flow, the first sequence number, and the limit on everything behind the session ID.
+#[derive(Clone, Copy)]
+pub struct Sending {
+    pub session: u32,
+    pub flow: usize,
+    pub number: u16,
+    pub limit: usize,
+}
 
 // What was made: 0 or the number of a refusal, and how many bytes of the contents and of the bodies are the file.
 #[derive(Clone, Copy)]
@@ -45,7 +54,13 @@ fn add_open(contents: &mut [u8], bodies: &mut [u8], session: u32) -> Writer
     let mut id = [0u8; header::ID_LENGTH];
     let body: &mut [u8] = &mut id;
     octets::write_u32(body, 0, session);
-    capture::add(contents, bodies, capture::begin(), capture::OPEN_PSP, body)
+    capture::add(
+        contents,
+        bodies,
+        capture::begin(),
+        u8::from(Kind::OpenPsp),
+        body,
+    )
 }
 
 // One send, and an entry for its packet.
@@ -53,26 +68,24 @@ fn send_once(
     contents: &mut [u8],
     bodies: &mut [u8],
     scratch: &mut [u8],
-    session: u32,
-    flow: usize,
-    limit: usize,
+    sending: Sending,
     bytes: &[u8],
     lengths: &[u16],
     series: Series,
 ) -> Series
     requires { Roomy contents.old bodies.old × (packet_room ≤ length scratch.old) × Unhurried series }
-    ensures value { result ≡ series_after (record { session = session; flow = flow; bytes = bytes.now; lengths = lengths.now })
-        limit series }
+    ensures value { result ≡ series_after (job_of sending bytes.now lengths.now) sending.limit series }
     ensures contents_after { contents.new
-        ≡ contents_then (record { session = session; flow = flow; bytes = bytes.now; lengths = lengths.now })
-        limit contents.old series }
+        ≡ contents_then (job_of sending bytes.now lengths.now) sending.limit contents.old series }
     ensures bodies_after { bodies.new
-        ≡ bodies_then (record { session = session; flow = flow; bytes = bytes.now; lengths = lengths.now })
-        limit bodies.old series }
+        ≡ bodies_then (job_of sending bytes.now lengths.now) sending.limit bodies.old series }
 {
     let position = series.position;
     let number = series.number;
     let writer = series.writer;
+    let session = sending.session;
+    let flow = sending.flow;
+    let limit = sending.limit;
     let sent = sender::send(
         session, flow, number, limit, bytes, lengths, position, scratch,
     );
@@ -86,7 +99,13 @@ fn send_once(
         };
     }
     let length = sent.length;
-    let longer = capture::add(contents, bodies, writer, capture::DATA, &scratch[..length]);
+    let longer = capture::add(
+        contents,
+        bodies,
+        writer,
+        u8::from(Kind::Data),
+        &scratch[..length],
+    );
     let behind = sent.position;
     let following = sent.number;
     Series {
@@ -101,18 +120,14 @@ fn send_once(
 fn send_all(
     contents: &mut [u8],
     bodies: &mut [u8],
-    session: u32,
-    flow: usize,
-    number: u16,
-    limit: usize,
+    sending: Sending,
     bytes: &[u8],
     lengths: &[u16],
     writer: Writer,
 ) -> Series
     requires { Roomy contents.old bodies.old × (length bytes.now ≤ most_bytes)
         × (writer ≡ record { entries = 1; bytes = id_length }) }
-    ensures { SentAll (record { session = session; flow = flow; bytes = bytes.now; lengths = lengths.now })
-        limit number
+    ensures { SentAll (job_of sending bytes.now lengths.now) sending.limit sending.number
         contents.old bodies.old contents.new bodies.new result }
 {
     let mut packet = [0u8; PACKET_ROOM];
@@ -123,14 +138,12 @@ fn send_all(
             frame: 0,
             offset: 0,
         },
-        number,
+        number: sending.number,
         writer,
     };
     let mut turns = bytes.len() + 1;
     while (series.code == refusal::NONE) & (0 < turns) {
-        series = send_once(
-            contents, bodies, scratch, session, flow, limit, bytes, lengths, series,
-        );
+        series = send_once(contents, bodies, scratch, sending, bytes, lengths, series);
         turns -= 1;
     }
     series
@@ -138,25 +151,20 @@ fn send_all(
 
 // Makes the capture; or answers why not: the first send's refusal, then a capture's.
 pub fn make(
-    session: u32,
-    flow: usize,
-    number: u16,
-    limit: usize,
+    sending: Sending,
     bytes: &[u8],
     lengths: &[u16],
     contents: &mut [u8],
     bodies: &mut [u8],
 ) -> Made
     requires { Roomy contents.old bodies.old × (length bytes.now ≤ most_bytes) }
-    ensures makes { Makes (record { session = session; flow = flow; bytes = bytes.now; lengths = lengths.now })
-        limit number
+    ensures makes { Makes (job_of sending bytes.now lengths.now) sending.limit sending.number
         contents.new bodies.new result }
     ensures contents_bound { (result.contents ≤ head_length + entry_length * most_entries) × (result.bodies ≤ longest_file) }
 {
+    let session = sending.session;
     let opened = add_open(contents, bodies, session);
-    let series = send_all(
-        contents, bodies, session, flow, number, limit, bytes, lengths, opened,
-    );
+    let series = send_all(contents, bodies, sending, bytes, lengths, opened);
     let writer = series.writer;
     if writer.entries == opened.entries {
         return Made {
@@ -165,10 +173,9 @@ pub fn make(
             bodies: 0,
         };
     }
-    let refused = capture::refuse(writer);
-    if refused != refusal::NONE {
+    if let Err(refusal) = capture::refuse(writer) {
         return Made {
-            code: refused,
+            code: u32::from(refusal),
             contents: 0,
             bodies: 0,
         };

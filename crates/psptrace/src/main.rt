@@ -5,34 +5,27 @@
 // text of each is what `trace::trace_entry` made.
 #![tactic(auto)]
 
-ghost use Rattle.std.specs.Prelude.{◌≡◌, ◌≤◌, length};
+ghost use Rattle.std.specs.Prelude.{◌≤◌, length};
 ghost use Rattle.replay.specs.Inside.{Unused};
 ghost use Rattle.trace.specs.Inside.{entry_room};
 
 use capture::reader;
+use replay::Walk;
 use std::io::Write;
 
 fn main(rt: HostRuntime) {
-    let mut file = tool::capture_room();
+    let mut file = [0u8; tool::CAPTURE_ROOM];
     let read = tool::read_input(&mut rt.stdin(), &mut file);
-    let mut text = text_room();
+    let mut text = [0u8; trace::ENTRY_ROOM];
     trace(&mut rt.stdout(), &file[..read], &mut text);
-}
-
-// Room for the text of an entry. The contract says how long it is, which lending it as a slice needs.
-fn text_room() -> [u8; trace::ENTRY_ROOM]
-    ensures { entry_room ≡ length result }
-{
-    [0; trace::ENTRY_ROOM]
 }
 
 // Traces a capture; or says that it is refused.
 fn trace(stdout: &mut impl Write, file: &[u8], text: &mut [u8])
     requires { entry_room ≤ length text.old }
 {
-    let refused = reader::check(file);
-    if refused != refusal::NONE {
-        let length = tool::write_refused(text, 0, refused);
+    if let Err(refusal) = reader::check(file) {
+        let length = tool::write_refused(text, 0, u32::from(refusal));
         tool::write_output(stdout, &text[..length]);
         return;
     }
@@ -55,12 +48,9 @@ fn trace_entries(
 )
     requires { Unused file.now holding.old output.old lengths.old × (entry_room ≤ length text.old) }
 {
-    let count = reader::entry_count(file);
-    let mut walk = replay::begin(file);
-    while walk.index < count {
-        let traced = trace::trace_entry(file, walk, holding, output, lengths, text);
-        let length = traced.next;
+    let mut walk = Walk::begin(file);
+    for _ in 0..reader::entry_count(file) {
+        let length = trace::trace_entry(file, &mut walk, holding, output, lengths, text);
         tool::write_output(stdout, &text[..length]);
-        walk = traced.walk;
     }
 }

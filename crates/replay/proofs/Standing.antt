@@ -94,11 +94,12 @@ pub table-whole : {file : List ℕ} {w : Walk} {holding output lengths : List �
 table-whole {file} {w} s = ap (λ (r : Running). broken r.card.table) s.its_run ∙ never_broken file w.index
 
 -- Behind a step: the card is the one that the run has there, and the entry's frames are those that are found in the slices.
-module _ {file : List ℕ} {w : Walk} {s : Stepped} {holding output lengths : List ℕ} (stepped : Steps file w s holding output lengths) where
-  run_is : as_running s.walk.table holding output lengths ≡ standing file (suc w.index)
+module _ {file : List ℕ} {w further : Walk} {s : Stepped} {holding output lengths : List ℕ}
+    (stepped : Steps file w s further holding output lengths) where
+  run_is : as_running further.table holding output lengths ≡ standing file (suc w.index)
   run_is = stepped.goes_on.stands.its_run ∙ ap (standing file) (stepped.goes_on.one_on ∙ add-one w.index)
 
-  pub card_behind : record { table = s.walk.table; holding = holding } ≡ (standing file (suc w.index)).card
+  pub card_behind : record { table = further.table; holding = holding } ≡ (standing file (suc w.index)).card
   card_behind = ap (λ (r : Running). r.card) run_is
 
   pub frames_found_lem : frames_found s.answer.frames lengths output ≡ frames_of (answer_at file w.index)

@@ -23,9 +23,6 @@ module _ {file : List ℕ} {w : Walk} {holding output lengths : List ℕ} (s : S
   pub stands_at : StandsAt file w.index w.start
   stands_at = record { sound = s.sound; not_past = more; its_start = s.its_start }
 
-  pub index_few : w.index < most_entries
-  index_few = omega (arith, more, (is_sound file s.sound).few)
-
   module _ (kind : ℕ) (body : List ℕ) (k : kind ≡ kind_at head_length entry_length file w.index)
       (b : body ≡ (nth_entry file w.index).body) where
     pub takes_length_lem : takes_length (body_in kinds kind) (length body) ≡ true
@@ -80,7 +77,7 @@ module _ {file : List ℕ} {w : Walk} {holding output lengths : List ℕ} (s : S
           }
 
       pub steps : length holding' ≡ length holding → length output' ≡ length output → length lengths' ≡ length lengths →
-          Steps file w (record { kind = kind; answer = r; walk = further }) holding' output' lengths'
+          Steps file w (record { kind = kind; answer = r }) further holding' output' lengths'
       steps same-holding same-output same-lengths =
           record {
             its_kind = k;
@@ -114,23 +111,10 @@ stands-first {file} {holding} {output} {lengths} {w} f b =
           ∙ ap (standing file) (sym b.at_first);
     }
 
--- so wherever a run stands its slices are as long as those that it began with
-pub slices-same : {file holding₀ output₀ lengths₀ holding output lengths : List ℕ} {w : Walk} → Unused file holding₀ output₀ lengths₀ →
-    Stands file w holding output lengths →
-    (length holding ≡ length holding₀) × (length output ≡ length output₀) × (length lengths ≡ length lengths₀)
-slices-same u s = (
-  s.sized.holding_size ∙ sym (unused_sized u).holding_size,
-  s.sized.output-size ∙ sym (unused_sized u).output-size,
-  s.sized.lengths-size ∙ sym (unused_sized u).lengths-size,
-)
-
 -- where a sound file's first body starts, and that this is a small number
 pub first_body : (file : List ℕ) (count : ℕ) → count ≡ entry_count head_length file →
     head_length + entry_length * count ≡ body_start head_length entry_length file 0
 first_body file count e = ap (λ (n : ℕ). head_length + entry_length * n) e ∙ sym (start_first file)
-
-pub count-few : (file : List ℕ) (count : ℕ) → file_refusal file ≡ 0 → count ≡ entry_count head_length file → count ≤ most_entries
-count-few file count z e = omega (arith, e, (is_sound file z).few)
 
 pub head_inside : (file : List ℕ) → file_refusal file ≡ 0 → head_length ≤ length file
 head_inside file z = omega (arith, (is_sound file z).contents_inside)

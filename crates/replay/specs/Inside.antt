@@ -68,10 +68,10 @@ pub record GoesOn (file : List ℕ) (w further : Walk) (holding output lengths :
   pub one_on : further.index ≡ w.index + 1
 
 -- A step: the entry's kind and the numbers of its answer, and that the walk goes on.
-pub record Steps (file : List ℕ) (w : Walk) (s : Stepped) (holding output lengths : List ℕ) : Type 0 where
+pub record Steps (file : List ℕ) (w : Walk) (s : Stepped) (further : Walk) (holding output lengths : List ℕ) : Type 0 where
   pub its_kind : s.kind ≡ kind_at head_length entry_length file w.index
   pub its_counts : Counts s.answer (answer_at file w.index)
-  pub goes_on : GoesOn file w s.walk holding output lengths
+  pub goes_on : GoesOn file w further holding output lengths
 
 -- the frames of a call lie in the slices
 pub record Findable (output lengths : List ℕ) (count : ℕ) : Type 0 where

@@ -22,12 +22,11 @@ pub struct Walk {
     pub table: Table,
 }
 
-// What a step answers: the entry's kind, what its call answered, and where the run stands afterwards.
+// What a step answers: the entry's kind, and what its call answered.
 #[derive(Clone, Copy)]
 pub struct Stepped {
     pub kind: u8,
     pub answer: Received,
-    pub walk: Walk,
 }
 
 // The slices that a run begins with: all zeros.
@@ -49,46 +48,37 @@ pub fn lengths_room() -> [u16; card::MOST_FRAMES]
     [0; card::MOST_FRAMES]
 }
 
-// Before the first entry of a sound file, with an empty table.
-pub fn begin(file: &[u8]) -> Walk
-    requires { file_refusal file.now ≡ 0 }
-    ensures { Begins file.now result }
-{
-    let count = reader::entry_count(file);
-    let table = Table::empty();
-    Walk {
-        index: 0,
-        start: capture::HEAD_LENGTH + capture::ENTRY_LENGTH * count,
-        table,
+impl Walk {
+    // Before the first entry of a sound file, with an empty table.
+    pub fn begin(file: &[u8]) -> Walk
+        requires { file_refusal file.now ≡ 0 }
+        ensures { Begins file.now result }
+    {
+        Walk {
+            index: 0,
+            start: capture::HEAD_LENGTH + capture::ENTRY_LENGTH * reader::entry_count(file),
+            table: Table::empty(),
+        }
     }
-}
 
-// Runs the entry that the walk stands before, and goes on to the next.
-pub fn step(
-    file: &[u8],
-    walk: Walk,
-    holding: &mut [u8],
-    output: &mut [u8],
-    lengths: &mut [u16],
-) -> Stepped
-    requires { Stands file.now walk holding.old output.old lengths.old × (walk.index < entry_count head_length file.now) }
-    ensures { Steps file.now walk result holding.new output.new lengths.new }
-{
-    let index = walk.index;
-    let start = walk.start;
-    let table = walk.table;
-    let kind = reader::kind_at(file, index);
-    let body = reader::body_at(file, index, start);
-    let answer = run::run_entry(table, holding, output, lengths, kind, body);
-    let table_after = answer.table;
-    let further = Walk {
-        index: index + 1,
-        start: start + body.len(),
-        table: table_after,
-    };
-    Stepped {
-        kind,
-        answer,
-        walk: further,
+    // Runs the entry that the walk stands before, and goes on to the next.
+    pub fn step(
+        &mut self,
+        file: &[u8],
+        holding: &mut [u8],
+        output: &mut [u8],
+        lengths: &mut [u16],
+    ) -> Stepped
+        requires { Stands file.now self.old holding.old output.old lengths.old
+            × (self.old.index < entry_count head_length file.now) }
+        ensures { Steps file.now self.old result self.new holding.new output.new lengths.new }
+    {
+        let kind = reader::kind_at(file, self.index);
+        let body = reader::body_at(file, self.index, self.start);
+        let answer = run::run_entry(self.table, holding, output, lengths, kind, body);
+        self.index += 1;
+        self.start += body.len();
+        self.table = answer.table;
+        Stepped { kind, answer }
     }
 }

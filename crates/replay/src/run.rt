@@ -5,9 +5,10 @@ ghost use Rattle.capture.specs.File.{body_in, kinds, takes_length};
 ghost use Rattle.replay.specs.Run.{transport_of};
 ghost use Rattle.replay.specs.Inside.{as_running, answered, RunsTo};
 
+use capture::Kind;
 use card::Received;
 use packet::header;
-use table::{Kind, Request, Table};
+use table::{Request, Table};
 
 // What a call answers that delivers nothing.
 fn plain(code: u32, dropped: u32, table: Table) -> Received
@@ -24,7 +25,7 @@ fn plain(code: u32, dropped: u32, table: Table) -> Received
 }
 
 // Opens a session.
-fn open(table: Table, id: u32, kind: Kind) -> Received
+fn open(table: Table, id: u32, kind: table::Kind) -> Received
     ensures { result ≡ answered (opened table (asking kind id)).code 0 (opened table (asking kind id)).table }
 {
     let request = Request { id, kind };
@@ -44,10 +45,10 @@ fn close(table: Table, id: u32) -> Received
 pub fn transport_of(kind: u8) -> u32
     ensures { result ≡ transport_of kind }
 {
-    if kind == capture::DATA_OVER_UDP {
-        return header::UDP;
+    match Kind::try_from(kind) {
+        Ok(Kind::DataOverUdp) => header::UDP,
+        _ => header::IP,
     }
-    header::IP
 }
 
 // Carries out one entry.
@@ -63,15 +64,13 @@ pub fn run_entry(
     ensures { RunsTo (as_running table holding.old output.old lengths.old)
         (record { kind = kind; body = body.now }) result holding.new output.new lengths.new }
 {
-    if kind == capture::OPEN_PSP {
-        return open(table, octets::read_u32(body, 0), Kind::Psp);
+    match Kind::try_from(kind) {
+        Ok(Kind::OpenPsp) => open(table, octets::read_u32(body, 0), table::Kind::Psp),
+        Ok(Kind::OpenDmpt) => open(table, octets::read_u32(body, 0), table::Kind::Dmpt),
+        Ok(Kind::Close) => close(table, octets::read_u32(body, 0)),
+        _ => {
+            let transport = transport_of(kind);
+            card::receive(table, transport, holding, body, output, lengths)
+        }
     }
-    if kind == capture::OPEN_DMPT {
-        return open(table, octets::read_u32(body, 0), Kind::Dmpt);
-    }
-    if kind == capture::CLOSE {
-        return close(table, octets::read_u32(body, 0));
-    }
-    let transport = transport_of(kind);
-    card::receive(table, transport, holding, body, output, lengths)
 }

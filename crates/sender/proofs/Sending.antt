@@ -63,9 +63,6 @@ module _ (a : Asked) where
     pub small : a.limit ≤ 4096
     small = limit-small a.session a.flow a.limit (length a.bytes) a.lengths job
 
-    pub room-there : header_length ≤ a.limit
-    room-there = omega (arith, enough)
-
     pub header-there : shortest_packet ≤ length a.output
     header-there = omega (arith, enough, standing.output_long)
 
@@ -77,10 +74,6 @@ module _ (a : Asked) where
           output_long = omega (arith, enough, standing.output_long);
           small = omega (arith, small);
         }
-
-    pub packet-small : (count bytes : ℕ) → entry_width * count + bytes ≤ a.limit - header_length →
-        shortest_packet + entry_width * count + bytes ≤ 4100
-    packet-small count bytes h = omega (arith, small, enough)
 
     module _ (p : Progress) (between after : List ℕ)
         (w : Written (cut_of a.bytes a.lengths (a.limit - header_length) a.position) a.output between

@@ -1,11 +1,11 @@
 -- How a packet comes about in the output: the entries are put one behind the other while the frames are cut (`Writing`, the loop's
 -- invariant, with a begin, a turn and an end), then the bodies behind them in one put, then the header before them.
-use Prim.Native.Nat.{ℕ, suc, ◌+◌, ◌-◌, ◌*◌, ◌<◌, ◌≤◌, min}
+use Prim.Native.Nat.{ℕ, suc, ◌+◌, ◌-◌, ◌*◌, ◌<◌, ◌≤◌}
 use mathlib.Core.Path.{◌≡◌, refl, sym, ap, ◌∙◌}
 use mathlib.Core.Bool.{Bool, true, false, ◌&&◌}
 use mathlib.Core.List.{List, [], ◌∷◌, ◌++◌, map}
 use native.Mathlib.Omega.{arith}
-use lib.Dec.{eqb, ltb}
+use lib.Dec.{ltb}
 use lib.ListN.{length, set, length-append, length-set}
 use borrow.Author.Tests.{ltb-true, ltb-false}
 use Rattle.refusal.proofs.Laws.{and_left, and_right}
@@ -17,10 +17,10 @@ use Rattle.packet.specs.Header.{id_length, shortest_packet, s_bit}
 use Rattle.packet.specs.Segments.{Segment, entry_width}
 use Rattle.sender.specs.declared.Position.{Position}
 use Rattle.sender.specs.declared.Progress.{Progress}
-use Rattle.sender.specs.Cut.{frame_length, index_of, segment_from, Cut, goes_on, cut}
+use Rattle.sender.specs.Cut.{index_of, segment_from, Cut, goes_on, cut}
 use Rattle.sender.specs.Packet.{entry_number, entry_of, body_of, header_of}
 use Rattle.sender.specs.Send.{most_segments}
-use Rattle.sender.specs.Inside.{entries_at, Placeable, size_for, position_after, placed_next, entry_for, with_entry, Ready, cut_of, Written}
+use Rattle.sender.specs.Inside.{entries_at, Placeable, size_for, placed_next, entry_for, with_entry, Ready, cut_of, Written}
 use Rattle.sender.proofs.Reading.{length-entries}
 use Rattle.sender.proofs.Positions.{Framed, framed, inside, place-within, carried-place, carried-bytes}
 use Rattle.sender.proofs.Cutting.{Cutting, cutting_start, frames_remain, room-enough, offset_below, body_length, place_keeps}
@@ -55,34 +55,12 @@ module _ (d : List ℕ) (session flow count number : ℕ) (long : shortest_packe
 
   -- `first` and `last` are what the code finds behind its two writes
   module _ (first : List ℕ) (id-written : first ≡ put d 0 (four session)) where
-    pub mark_inside : id_length + 1 < length (set first id_length (s_bit + flow))
-    mark_inside = rw id-written second_inside
-
-    pub number-inside : id_length + 2 + 1 < length (set (set first id_length (s_bit + flow)) (id_length + 1) count)
-    number-inside = rw id-written (omega (arith, marks_long))
-
     module _ (last : List ℕ) (written : last
         ≡ put (set (set first id_length (s_bit + flow)) (id_length + 1) count) (id_length + 2) (two number)) where
       pub header-written : last ≡ put d 0 (header_of session flow count number)
       header-written =
           written ∙ ap (λ (l : List ℕ). put (set (set l id_length (s_bit + flow)) (id_length + 1) count) (id_length + 2) (two number))
           id-written ∙ header-put
-
-      pub header_long : length last ≡ length d
-      header_long = ap length header-written ∙ length-put d 0 (header_of session flow count number) (omega arith)
-
--- One segment. `size` and `left` are what the code has found.
-pub placed_next_lem : (lengths : List ℕ) (p : Progress) (long size : ℕ) (behind : Position) → long ≡ frame_length lengths p.position.frame →
-    size ≡ min (long - p.position.offset) (p.room - entry_width) →
-    behind ≡ position_after p.position size (eqb size (long - p.position.offset)) →
-    ◌≡◌ {A = Progress} (record { room = p.room - (entry_width + size); position = behind; count = p.count + 1; bytes = p.bytes + size })
-    (placed_next lengths p)
-placed_next_lem lengths p long size behind e s b = rw (b, s, e) refl
-
-pub placed_entry : (lengths : List ℕ) (p : Progress) (long size entry : ℕ) → long ≡ frame_length lengths p.position.frame →
-    size ≡ min (long - p.position.offset) (p.room - entry_width) →
-    entry ≡ entry_number (eqb p.position.offset 0) (eqb size (long - p.position.offset)) size → two entry ≡ entry_for lengths p
-placed_entry lengths p long size entry e s n = rw (n, s, e) refl
 
 -- The loop that cuts.
 module _ (bytes lengths : List ℕ) (room : ℕ) (from : Position) (output : List ℕ)
@@ -149,9 +127,6 @@ module _ (bytes lengths : List ℕ) (room : ℕ) (from : Position) (output : Lis
             entry_inside = omega (arith, output_long, in_room, enough, ready.output_long);
             few_bytes = omega (arith, in_room, ready.small);
           }
-
-      pub writing_less : (q : Progress) → q ≡ placed_next lengths p → most_segments - q.count < most_segments - p.count
-      writing_less q e = rw e (omega (arith, one_more))
 
       pub writing_turn : (q : Progress) (output'' : List ℕ) → q ≡ placed_next lengths p → output'' ≡ with_entry output' lengths p →
           Writing output'' q

@@ -1,8 +1,10 @@
 -- Inside: what functions promise each other on the way to a result. Nobody has to believe this file: the result is said without it.
 -- Here: how the code's counts and the output stand for a cut.
 use Rattle.std.specs.Prelude.{ℕ, ◌+◌, ◌-◌, ◌*◌, ◌<◌, ◌≤◌, min, ◌≡◌, Bool, false, cond, List, [], ◌++◌, map, eqb, length}
+use Rattle.std.specs.Prelude.{Option, Some, None}
 use Rattle.octets.specs.Bytes.{two}
 use Rattle.octets.specs.Stretch.{put, joined}
+use Rattle.octets.specs.Count.{any, sum_to}
 use Rattle.flow.specs.Flow.{longest}
 use Rattle.packet.specs.Header.{shortest_packet}
 use Rattle.packet.specs.Segments.{entry_width}
@@ -10,11 +12,16 @@ use Rattle.sender.specs.declared.Position.{Position}
 use Rattle.sender.specs.declared.Progress.{Progress}
 use Rattle.sender.specs.Cut.{frame_length, left_of, next_frame, farther_on, after, Cut, least_room, cut}
 use Rattle.sender.specs.Packet.{entry_number, entry_of, body_of}
-use Rattle.sender.specs.Send.{most_frames, most_segments, greatest_limit, bad_frames, outside}
+use Rattle.sender.specs.Send.{most_frames, most_segments, greatest_limit, bad_length, bad_frames, outside}
 
 -- where the entries start: behind the session ID and the header
 abbrev pub entries_at : ℕ
 entries_at = shortest_packet
+
+-- how long all frames are together, where each length is some frame's
+abbrev pub surveyed : List ℕ → Option ℕ
+surveyed lengths =
+    cond (any (bad_length lengths) (length lengths)) None (Some (sum_to (frame_length lengths) (length lengths)))
 
 -- A segment can be placed: a frame remains, and so does the room, in the cut and in the output.
 pub record Placeable (output lengths : List ℕ) (p : Progress) : Type 0 where

@@ -5,21 +5,23 @@
 // one copy writes them once it is known how many entries stand before them.
 #![tactic(auto)]
 
-ghost use Rattle.std.specs.Prelude.{◌≡◌, ◌+◌, ◌*◌, ◌<◌, ◌≤◌, min, ◌&&◌, ◌++◌, ltb, leb, length};
+ghost use Rattle.std.specs.Prelude.{◌≡◌, ◌+◌, ◌*◌, ◌<◌, ◌≤◌, ◌&&◌, ◌++◌, ltb, leb, length};
 ghost use Rattle.refusal.specs.Refusal.{first};
+ghost use Rattle.refusal.specs.Number.{code_of};
 ghost use Rattle.octets.specs.Stretch.{put};
-ghost use Rattle.octets.specs.Count.{any, sum_to};
 ghost use Rattle.flow.specs.Flow.{longest, top_flow};
 ghost use Rattle.packet.specs.Header.{shortest_packet};
 ghost use Rattle.packet.specs.Segments.{entry_width, length_values};
-ghost use Rattle.sender.specs.Cut.{frame_length, index_of, least_room};
+ghost use Rattle.sender.specs.Cut.{index_of, least_room};
 ghost use Rattle.sender.specs.Packet.{worth as bitWorth, entry_number, header_of};
-ghost use Rattle.sender.specs.Send.{most_frames, most_segments, greatest_limit, bad_size, bad_length, bad_frames, outside, early_refusals};
+ghost use Rattle.sender.specs.Send.{most_frames, most_segments, greatest_limit, bad_size, bad_frames, outside, early_refusals};
 ghost use Rattle.sender.specs.Send.{later_refusals, PermitsSend};
-ghost use Rattle.sender.specs.Inside.{Placeable, position_after, placed_next, with_entry, Ready, cut_of, Written};
+ghost use Rattle.sender.specs.Inside.{surveyed, Placeable, position_after, placed_next, with_entry, Ready, cut_of, Written};
 
 use flow::Flow;
 use packet::{header, psp};
+use refusal::Refusal;
+use std::cmp::min;
 
 // The most frames that a call takes, and the most segments of a packet: its count has 7 bits.
 pub const MOST_FRAMES: usize = 127;
@@ -65,13 +67,6 @@ struct Progress {
     bytes: usize,
 }
 
-// What the first lengths say: how long their frames are together, and whether one of them is no frame's length.
-#[derive(Clone, Copy)]
-struct Surveyed {
-    total: usize,
-    bad: bool,
-}
-
 // Writes the next packet of these frames for a flow of a session at the front of the output; or refuses, and then nothing has changed.
 pub fn send(
     session: u32,
@@ -96,7 +91,7 @@ pub fn send(
         })
         (record { answer = result; output = output.new }) }
 {
-    let refused = refuse(
+    let judged = refuse(
         session,
         flow,
         limit,
@@ -105,9 +100,9 @@ pub fn send(
         position,
         output.len(),
     );
-    if refused != refusal::NONE {
+    if let Err(refusal) = judged {
         return Sent {
-            code: refused,
+            code: u32::from(refusal),
             length: 0,
             position,
             number,
@@ -116,59 +111,42 @@ pub fn send(
     let room = limit - header::HEADER_LENGTH;
     let cut = write_segments(output, frames, lengths, room, position);
     write_header(output, session, flow, cut.count, number);
-    let behind = cut.position;
-    let length = ENTRIES_AT + psp::ENTRY_WIDTH * cut.count + cut.bytes;
-    let following = flow::number_after(number);
     Sent {
-        code: refusal::NONE,
-        length,
-        position: behind,
-        number: following,
+        code: 0,
+        length: ENTRIES_AT + psp::ENTRY_WIDTH * cut.count + cut.bytes,
+        position: cut.position,
+        number: flow::number_after(number),
     }
-}
-
-fn least(a: usize, b: usize) -> usize
-    ensures { result ≡ min a b }
-{
-    if a < b { a } else { b }
 }
 
 // Whether this is no frame's length.
 fn bad_length(length: usize) -> bool
     ensures { result ≡ bad_size length }
 {
-    (length == 0) | ((Flow::LONGEST as usize) < length)
+    (length == 0) | (usize::from(Flow::LONGEST) < length)
 }
 
-// Surveys the first n lengths.
-fn survey(lengths: &[u16], n: usize) -> Surveyed
-    requires { (n ≤ length lengths.now) × (n ≤ most_frames) }
-    ensures total_value { result.total ≡ sum_to (frame_length lengths.now) n }
-    ensures bad_value { result.bad ≡ any (bad_length lengths.now) n }
-    ensures total_bound { result.total ≤ 65536 * n }
+// How long these frames are together; or None, where one of the lengths is no frame's. (It looks at all lengths, whatever they are: a loop
+// without a way out is made into vector instructions.)
+fn survey(lengths: &[u16]) -> Option<usize>
+    requires { length lengths.now ≤ most_frames }
+    ensures { result ≡ surveyed lengths.now }
 {
-    let mut total: usize = 0;
+    let mut total = 0;
     let mut bad = false;
-    let mut k: usize = 0;
-    while k < n {
-        let length = octets::wide_u16(lengths[k]);
+    for length in lengths {
+        let length = usize::from(*length);
         total += length;
-        bad = bad | bad_length(length);
-        k += 1;
+        bad |= bad_length(length);
     }
-    Surveyed { total, bad }
+    if bad { None } else { Some(total) }
 }
 
 // Refusal 33's condition: too many frames, a length that is none, or lengths that do not add up to the bytes.
 fn bad_frames(total: usize, lengths: &[u16]) -> bool
     ensures { result ≡ bad_frames total lengths.now }
 {
-    let count = lengths.len();
-    if MOST_FRAMES < count {
-        return true;
-    }
-    let surveyed = survey(lengths, count);
-    surveyed.bad | (surveyed.total != total)
+    lengths.len() > MOST_FRAMES || survey(lengths) != Some(total)
 }
 
 // Refusal 34's condition: a frame above the count, an offset that its frame has not, or an offset behind the last frame.
@@ -178,45 +156,56 @@ fn is_outside(lengths: &[u16], position: Position) -> bool
     let count = lengths.len();
     let frame = position.frame;
     if frame < count {
-        return octets::wide_u16(lengths[frame]) <= position.offset;
+        return usize::from(lengths[frame]) <= position.offset;
     }
     (count < frame) | (position.offset != 0)
 }
 
-// Refusals 31 to 33, which look neither at the position nor at the output; or 0.
-fn refuse_early(session: u32, flow: usize, limit: usize, total: usize, lengths: &[u16]) -> u32
-    ensures { result ≡ first (early_refusals session flow limit total lengths.now) }
+// Refusals 31 to 33, which look neither at the position nor at the output.
+fn refuse_early(
+    session: u32,
+    flow: usize,
+    limit: usize,
+    total: usize,
+    lengths: &[u16],
+) -> Result<(), Refusal>
+    ensures { code_of result ≡ first (early_refusals session flow limit total lengths.now) }
 {
     if (session == 0) | (Flow::TOP < flow) {
-        return refusal::ADDRESS_OUTSIDE;
+        return Err(Refusal::AddressOutside);
     }
     if (limit < LEAST_LIMIT) | (GREATEST_LIMIT < limit) {
-        return refusal::LIMIT_OUTSIDE;
+        return Err(Refusal::LimitOutside);
     }
     if bad_frames(total, lengths) {
-        return refusal::FRAMES_UNSOUND;
+        return Err(Refusal::FramesUnsound);
     }
-    refusal::NONE
+    Ok(())
 }
 
-// Refusals 34 to 36, of the position and the output; or 0. The output is to have room for any packet within the limit.
-fn refuse_later(limit: usize, lengths: &[u16], position: Position, space: usize) -> u32
+// Refusals 34 to 36, of the position and the output. The output is to have room for any packet within the limit.
+fn refuse_later(
+    limit: usize,
+    lengths: &[u16],
+    position: Position,
+    space: usize,
+) -> Result<(), Refusal>
     requires { limit ≤ greatest_limit }
-    ensures { result ≡ first (later_refusals limit lengths.now position space) }
+    ensures { code_of result ≡ first (later_refusals limit lengths.now position space) }
 {
     if is_outside(lengths, position) {
-        return refusal::POSITION_OUTSIDE;
+        return Err(Refusal::PositionOutside);
     }
     if position.frame == lengths.len() {
-        return refusal::NOTHING_LEFT;
+        return Err(Refusal::NothingLeft);
     }
     if space < limit + header::ID_LENGTH {
-        return refusal::OUTPUT_TOO_SMALL;
+        return Err(Refusal::OutputTooSmall);
     }
-    refusal::NONE
+    Ok(())
 }
 
-// Refusals 31 to 36 in order, or 0.
+// Refusals 31 to 36 in order.
 fn refuse(
     session: u32,
     flow: usize,
@@ -225,14 +214,11 @@ fn refuse(
     lengths: &[u16],
     position: Position,
     space: usize,
-) -> u32
-    ensures { result ≡ first (early_refusals session flow limit total lengths.now
+) -> Result<(), Refusal>
+    ensures { code_of result ≡ first (early_refusals session flow limit total lengths.now
         ++ later_refusals limit lengths.now position space) }
 {
-    let refused = refuse_early(session, flow, limit, total, lengths);
-    if refused != refusal::NONE {
-        return refused;
-    }
+    refuse_early(session, flow, limit, total, lengths)?;
     refuse_later(limit, lengths, position, space)
 }
 
@@ -258,16 +244,14 @@ fn position_after(position: Position, size: usize, ends: bool) -> Position
     ensures { result ≡ position_after position size ends }
 {
     if ends {
-        let following = position.frame + 1;
         return Position {
-            frame: following,
+            frame: position.frame + 1,
             offset: 0,
         };
     }
-    let further = position.offset + size;
     Position {
         frame: position.frame,
-        offset: further,
+        offset: position.offset + size,
     }
 }
 
@@ -278,22 +262,17 @@ fn place(output: &mut [u8], lengths: &[u16], progress: Progress) -> Progress
     ensures output_after { output.new ≡ with_entry output.old lengths.now progress }
 {
     let position = progress.position;
-    let frame = position.frame;
-    let left = octets::wide_u16(lengths[frame]) - position.offset;
-    let size = least(left, progress.room - psp::ENTRY_WIDTH);
+    let left = usize::from(lengths[position.frame]) - position.offset;
+    let size = min(left, progress.room - psp::ENTRY_WIDTH);
     let begins = position.offset == 0;
     let ends = size == left;
     let at = ENTRIES_AT + psp::ENTRY_WIDTH * progress.count;
     octets::write_u16(output, at, entry_number(begins, ends, size));
-    let room = progress.room - (psp::ENTRY_WIDTH + size);
-    let behind = position_after(position, size, ends);
-    let count = progress.count + 1;
-    let bytes = progress.bytes + size;
     Progress {
-        room,
-        position: behind,
-        count,
-        bytes,
+        room: progress.room - (psp::ENTRY_WIDTH + size),
+        position: position_after(position, size, ends),
+        count: progress.count + 1,
+        bytes: progress.bytes + size,
     }
 }
 
@@ -338,8 +317,11 @@ fn index_of(lengths: &[u16], position: Position) -> usize
     requires { (position.frame ≤ length lengths.now) × (length lengths.now ≤ most_frames) × (position.offset ≤ longest) }
     ensures { result ≡ index_of lengths.now position }
 {
-    let before = survey(lengths, position.frame);
-    before.total + position.offset
+    let mut start = 0;
+    for length in &lengths[..position.frame] {
+        start += usize::from(*length);
+    }
+    start + position.offset
 }
 
 // Writes the session ID and the header at the front of a packet: S set, V, H and X and the reserved bit 0.

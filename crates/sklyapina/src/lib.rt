@@ -42,7 +42,7 @@ pub extern "C" fn sklyapina_close(table: Table, id: u32) -> Closing
 pub extern "C" fn sklyapina_check(kind: u32, transport: u32, packet: &[u8]) -> u32
     ensures { PermitsCheck kind (packet_by transport packet.now) result }
 {
-    packet::check(kind, transport, packet)
+    refusal::code(packet::check(kind, transport, packet))
 }
 
 // Why segment k of a packet is refused, or 0. Only PSP packets have segments.
@@ -50,7 +50,7 @@ pub extern "C" fn sklyapina_check(kind: u32, transport: u32, packet: &[u8]) -> u
 pub extern "C" fn sklyapina_segment_cause(kind: u32, transport: u32, packet: &[u8], k: usize) -> u32
     ensures { PermitsSegmentCause kind (packet_by transport packet.now) k result }
 {
-    packet::segment_cause(kind, transport, packet, k)
+    refusal::code(packet::segment_cause(kind, transport, packet, k))
 }
 
 // Where segment k of a packet stands in it, counted from its first byte; place and length 0 where it is refused.
@@ -58,7 +58,7 @@ pub extern "C" fn sklyapina_segment_cause(kind: u32, transport: u32, packet: &[u
 pub extern "C" fn sklyapina_segment(kind: u32, transport: u32, packet: &[u8], k: usize) -> Extent
     ensures { PermitsSegmentExtent kind (packet_by transport packet.now) k result }
 {
-    packet::segment_extent(kind, transport, packet, k)
+    packet::segment_extent(kind, transport, packet, k).unwrap_or(Extent { start: 0, size: 0 })
 }
 
 // Copies segment k of a packet to the front of the output, as much of it as there is room for, and says how long it is; 0, and nothing is

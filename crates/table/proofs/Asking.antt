@@ -1,25 +1,32 @@
 -- Rule 13 as the code asks it (specs/Inside.antt) is rule 13 as defined: a flow that heard a packet is held to what its row's kind allows,
 -- and any other to zeros. Where no row is broken by itself the open rows are those whose ID is not 0, so that IDs alone tell whether a
 -- session is open twice, and where it is open.
-use Prim.Native.Nat.{ℕ, zero, suc, ◌<◌}
-use mathlib.Core.Path.{◌≡◌, refl, sym, ◌∙◌}
-use mathlib.Core.Bool.{Bool, true, false, not, ◌&&◌, ◌||◌, or-true, or-false, and-false, true≢false}
+use Prim.Native.Nat.{ℕ, zero, suc, ◌<◌, ◌≤◌}
+use mathlib.Core.Path.{◌≡◌, refl, sym, ap, ◌∙◌}
+use mathlib.Core.Bool.{Bool, true, false, not, ◌&&◌, ◌||◌, or-true, or-false, and-true, and-false, cond, true≢false}
+use mathlib.Core.List.{List, [], ◌∷◌}
 use mathlib.Core.Logic.{◌⊎◌, inl, inr, ⊎_elim}
 use native.Mathlib.Omega.{arith}
 use borrow.Author.Tests.{eqb-true, eqb-false, eq-eqb, ne_eqb, lt-ltb, le-ltb, not-false}
 use lib.Dec.{eqb, ltb}
-use lib.ListN.{get_or}
+use lib.ListN.{get_or, length, take}
+use Rattle.std.specs.Prelude.{Ok, Err}
+use Rattle.std.specs.List.{list_any, position}
 use Rattle.octets.specs.Count.{any}
-use Rattle.octets.proofs.Counts.{true-or-false, or-false-left, or-false-right, none_at, none_all, any_same}
+use Rattle.octets.proofs.Counts.{true-or-false, or-false-left, or-false-right, none_at, none_all, any_same, least-same}
 use Rattle.flow.specs.declared.Flow.{Flow}
 use Rattle.flow.specs.Flow.{flows, longest, heard_mark}
-use Rattle.packet.specs.Check.{kind_psp, kind_dmpt}
+use Rattle.refusal.specs.declared.Refusal.{Refusal}
+use Rattle.refusal.specs.declared.Refusal.TheVariants as refusal
+use Rattle.packet.specs.Check.{kind_psp, kind_dmpt, kind_unknown}
+use Rattle.table.specs.declared.Kind.{Kind}
 use Rattle.table.specs.declared.Row.{Row}
 use Rattle.table.specs.declared.Table.{Table}
-use Rattle.table.specs.Rows.{rows, is_closed, is_dmpt, kind_in, row_at, flow_at, open_in}
+use Rattle.table.specs.Rows.{rows, is_closed, is_dmpt, kind_in, no_row, row_at, flow_at, open_in, find, lowest_free}
 use Rattle.table.specs.Broken.{not_zero, flow_broken, id_broken, kind_broken, flow_broken_in, row_broken, same_open, open_twice, broken}
-use Rattle.table.specs.Inside.{flow_unfit, any_unfit, ids_of, id_twice}
+use Rattle.table.specs.Inside.{flow_unfit, any_unfit, ids_of, id_twice, kind_of, row_told}
 use Rattle.table.proofs.Keeping.{rows-sound}
+use Rattle.octets.proofs.Listed.{any_front, any_listed, position_listed}
 
 -- A flow, by its mark. One that heard nothing is all zero in any row, and one with a mark that there is not is in none.
 abbrev flow_of_lem : ℕ → ℕ → ℕ → Flow
@@ -82,14 +89,33 @@ alike b zero = refl
 alike b (suc k) = refl
 
 -- A row by itself, in each branch of `row_broken`.
-module _ (row : Row) where
+left_to_right : (a b c d : Bool) → (a || b || c || d) ≡ (a || (b || (c || (d || false))))
+left_to_right true b c d = refl
+left_to_right false true c d = refl
+left_to_right false false true d = refl
+left_to_right false false false true = refl
+left_to_right false false false false = refl
+
+flow_0_and_others : (first others : Bool) (most : ℕ) (row : Row) (fs : List Flow) → row.flows ≡ fs → length fs ≡ flows →
+    any (λ k. flow_unfit (hearing first others k) most (flow_at row k)) flows ≡ any_unfit first others most row
+unfolding any
+flow_0_and_others first others most row (a ∷ b ∷ c ∷ d ∷ []) e four =
+    rw e
+    (left_to_right (flow_unfit first most a) (flow_unfit others most b) (flow_unfit others most c) (flow_unfit others most d))
+flow_0_and_others first others most row [] e four = absurd (omega (arith, four))
+flow_0_and_others first others most row (a ∷ []) e four = absurd (omega (arith, four))
+flow_0_and_others first others most row (a ∷ b ∷ []) e four = absurd (omega (arith, four))
+flow_0_and_others first others most row (a ∷ b ∷ c ∷ []) e four = absurd (omega (arith, four))
+flow_0_and_others first others most row (a ∷ b ∷ c ∷ d ∷ f ∷ more) e four = absurd (omega (arith, four))
+
+module _ (row : Row) (four : length row.flows ≡ flows) where
   flows_asked : (first others : Bool) (most : ℕ) →
       ((k : ℕ) (f : Flow) →
       flow_broken (is_closed row.kind) (is_dmpt (kind_in row.kind)) k f ≡ flow_unfit (hearing first others k) most f) →
       any (flow_broken_in row) flows ≡ any_unfit first others most row
-  unfolding any
   flows_asked first others most same =
       any_same (flow_broken_in row) (λ k. flow_unfit (hearing first others k) most (flow_at row k)) flows (λ k l. same k (flow_at row k))
+      ∙ flow_0_and_others first others most row row.flows refl four
 
   pub psp_asked : row.kind ≡ kind_psp → row_broken row ≡ (eqb row.id 0 || any_unfit true true longest row)
   psp_asked kind =
@@ -98,16 +124,8 @@ module _ (row : Row) where
   pub dmpt_asked : row.kind ≡ kind_dmpt → row_broken row ≡ (eqb row.id 0 || any_unfit true false 0 row)
   dmpt_asked kind = rw (flows_asked true false 0 (λ k f. rw kind (dmpt_flow k f)), kind, or-false) refl
 
-  closed_asked : row.kind ≡ 0 → row_broken row ≡ (not_zero row.id || any_unfit false false 0 row)
+  pub closed_asked : row.kind ≡ 0 → row_broken row ≡ (not_zero row.id || any_unfit false false 0 row)
   closed_asked kind = rw (flows_asked false false 0 (λ k f. rw (kind, alike false k) (closed-flow k f)), kind) refl
-
-  pub other_asked : (row.kind ≡ kind_psp → ⊥) → (row.kind ≡ kind_dmpt → ⊥) →
-      row_broken row ≡ (not_zero row.kind || not_zero row.id || any_unfit false false 0 row)
-  other_asked psp dmpt =
-      ⊎_elim
-      (λ (z : eqb row.kind 0 ≡ true). closed_asked (eqb-true row.kind 0 z) ∙ rw z refl)
-      (λ (z : eqb row.kind 0 ≡ false). rw (z, ne_eqb row.kind kind_psp psp, ne_eqb row.kind kind_dmpt dmpt) refl)
-      (true-or-false (eqb row.kind 0))
 
 -- A row that is not broken by itself is closed exactly where its ID is 0.
 agree : (c z : Bool) → ((not c && z) || (c && not z)) ≡ false → c ≡ z
@@ -183,3 +201,55 @@ found_by_id t id r whole named l =
     rw (closed_by_id (row_at t r) (rows-sound t whole r l), eqb-true (row_at t r).id id same, ne_eqb id 0 named) refl)
     (λ (other : eqb (row_at t r).id id ≡ false). rw other (and-false (not (is_closed (row_at t r).kind))))
     (true-or-false (eqb (row_at t r).id id))
+
+-- What the searches answer, which go through the rows in order.
+pub found-by_id : (t : Table) (id : ℕ) → length t.rows ≡ rows → broken t ≡ false → (id ≡ 0 → ⊥) →
+    position (λ (row : Row). eqb row.id id) t.rows ≡ row_told (find t id)
+found-by_id t id six whole named =
+    position_listed (λ (row : Row). eqb row.id id) t.rows no_row
+    ∙ rw six
+    (ap row_told
+    (least-same (λ r. eqb (row_at t r).id id) (open_in t id) rows (λ r l. sym (found_by_id t id r whole named l))))
+
+pub free-told : (t : Table) → length t.rows ≡ rows → position (λ (row : Row). is_closed row.kind) t.rows ≡ row_told (lowest_free t)
+free-told t six = position_listed (λ (row : Row). is_closed row.kind) t.rows no_row ∙ rw six refl
+
+-- The rows one after another are the rows by number.
+pub rows-asked : (t : Table) → length t.rows ≡ rows → list_any row_broken t.rows ≡ any (λ r. row_broken (row_at t r)) rows
+rows-asked t six = any_listed row_broken t.rows no_row ∙ rw six refl
+
+-- An ID that is not 0 is sought among those before it; 0 is not asked for.
+id_sought : (ids : List ℕ) (i : ℕ) → i ≤ length ids → (get_or ids i 0 ≡ 0 → ⊥) →
+    list_any (λ id. eqb id (get_or ids i 0)) (take i ids) ≡ any (id_twice ids i) i
+id_sought ids i within named =
+    any_front (λ id. eqb id (get_or ids i 0)) ids 0 i within
+    ∙ any_same (λ j. eqb (get_or ids j 0) (get_or ids i 0)) (id_twice ids i) i
+    (λ j l. rw (ne_eqb (get_or ids i 0) 0 named) (sym (and-true (eqb (get_or ids j 0) (get_or ids i 0)))))
+
+id_none : (ids : List ℕ) (i : ℕ) → get_or ids i 0 ≡ 0 → any (id_twice ids i) i ≡ false
+id_none ids i none =
+    none_all (id_twice ids i) i (λ j l. rw (none, and-false (eqb (get_or ids j 0) 0)) refl)
+
+pub id_asked : (ids : List ℕ) (i : ℕ) → i ≤ length ids →
+    (not_zero (get_or ids i 0) && list_any (λ id. eqb id (get_or ids i 0)) (take i ids)) ≡ any (id_twice ids i) i
+id_asked ids i within =
+    ⊎_elim
+    (λ (z : eqb (get_or ids i 0) 0 ≡ true). rw z (sym (id_none ids i (eqb-true (get_or ids i 0) 0 z))))
+    (λ (z : eqb (get_or ids i 0) 0 ≡ false). rw z (id_sought ids i within (eqb-false (get_or ids i 0) 0 z)))
+    (true-or-false (eqb (get_or ids i 0) 0))
+
+-- A number that says a kind, and one that says none.
+told_kind : (unknown : Bool) (kind told : Kind) → cond unknown (Err refusal.NumberUnknown) (Ok kind) ≡ Ok told → (unknown ≡ false) × (kind ≡ told)
+told_kind true kind told e = cc
+told_kind false kind told e = (refl, cc)
+
+pub known_kind : (number : ℕ) (told : Kind) → kind_of number ≡ Ok told → (kind_unknown number ≡ false) × (kind_in number ≡ told)
+known_kind number told e = told_kind (kind_unknown number) (kind_in number) told e
+
+told_none : (unknown : Bool) (kind : Kind) (r : Refusal) → cond unknown (Err refusal.NumberUnknown) (Ok kind) ≡ Err r →
+    (unknown ≡ true) × (refusal.NumberUnknown ≡ r)
+told_none true kind r e = (refl, cc)
+told_none false kind r e = cc
+
+pub unknown_kind : (number : ℕ) (r : Refusal) → kind_of number ≡ Err r → (kind_unknown number ≡ true) × (refusal.NumberUnknown ≡ r)
+unknown_kind number r e = told_none (kind_unknown number) (kind_in number) r e

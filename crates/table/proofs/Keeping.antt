@@ -251,6 +251,10 @@ emptied-flow_keeps t r k whole l m =
     (none_at (flow_broken_in row) flows k (row_flows row (rows-sound t whole r l)) m))
 
 -- A call that is refused leaves the table as it was, and drops nothing.
+pub opened_by-some : (c : ℕ) (t : Table) (q : Request) → (c ≡ 0 → ⊥) → opened_by c t q ≡ record { code = c; table = t }
+opened_by-some zero t q some = absurd (some refl)
+opened_by-some (suc c) t q some = refl
+
 opened_by-refused : (c : ℕ) (t : Table) (q : Request) → ((opened_by c t q).code ≡ 0 → ⊥) →
     (opened_by c t q).table ≡ t
 opened_by-refused zero t q refused = absurd (refused refl)
@@ -259,6 +263,10 @@ opened_by-refused (suc c) t q refused = refl
 pub refused_keeps : (t : Table) (q : Request) → ((opened t q).code ≡ 0 → ⊥) → (opened t q).table ≡ t
 unfolding opened
 refused_keeps t q refused = opened_by-refused (first (open_refusals t q)) t q refused
+
+pub closed_by-some : (c : ℕ) (t : Table) (id : ℕ) → (c ≡ 0 → ⊥) → closed_by c t id ≡ record { code = c; dropped = 0; table = t }
+closed_by-some zero t id some = absurd (some refl)
+closed_by-some (suc c) t id some = refl
 
 closed_by-refused : (c : ℕ) (t : Table) (id : ℕ) → ((closed_by c t id).code ≡ 0 → ⊥) →
     ((closed_by c t id).table ≡ t) × ((closed_by c t id).dropped ≡ 0)

@@ -5,13 +5,14 @@
 
 ghost use Rattle.std.specs.Prelude.{◌≡◌, false, ◌<◌};
 ghost use Rattle.octets.specs.Count.{any};
-ghost use Rattle.table.specs.Rows.{PermitsEmpty, rows, row_at, closed_row, is_closed, kind_in, number_of, is_dmpt, terms_of};
+ghost use Rattle.table.specs.Rows.{PermitsEmpty, rows, closed_row, is_closed, number_of, is_dmpt, terms_of};
 ghost use Rattle.table.specs.Rows.{find, lowest_free, held_in};
 ghost use Rattle.table.specs.Broken.{row_broken, broken};
-ghost use Rattle.table.specs.Calls.{fresh_row, PermitsOpen, PermitsOpenByNumber, PermitsClose};
-ghost use Rattle.table.specs.Inside.{flow_unfit, any_unfit, id_twice, ids_of};
+ghost use Rattle.table.specs.Calls.{open_refusals, fresh_row, PermitsOpen, PermitsOpenByNumber, close_refusals, PermitsClose};
+ghost use Rattle.table.specs.Inside.{kind_of, flow_unfit, any_unfit, id_twice, ids_of, row_told, Finds};
 
 use flow::{FLOWS, Flow};
+use refusal::Refusal;
 
 // How many rows the table has, one to a session.
 pub const ROWS: usize = 6;
@@ -38,10 +39,36 @@ pub struct Table {
 }
 
 // The kind of a session.
-#[derive(Clone, Copy)]
+#[derive(Clone, Copy, PartialEq, Eq)]
 pub enum Kind {
     Psp,
     Dmpt,
+}
+
+impl From<Kind> for u32 {
+    ghost from_gives = { λ kind number. number ≡ number_of kind };
+
+    fn from(kind: Kind) -> u32 {
+        match kind {
+            Kind::Psp => PSP,
+            Kind::Dmpt => DMPT,
+        }
+    }
+}
+
+// Here alone a kind number becomes a `Kind`.
+impl TryFrom<u32> for Kind {
+    type Error = Refusal;
+
+    ghost try_from_gives = { λ number kind. kind ≡ kind_of number };
+
+    fn try_from(number: u32) -> Result<Self, Refusal> {
+        match number {
+            PSP => Ok(Kind::Psp),
+            DMPT => Ok(Kind::Dmpt),
+            _ => Err(Refusal::NumberUnknown),
+        }
+    }
 }
 
 // What an open asks for. A `Kind` is PSP or D-MPT, so that nothing else can be asked for.
@@ -80,8 +107,60 @@ impl Table {
     pub fn empty() -> Self
         ensures { PermitsEmpty result }
     {
-        let row = closed_row();
-        Table { rows: [row; ROWS] }
+        Table {
+            rows: [closed_row(); ROWS],
+        }
+    }
+
+    // Refusal 13: whether the table is broken, in any row. Where no row is broken by itself the open rows are those whose ID is not 0.
+    pub fn is_broken(&self) -> bool
+        ensures { result ≡ broken self.now }
+    {
+        self.rows.iter().any(row_broken) || any_id_twice(&ids_of(self))
+    }
+
+    // The row where a session is open. It is asked where the table is not broken and the ID not 0: then no closed row has the ID.
+    pub fn find_row(&self, id: u32) -> Option<usize>
+        requires { (broken self.now ≡ false) × (id ≡ 0 → ⊥) }
+        ensures { result ≡ row_told (find self.now id) }
+    {
+        self.rows.iter().position(|row| row.id == id)
+    }
+
+    // The lowest closed row.
+    fn lowest_free(&self) -> Option<usize>
+        ensures { result ≡ row_told (lowest_free self.now) }
+    {
+        self.rows.iter().position(|row| is_closed(row.kind))
+    }
+
+    // The row that an open takes.
+    fn row_to_open(&self, request: Request) -> Result<usize, Refusal>
+        ensures { Finds (open_refusals self.now request) (lowest_free self.now) result }
+    {
+        if self.is_broken() {
+            return Err(Refusal::TableBroken);
+        }
+        if request.id == 0 {
+            return Err(Refusal::OpenWithoutId);
+        }
+        if self.find_row(request.id).is_some() {
+            return Err(Refusal::AlreadyOpen);
+        }
+        self.lowest_free().ok_or(Refusal::AllRowsOpen)
+    }
+
+    // The row that a close of this ID empties.
+    fn row_to_close(&self, id: u32) -> Result<usize, Refusal>
+        ensures { Finds (close_refusals self.now id) (find self.now id) result }
+    {
+        if self.is_broken() {
+            return Err(Refusal::TableBroken);
+        }
+        if id == 0 {
+            return Err(Refusal::CloseOfNone);
+        }
+        self.find_row(id).ok_or(Refusal::CloseOfNone)
     }
 }
 
@@ -89,11 +168,10 @@ impl Table {
 fn closed_row() -> Row
     ensures { result ≡ closed_row }
 {
-    let fresh = Flow::fresh();
     Row {
         id: 0,
         kind: CLOSED,
-        flows: [fresh; FLOWS],
+        flows: [Flow::fresh(); FLOWS],
     }
 }
 
@@ -101,33 +179,11 @@ fn closed_row() -> Row
 fn fresh_row(request: Request) -> Row
     ensures { result ≡ fresh_row request }
 {
-    let fresh = Flow::fresh();
-    let asked = request.kind;
-    let kind = number_of(asked);
     Row {
         id: request.id,
-        kind,
-        flows: [fresh; FLOWS],
+        kind: u32::from(request.kind),
+        flows: [Flow::fresh(); FLOWS],
     }
-}
-
-// The number of a kind, and the kind of a number. Here alone a kind number becomes a `Kind`.
-fn number_of(kind: Kind) -> u32
-    ensures { result ≡ number_of kind }
-{
-    match kind {
-        Kind::Psp => PSP,
-        Kind::Dmpt => DMPT,
-    }
-}
-
-fn kind_in(number: u32) -> Kind
-    ensures { result ≡ kind_in number }
-{
-    if number == DMPT {
-        return Kind::Dmpt;
-    }
-    Kind::Psp
 }
 
 pub fn is_closed(number: u32) -> bool
@@ -139,19 +195,16 @@ pub fn is_closed(number: u32) -> bool
 pub fn is_dmpt(kind: Kind) -> bool
     ensures { result ≡ is_dmpt kind }
 {
-    match kind {
-        Kind::Psp => false,
-        Kind::Dmpt => true,
-    }
+    kind == Kind::Dmpt
 }
 
-// The terms of a row's session: its kind, and the one longest frame that every session has so far.
+// The terms of a row's session: its kind, and the one longest frame that every session has so far. Of a row that is no session's they say
+// PSP, and no answer depends on that.
 pub fn terms_of(row: Row) -> Terms
     ensures { result ≡ terms_of row }
 {
-    let kind = kind_in(row.kind);
     Terms {
-        kind,
+        kind: Kind::try_from(row.kind).unwrap_or(Kind::Psp),
         longest: Flow::LONGEST,
     }
 }
@@ -167,192 +220,78 @@ fn flow_unfit(numbered: bool, most: u16, flow: Flow) -> bool
     (flow.heard != 0) | (flow.expected != 0) | (flow.held != 0)
 }
 
-fn any_unfit(first: bool, others: bool, most: u16, row: Row) -> bool
-    ensures { result ≡ any_unfit first others most row }
+// Whether flow 0, or one of the others, is what it may not be.
+fn any_unfit(first: bool, others: bool, most: u16, row: &Row) -> bool
+    ensures { result ≡ any_unfit first others most row.now }
 {
-    let a = row.flows[0];
-    if flow_unfit(first, most, a) {
-        return true;
-    }
-    let b = row.flows[1];
-    if flow_unfit(others, most, b) {
-        return true;
-    }
-    let c = row.flows[2];
-    if flow_unfit(others, most, c) {
-        return true;
-    }
-    let d = row.flows[3];
-    flow_unfit(others, most, d)
+    flow_unfit(first, most, row.flows[0])
+        || row.flows[1..]
+            .iter()
+            .any(|flow| flow_unfit(others, most, *flow))
 }
 
 // Whether a row is broken by itself. In a D-MPT row only flow 0 may have accepted a number, and nothing is held; a closed row is all zero;
 // and any kind above 2 is broken.
-fn row_broken(row: Row) -> bool
-    ensures { result ≡ row_broken row }
+fn row_broken(row: &Row) -> bool
+    ensures { result ≡ row_broken row.now }
 {
-    let kind = row.kind;
-    if kind == PSP {
-        if row.id == 0 {
-            return true;
-        }
-        return any_unfit(true, true, Flow::LONGEST, row);
+    match row.kind {
+        PSP => row.id == 0 || any_unfit(true, true, Flow::LONGEST, row),
+        DMPT => row.id == 0 || any_unfit(true, false, 0, row),
+        CLOSED => row.id != 0 || any_unfit(false, false, 0, row),
+        _ => true,
     }
-    if kind == DMPT {
-        if row.id == 0 {
-            return true;
-        }
-        return any_unfit(true, false, 0, row);
-    }
-    if (kind != CLOSED) | (row.id != 0) {
-        return true;
-    }
-    any_unfit(false, false, 0, row)
-}
-
-fn any_row_broken(table: Table) -> bool
-    ensures { result ≡ any (λ i. row_broken (row_at table i)) rows }
-{
-    let mut i: usize = 0;
-    while i < ROWS {
-        let row = table.rows[i];
-        if row_broken(row) {
-            return true;
-        }
-        i += 1;
-    }
-    false
 }
 
 // Whether the ID of row i is not 0 and stands in an earlier row too.
-fn id_before(ids: [u32; ROWS], i: usize) -> bool
+fn id_before(ids: &[u32; ROWS], i: usize) -> bool
     requires { i < rows }
-    ensures { result ≡ any (id_twice ids i) i }
+    ensures { result ≡ any (id_twice ids.now i) i }
 {
-    let mut j: usize = 0;
-    while j < i {
-        if (ids[j] == ids[i]) & (ids[i] != 0) {
-            return true;
-        }
-        j += 1;
-    }
-    false
+    let id = ids[i];
+    (id != 0) & ids[..i].contains(&id)
 }
 
-fn any_id_twice(ids: [u32; ROWS]) -> bool
-    ensures { result ≡ any (λ i. any (id_twice ids i) i) rows }
+fn any_id_twice(ids: &[u32; ROWS]) -> bool
+    ensures { result ≡ any (λ i. any (id_twice ids.now i) i) rows }
 {
-    let mut i: usize = 0;
-    while i < ROWS {
-        if id_before(ids, i) {
-            return true;
-        }
-        i += 1;
-    }
-    false
+    (0..ROWS).any(|i| id_before(ids, i))
 }
 
-fn ids_of(table: Table) -> [u32; ROWS]
-    ensures { result ≡ ids_of table }
+fn ids_of(table: &Table) -> [u32; ROWS]
+    ensures { result ≡ ids_of table.now }
 {
-    let a = table.rows[0];
-    let b = table.rows[1];
-    let c = table.rows[2];
-    let d = table.rows[3];
-    let e = table.rows[4];
-    let f = table.rows[5];
-    [a.id, b.id, c.id, d.id, e.id, f.id]
-}
-
-// Refusal 13: whether the table is broken, in any row. Where no row is broken by itself the open rows are those whose ID is not 0.
-pub fn is_broken(table: Table) -> bool
-    ensures { result ≡ broken table }
-{
-    if any_row_broken(table) {
-        return true;
-    }
-    let ids = ids_of(table);
-    any_id_twice(ids)
-}
-
-// The row where a session is open, or 6. It is asked where the table is not broken and the ID not 0: then no closed row has the ID.
-pub fn find_row(table: Table, id: u32) -> usize
-    requires { (broken table ≡ false) × (id ≡ 0 → ⊥) }
-    ensures { result ≡ find table id }
-{
-    let mut i: usize = 0;
-    while i < ROWS {
-        let row = table.rows[i];
-        if row.id == id {
-            return i;
-        }
-        i += 1;
-    }
-    ROWS
-}
-
-// The lowest closed row, or 6.
-fn lowest_free(table: Table) -> usize
-    ensures { result ≡ lowest_free table }
-{
-    let mut i: usize = 0;
-    while i < ROWS {
-        let row = table.rows[i];
-        if is_closed(row.kind) {
-            return i;
-        }
-        i += 1;
-    }
-    ROWS
+    table.rows.map(|row| row.id)
 }
 
 // The bytes that a row holds, all its flows together.
-fn held_in(row: Row) -> u32
-    ensures { result ≡ held_in row }
+fn held_in(row: &Row) -> u32
+    ensures { result ≡ held_in row.now }
 {
-    let a = row.flows[0];
-    let b = row.flows[1];
-    let c = row.flows[2];
-    let d = row.flows[3];
-    a.held as u32 + b.held as u32 + c.held as u32 + d.held as u32
+    let mut held = 0;
+    for flow in &row.flows {
+        held += u32::from(flow.held);
+    }
+    held
 }
 
 // Opens a session in the lowest free row.
 pub fn open(table: Table, request: Request) -> Opening
     ensures { PermitsOpen table request result }
 {
-    let id = request.id;
-    if is_broken(table) {
-        return Opening {
-            code: refusal::TABLE_BROKEN,
+    match table.row_to_open(request) {
+        Ok(at) => {
+            let mut next = table;
+            next.rows[at] = fresh_row(request);
+            Opening {
+                code: 0,
+                table: next,
+            }
+        }
+        Err(refusal) => Opening {
+            code: u32::from(refusal),
             table,
-        };
-    }
-    if id == 0 {
-        return Opening {
-            code: refusal::OPEN_WITHOUT_ID,
-            table,
-        };
-    }
-    if find_row(table, id) < ROWS {
-        return Opening {
-            code: refusal::ALREADY_OPEN,
-            table,
-        };
-    }
-    let at = lowest_free(table);
-    if ROWS <= at {
-        return Opening {
-            code: refusal::ALL_ROWS_OPEN,
-            table,
-        };
-    }
-    let mut next = table;
-    let row = fresh_row(request);
-    next.rows[at] = row;
-    Opening {
-        code: refusal::NONE,
-        table: next,
+        },
     }
 }
 
@@ -360,49 +299,34 @@ pub fn open(table: Table, request: Request) -> Opening
 pub fn open_by_number(table: Table, id: u32, number: u32) -> Opening
     ensures { PermitsOpenByNumber table id number result }
 {
-    if (number != PSP) & (number != DMPT) {
-        return Opening {
-            code: refusal::KIND_UNKNOWN,
+    match Kind::try_from(number) {
+        Ok(kind) => open(table, Request { id, kind }),
+        Err(refusal) => Opening {
+            code: u32::from(refusal),
             table,
-        };
+        },
     }
-    let kind = kind_in(number);
-    open(table, Request { id, kind })
 }
 
 // Closes a session: its row is emptied, and what its flows held is dropped.
 pub fn close(table: Table, id: u32) -> Closing
     ensures { PermitsClose table id result }
 {
-    if is_broken(table) {
-        return Closing {
-            code: refusal::TABLE_BROKEN,
+    match table.row_to_close(id) {
+        Ok(at) => {
+            let mut next = table;
+            let dropped = held_in(&next.rows[at]);
+            next.rows[at] = closed_row();
+            Closing {
+                code: 0,
+                dropped,
+                table: next,
+            }
+        }
+        Err(refusal) => Closing {
+            code: u32::from(refusal),
             dropped: 0,
             table,
-        };
-    }
-    if id == 0 {
-        return Closing {
-            code: refusal::CLOSE_OF_NONE,
-            dropped: 0,
-            table,
-        };
-    }
-    let at = find_row(table, id);
-    if ROWS <= at {
-        return Closing {
-            code: refusal::CLOSE_OF_NONE,
-            dropped: 0,
-            table,
-        };
-    }
-    let row = table.rows[at];
-    let mut next = table;
-    let empty = closed_row();
-    next.rows[at] = empty;
-    Closing {
-        code: refusal::NONE,
-        dropped: held_in(row),
-        table: next,
+        },
     }
 }

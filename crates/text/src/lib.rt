@@ -23,9 +23,9 @@ pub fn write_words(text: &mut [u8], at: usize, words: &[u8]) -> usize
     requires { at + length words.now ≤ length text.old }
     ensures { Wrote text.old text.new at result words.now }
 {
-    let count = words.len();
-    octets::copy(text, at, words, 0, count);
-    at + count
+    let next = at + words.len();
+    text[at..next].copy_from_slice(words);
+    next
 }
 
 // How many digits a number has.
@@ -92,13 +92,10 @@ pub fn write_hex(text: &mut [u8], at: usize, bytes: &[u8], from: usize, count: u
     ensures value { result ≡ at + 2 * count }
 {
     let mut next = at;
-    let mut i: usize = 0;
-    while i < count {
-        let byte = bytes[from + i];
-        text[next] = hex_digit(byte / 16);
-        text[next + 1] = hex_digit(byte % 16);
+    for byte in &bytes[from..from + count] {
+        text[next] = hex_digit(*byte / 16);
+        text[next + 1] = hex_digit(*byte % 16);
         next += 2;
-        i += 1;
     }
     next
 }

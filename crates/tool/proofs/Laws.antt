@@ -1,4 +1,5 @@
 -- Reading a number undoes writing it: the text of a number in decimal says that number.
+use Rattle.std.specs.Prelude.{Some}
 use Prim.Native.Nat.{ℕ, zero, suc, ◌+◌, ◌*◌, ◌/◌, ◌%◌, ◌<◌, ◌≤◌}
 use mathlib.Core.Path.{◌≡◌, refl, sym, ap, ◌∙◌}
 use mathlib.Core.Bool.{Bool, true, false, ◌&&◌, and-eq-true_iff, true≢false}
@@ -97,7 +98,7 @@ digits_alone (x ∷ y ∷ l) all =
     by true = refl
     by false = refl
 
-pub said_of_decimal : (n : ℕ) → n < 10000000000 → said (decimal n) ≡ record { good = true; value = n }
+pub said_of_decimal : (n : ℕ) → n < 10000000000 → said (decimal n) ≡ Some n
 unfolding said said_by
 said_of_decimal n h =
     let t = says (suc n) n (omega arith) in

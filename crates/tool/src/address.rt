@@ -1,18 +1,9 @@
 // An address that a text says: one of Ethernet, as 02:00:00:00:00:01, or one of IPv4, as 192.0.2.1.
-ghost use Rattle.std.specs.Prelude.{◌≡◌, false, ◌+◌, ◌≤◌, ◌<◌, length};
-ghost use Rattle.tool.specs.Number.{none};
-ghost use Rattle.tool.specs.Address.{mac_groups, mac_text, group_of, bad_group, no_mac, mac_said};
-ghost use Rattle.tool.specs.Address.{zero_in_front, octet_said, dot_from, together, ipv4_said};
+ghost use Rattle.std.specs.Prelude.{◌≡◌, ◌<◌, length};
+ghost use Rattle.tool.specs.Address.{mac_groups, mac_text, group_said, mac_said, first_dot, zero_in_front, octet_said, ipv4_said};
 
 use crate::number;
-use crate::number::{Given, HEXADECIMAL, NO_DIGIT};
-
-// An address of Ethernet, or none.
-#[derive(Clone, Copy)]
-pub struct GivenMac {
-    pub good: bool,
-    pub bytes: [u8; MAC_GROUPS],
-}
+use crate::number::HEXADECIMAL;
 
 // How many groups an address of Ethernet has, how many bytes a group takes with its colon, and how long the text is.
 pub const MAC_GROUPS: usize = 6;
@@ -24,133 +15,75 @@ const MAC_TEXT: usize = 17;
 // The greatest of the four numbers of an address of IPv4.
 const GREATEST: usize = 255;
 
-// The address of Ethernet that a text says, or none.
-pub fn mac(text: &[u8]) -> GivenMac
+// The address of Ethernet that a text says, if it says one.
+pub fn mac(text: &[u8]) -> Option<[u8; MAC_GROUPS]>
     ensures { result ≡ mac_said text.now }
 {
     if text.len() != MAC_TEXT {
-        return no_mac();
+        return None;
     }
     let mut bytes = [0u8; MAC_GROUPS];
-    let mut k: usize = 0;
-    while k < MAC_GROUPS {
-        if is_bad_group(text, k) {
-            return no_mac();
-        }
-        bytes[k] = group(text, k);
-        k += 1;
+    for k in 0..MAC_GROUPS {
+        bytes[k] = group(text, k)?;
     }
-    GivenMac { good: true, bytes }
+    Some(bytes)
 }
 
-fn no_mac() -> GivenMac
-    ensures { result ≡ no_mac }
-{
-    GivenMac {
-        good: false,
-        bytes: [0; MAC_GROUPS],
-    }
-}
-
-// Whether group k is none: a byte of it is no digit, or no colon follows, and it is not the last.
-fn is_bad_group(text: &[u8], k: usize) -> bool
+// The byte that group k says; none where a byte of it is no digit, or no colon follows, and it is not the last.
+fn group(text: &[u8], k: usize) -> Option<u8>
     requires { (length text.now ≡ mac_text) × (k < mac_groups) }
-    ensures { result ≡ bad_group text.now k }
+    ensures { result ≡ group_said text.now k }
 {
     let at = GROUP * k;
-    let high = number::digit_value(text[at]);
-    let low = number::digit_value(text[at + 1]);
-    if MAC_GROUPS <= k + 1 {
-        return (NO_DIGIT <= high) | (NO_DIGIT <= low);
+    let high = number::digit_value(text[at])?;
+    let low = number::digit_value(text[at + 1])?;
+    if (k + 1 < MAC_GROUPS) && (text[at + 2] != b':') {
+        return None;
     }
-    (NO_DIGIT <= high) | (NO_DIGIT <= low) | (text[at + 2] != b':')
+    Some((HEXADECIMAL * high + low) as u8)
 }
 
-// The byte that group k says.
-fn group(text: &[u8], k: usize) -> u8
-    requires { (length text.now ≡ mac_text) × (k < mac_groups) × (bad_group text.now k ≡ false) }
-    ensures { result ≡ group_of text.now k }
+// The address of IPv4 that a text says, as a number, if it says one. A dot behind the third is no digit, so the last part says nothing
+// then.
+pub fn ipv4(text: &[u8]) -> Option<u32>
+    ensures { result ≡ ipv4_said text.now }
 {
-    let at = GROUP * k;
-    let high = number::digit_value(text[at]);
-    let low = number::digit_value(text[at + 1]);
-    (HEXADECIMAL * high + low) as u8
+    let first = dot(text)?;
+    let behind_first = &text[first + 1..];
+    let second = dot(behind_first)?;
+    let behind_second = &behind_first[second + 1..];
+    let third = dot(behind_second)?;
+    let behind_third = &behind_second[third + 1..];
+    let a = octet(&text[..first])?;
+    let b = octet(&behind_first[..second])?;
+    let c = octet(&behind_second[..third])?;
+    let d = octet(behind_third)?;
+    Some(u32::from_be_bytes([a, b, c, d]))
 }
 
-// The address of IPv4 that a text says, as a number, or none.
-pub fn ipv4(text: &[u8]) -> Given
-    ensures { (result ≡ ipv4_said text.now) × (result.value ≤ 4294967295) }
+// Where the first dot of a text stands, if there is one.
+fn dot(text: &[u8]) -> Option<usize>
+    ensures { result ≡ first_dot text.now }
 {
-    let first = dot(text, 0);
-    let behind_first = first + 1;
-    let second = dot(text, behind_first);
-    let behind_second = second + 1;
-    let third = dot(text, behind_second);
-    let behind_third = third + 1;
-    let end = text.len();
-    if (end <= third) | (dot(text, behind_third) != end) {
-        return no_number();
-    }
-    let a = octet(&text[..first]);
-    let b = octet(&text[behind_first..second]);
-    let c = octet(&text[behind_second..third]);
-    let d = octet(&text[behind_third..end]);
-    join(a, b, c, d)
+    text.iter().position(|byte| *byte == b'.')
 }
 
-// Where the first dot stands from a place on; the end of the text where there is none.
-fn dot(text: &[u8], from: usize) -> usize
-    ensures { (result ≡ dot_from text.now from) × (result ≤ length text.now) }
+// The number from 0 to 255 that a text says without zeros in front, if it says one.
+fn octet(text: &[u8]) -> Option<u8>
+    ensures { result ≡ octet_said text.now }
 {
-    let mut i: usize = 0;
-    while i < text.len() {
-        if (from <= i) & (text[i] == b'.') {
-            return i;
-        }
-        i += 1;
+    if is_zero_in_front(text) {
+        return None;
     }
-    text.len()
-}
-
-// The number from 0 to 255 that a text says, without zeros in front, or none.
-fn octet(text: &[u8]) -> Given
-    ensures { (result ≡ octet_said text.now) × (result.value ≤ 255) }
-{
-    let given = number::number(text);
-    if is_zero_in_front(text) | (GREATEST < given.value) {
-        return no_number();
+    let value = number::number(text)?;
+    if GREATEST < value {
+        return None;
     }
-    given
+    Some(value as u8)
 }
 
 fn is_zero_in_front(text: &[u8]) -> bool
     ensures { result ≡ zero_in_front text.now }
 {
-    if text.len() < 2 {
-        return false;
-    }
-    text[0] == b'0'
-}
-
-// Four such numbers as one.
-fn join(a: Given, b: Given, c: Given, d: Given) -> Given
-    requires { (a.value ≤ 255) × (b.value ≤ 255) × (c.value ≤ 255) × (d.value ≤ 255) }
-    ensures { (result ≡ together a b c d) × (result.value ≤ 4294967295) }
-{
-    if !(a.good & b.good & c.good & d.good) {
-        return no_number();
-    }
-    Given {
-        good: true,
-        value: ((a.value * 256 + b.value) * 256 + c.value) * 256 + d.value,
-    }
-}
-
-fn no_number() -> Given
-    ensures { result ≡ none }
-{
-    Given {
-        good: false,
-        value: 0,
-    }
+    matches!(text, [b'0', _, ..])
 }

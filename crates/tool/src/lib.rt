@@ -8,54 +8,43 @@ pub mod number;
 ghost use Rattle.std.specs.Prelude.{◌≡◌, ◌+◌, ◌≤◌, length};
 ghost use Rattle.std.specs.Counts.{IsPrefixLen};
 ghost use Rattle.text.specs.Text.{Wrote};
-ghost use Rattle.capture.specs.File.{longest_file};
 ghost use Rattle.tool.specs.Line.{line_of, number_room};
 ghost use Rattle.tool.specs.Refused.{refused_line, refused_room};
 
-use address::GivenMac;
-use number::Given;
 use std::env::{Env, FillError};
 use std::io::{Read, Write};
 
 // Room for an argument. A longer one says no number, and no address.
 const ARGUMENT_ROOM: usize = 32;
 
+// Room for a capture, and one byte more, so that a longer one is seen to be too long.
+pub const CAPTURE_ROOM: usize = capture::LONGEST_FILE + 1;
+
 // Room for the line of a refusal.
 const REFUSED_ROOM: usize = 19;
 
-// The number that argument i of the program says, or none.
-pub fn argument(env: &impl Env, i: usize) -> Given {
-    let mut text = [0u8; ARGUMENT_ROOM];
-    let length = read_argument(env, i, &mut text);
-    number::number(&text[..length])
-}
-
-// The addresses that arguments say, of Ethernet and of IPv4, or none.
-pub fn mac_argument(env: &impl Env, i: usize) -> GivenMac {
-    let mut text = [0u8; ARGUMENT_ROOM];
-    let length = read_argument(env, i, &mut text);
-    address::mac(&text[..length])
-}
-
-pub fn ipv4_argument(env: &impl Env, i: usize) -> Given
-    ensures { result.value ≤ 4294967295 }
+// What argument i of the program says, if it says something: `meaning` reads it.
+pub fn argument<T, M: Fn(&[u8]) -> Option<T> + Drop>(
+    env: &impl Env,
+    i: usize,
+    meaning: M,
+) -> Option<T>
+    requires { M.IsAlwaysCallable meaning }
 {
     let mut text = [0u8; ARGUMENT_ROOM];
     let length = read_argument(env, i, &mut text);
-    address::ipv4(&text[..length])
+    meaning(&text[..length])
 }
 
 // Puts argument i at the start of a room and answers how long it is: 0 where there is no such argument, or it is longer than the room.
 fn read_argument(env: &impl Env, i: usize, room: &mut [u8]) -> usize
     ensures { IsPrefixLen result room.new }
 {
-    match env.arg(i, room) {
-        Ok(length) => length,
-        Err(_) => 0,
-    }
+    env.arg(i, room).unwrap_or(0)
 }
 
-// How many arguments the program was started with, its own name among them.
+// How many arguments the program was started with, its own name among them. No contract says what an environment gives, so none says more
+// of it.
 pub fn argument_count(env: &impl Env) -> usize {
     let mut room = [0u8; ARGUMENT_ROOM];
     for i in 0..usize::MAX {
@@ -66,12 +55,17 @@ pub fn argument_count(env: &impl Env) -> usize {
     usize::MAX
 }
 
-// Room for a capture, and one byte more, so that a longer one is seen to be too long. The contract says how long it is, which lending it
-// as a slice needs.
-pub fn capture_room() -> [u8; capture::LONGEST_FILE + 1]
-    ensures { longest_file + 1 ≡ length result }
+// Rooms of zeros, of any size. The contracts say how long they are, so that a proof need not count the zeros of a large one.
+pub fn room<const N: usize>() -> [u8; N]
+    ensures { N ≡ length result }
 {
-    [0; capture::LONGEST_FILE + 1]
+    [0; N]
+}
+
+pub fn lengths_room<const N: usize>() -> [u16; N]
+    ensures { N ≡ length result }
+{
+    [0; N]
 }
 
 // Reads an input into a room until there is no more room, the input ends or a read fails, and answers how many bytes it read.

@@ -1,14 +1,6 @@
 // A number that a text says: in decimal, or in hexadecimal behind 0x.
-ghost use Rattle.std.specs.Prelude.{◌≡◌, ◌+◌, ◌*◌, ◌≤◌, length};
-ghost use Rattle.octets.specs.Stretch.{rest};
-ghost use Rattle.tool.specs.Number.{digit_of, is_hexadecimal, said_by, said};
-
-// A number, or none.
-#[derive(Clone, Copy)]
-pub struct Given {
-    pub good: bool,
-    pub value: usize,
-}
+ghost use Rattle.std.specs.Prelude.{◌≡◌, ◌+◌, ◌*◌, ◌≤◌};
+ghost use Rattle.tool.specs.Number.{digit_said, is_hexadecimal, said_by, said};
 
 const DECIMAL: usize = 10;
 
@@ -22,71 +14,54 @@ const SEVEN_DIGITS: usize = 268435455;
 // What the letter a says in hexadecimal.
 const LETTER_A: usize = 10;
 
-pub const NO_DIGIT: usize = 16;
-
 // How long 0x is.
 const PREFIX: usize = 2;
 
-// The number that a text says, or none.
-pub fn number(text: &[u8]) -> Given
+// The number that a text says, if it says one.
+pub fn number(text: &[u8]) -> Option<usize>
     ensures { result ≡ said text.now }
 {
     if is_hexadecimal(text) {
-        return digits(text, PREFIX, HEXADECIMAL, SEVEN_DIGITS);
+        return digits(&text[PREFIX..], HEXADECIMAL, SEVEN_DIGITS);
     }
-    digits(text, 0, DECIMAL, NINE_DIGITS)
+    digits(text, DECIMAL, NINE_DIGITS)
 }
 
 // Whether a text begins with 0x or 0X.
 fn is_hexadecimal(text: &[u8]) -> bool
     ensures { result ≡ is_hexadecimal text.now }
 {
-    if text.len() < PREFIX {
-        return false;
-    }
-    (text[0] == b'0') & ((text[1] == b'x') | (text[1] == b'X'))
+    matches!(text, [b'0', b'x' | b'X', ..])
 }
 
-// The number that the digits from a place on say; none where there are none, where another byte stands among them, or where they are too
-// many: behind a number over `greatest` no digit may come.
-fn digits(text: &[u8], from: usize, base: usize, greatest: usize) -> Given
-    requires { (from ≤ length text.now) × (1 ≤ base) × (base ≤ 16) × (greatest ≤ 999999999) }
-    ensures { result ≡ said_by base (base * (greatest + 1)) (rest text.now from) }
+// The number that digits say; none where there are none, where another byte stands among them, or where they are too many: behind a number
+// over `greatest` no digit may come.
+fn digits(text: &[u8], base: usize, greatest: usize) -> Option<usize>
+    requires { (1 ≤ base) × (base ≤ 16) × (greatest ≤ 999999999) }
+    ensures { result ≡ said_by base (base * (greatest + 1)) text.now }
 {
+    if text.is_empty() {
+        return None;
+    }
     let mut value: usize = 0;
-    let mut i = from;
-    while i < text.len() {
-        let digit = digit_value(text[i]);
+    for byte in text {
+        let digit = digit_value(*byte)?;
         if (base <= digit) | (greatest < value) {
-            return Given {
-                good: false,
-                value: 0,
-            };
+            return None;
         }
         value = base * value + digit;
-        i += 1;
     }
-    if text.len() <= from {
-        return Given {
-            good: false,
-            value: 0,
-        };
-    }
-    Given { good: true, value }
+    Some(value)
 }
 
-// The value of a digit's byte, and for any other byte a number that is a digit in no base.
-pub fn digit_value(byte: u8) -> usize
-    ensures { (result ≡ digit_of byte) × (result ≤ 16) }
+// The value of a digit's byte, if it is one of a digit.
+pub fn digit_value(byte: u8) -> Option<usize>
+    ensures { result ≡ digit_said byte }
 {
-    if (b'0' <= byte) & (byte <= b'9') {
-        return (byte - b'0') as usize;
+    match byte {
+        b'0'..=b'9' => Some(usize::from(byte - b'0')),
+        b'a'..=b'f' => Some(usize::from(byte - b'a') + LETTER_A),
+        b'A'..=b'F' => Some(usize::from(byte - b'A') + LETTER_A),
+        _ => None,
     }
-    if (b'a' <= byte) & (byte <= b'f') {
-        return (byte - b'a') as usize + LETTER_A;
-    }
-    if (b'A' <= byte) & (byte <= b'F') {
-        return (byte - b'A') as usize + LETTER_A;
-    }
-    NO_DIGIT
 }

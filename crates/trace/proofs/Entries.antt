@@ -17,7 +17,8 @@ use Rattle.listing.specs.Inside.{numbers_of}
 use Rattle.listing.proofs.Lines.{line_is}
 use Rattle.trace.specs.Trace.{frame_line, frames_text, rows_text, traced_at}
 
-module _ {file : List ℕ} {w : Walk} {s : Stepped} {holding output lengths : List ℕ} (stepped : Steps file w s holding output lengths) where
+module _ {file : List ℕ} {w further : Walk} {s : Stepped} {holding output lengths : List ℕ}
+    (stepped : Steps file w s further holding output lengths) where
   frames_are : joined (map frame_line (frames_found s.answer.frames lengths output)) ≡ frames_text (answer_at file w.index)
   unfolding frames_text
   frames_are = ap (λ (l : List (List ℕ)). joined (map frame_line l)) (frames_found_lem stepped)
@@ -25,7 +26,7 @@ module _ {file : List ℕ} {w : Walk} {s : Stepped} {holding output lengths : Li
   pub entry_traced : {t₀ t₁ t₂ t₃ : List ℕ} {behind-line behind-frames next : ℕ} →
       Wrote t₀ t₁ 0 behind-line (line w.index s.kind (numbers_of s.answer)) →
       Wrote t₁ t₂ behind-line behind-frames (joined (map frame_line (frames_found s.answer.frames lengths output))) →
-      Wrote t₂ t₃ behind-frames next (rows_text (record { table = s.walk.table; holding = holding })) →
+      Wrote t₂ t₃ behind-frames next (rows_text (record { table = further.table; holding = holding })) →
       Wrote t₀ t₃ 0 next (traced_at file w.index)
   unfolding traced_at
   entry_traced a b c =

@@ -36,12 +36,10 @@ pub fn write_frames(
 {
     let mut next = at;
     let mut from: usize = 0;
-    let mut i: usize = 0;
-    while i < count {
-        let size = octets::wide_u16(lengths[i]);
+    for &length in &lengths[..count] {
+        let size = usize::from(length);
         next = write_frame(text, next, output, from, size);
         from += size;
-        i += 1;
     }
     next
 }

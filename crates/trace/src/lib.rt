@@ -18,38 +18,27 @@ use replay::Walk;
 // Room for the trace of any entry: its line, the lines of its frames, and all rows with all flows holding all they can.
 pub const ENTRY_ROOM: usize = listing::LINE_ROOM + frames::FRAMES_ROOM + rows::ROWS_ROOM;
 
-// What tracing an entry answers: the place behind its text, and where the run stands afterwards.
-#[derive(Clone, Copy)]
-pub struct Traced {
-    pub next: usize,
-    pub walk: Walk,
-}
-
-// Runs an entry and writes its trace at the start of the text: its line, the frames that it delivered, and the open rows afterwards.
+// Runs an entry and writes its trace at the start of the text: its line, the frames that it delivered, and the open rows afterwards. It
+// answers the place behind that.
 pub fn trace_entry(
     file: &[u8],
-    walk: Walk,
+    walk: &mut Walk,
     holding: &mut [u8],
     output: &mut [u8],
     lengths: &mut [u16],
     text: &mut [u8],
-) -> Traced
-    requires stands { Stands file.now walk holding.old output.old lengths.old × (walk.index < entry_count head_length file.now) }
+) -> usize
+    requires stands { Stands file.now walk.old holding.old output.old lengths.old
+        × (walk.old.index < entry_count head_length file.now) }
     requires entry_room_in_bounds { entry_room ≤ length text.old }
-    ensures wrote { Wrote text.old text.new 0 result.next (traced_at file.now walk.index) }
-    ensures goes_on { GoesOn file.now walk result.walk holding.new output.new lengths.new }
+    ensures wrote { Wrote text.old text.new 0 result (traced_at file.now walk.old.index) }
+    ensures goes_on { GoesOn file.now walk.old walk.new holding.new output.new lengths.new }
 {
-    let index = walk.index;
-    let stepped = replay::step(file, walk, holding, output, lengths);
+    let index = walk.index as u32;
+    let stepped = walk.step(file, holding, output, lengths);
     let answer = stepped.answer;
-    let behind_line = line::write_line(text, 0, index as u32, stepped.kind, answer);
+    let behind_line = line::write_line(text, 0, index, stepped.kind, answer);
     let count = answer.frames as usize;
     let behind_frames = frames::write_frames(text, behind_line, output, lengths, count);
-    let further = stepped.walk;
-    let table = further.table;
-    let behind_rows = rows::write_rows(text, behind_frames, table, holding);
-    Traced {
-        next: behind_rows,
-        walk: further,
-    }
+    rows::write_rows(text, behind_frames, walk.table, holding)
 }

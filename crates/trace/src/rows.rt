@@ -56,13 +56,8 @@ fn write_flow(text: &mut [u8], at: usize, r: usize, k: usize, flow: Flow, holdin
     let behind_held = text::write_column(text, behind_expected, flow.held as u32);
     let behind_space = text::write_byte(text, behind_held, b' ');
     let place = card::place_of(r, k);
-    let behind_bytes = write_held(
-        text,
-        behind_space,
-        holding,
-        place,
-        octets::wide_u16(flow.held),
-    );
+    let held = usize::from(flow.held);
+    let behind_bytes = write_held(text, behind_space, holding, place, held);
     text::write_byte(text, behind_bytes, b'\n')
 }
 
@@ -90,10 +85,8 @@ fn write_row(text: &mut [u8], at: usize, r: usize, row: Row, holding: &[u8]) -> 
         return at;
     }
     let mut next = write_row_line(text, at, r, row);
-    let mut k: usize = 0;
-    while k < FLOWS {
-        next = write_flow(text, next, r, k, row.flows[k], holding);
-        k += 1;
+    for (k, &flow) in row.flows.iter().enumerate() {
+        next = write_flow(text, next, r, k, flow, holding);
     }
     next
 }
@@ -107,10 +100,8 @@ pub fn write_rows(text: &mut [u8], at: usize, table: Table, holding: &[u8]) -> u
     ensures upper_bound { result ≤ at + rows_room }
 {
     let mut next = at;
-    let mut r: usize = 0;
-    while r < ROWS {
-        next = write_row(text, next, r, table.rows[r], holding);
-        r += 1;
+    for (r, &row) in table.rows.iter().enumerate() {
+        next = write_row(text, next, r, row, holding);
     }
     next
 }

@@ -2,10 +2,10 @@
 // packet. What travels in a packet is nothing to this crate. Where a function asks for something, only proved code calls it.
 #![tactic(auto)]
 
-ghost use Rattle.std.specs.Prelude.{◌≡◌, ◌+◌, ◌-◌, ◌<◌, ◌≤◌, length};
-ghost use Rattle.octets.specs.Stretch.{part, put};
+ghost use Rattle.std.specs.Prelude.{◌≡◌, ◌<◌, ◌≤◌, length};
+ghost use Rattle.octets.specs.Stretch.{put};
 ghost use Rattle.octets.specs.Tests.{same};
-ghost use Rattle.ts.specs.Packet.{mpeg_length, head_length, flagged, pids, pid, count_of, next_count, header, all_fill, null_packet};
+ghost use Rattle.ts.specs.Packet.{mpeg_length, head_length, pids, pid, count_of, next_count, header, all_fill, null_packet};
 ghost use Rattle.ts.specs.Packet.{PermitsNullPacket};
 
 // The packet, its header, and what is left behind it.
@@ -46,20 +46,20 @@ pub struct MpegPacket {
     pub bytes: [u8; MPEG_LENGTH],
 }
 
-// The PID of the packet at this place.
-pub fn pid_at(packets: &[u8], at: usize) -> u16
-    requires { at + mpeg_length ≤ length packets.now }
-    ensures { result ≡ pid (part packets.now at mpeg_length) }
+// The PID of a packet.
+pub fn pid(packet: &[u8]) -> u16
+    requires { head_length ≤ length packet.now }
+    ensures { result ≡ pid packet.now }
 {
-    octets::read_u16(packets, at + 1) % PIDS
+    octets::read_u16(packet, 1) % PIDS
 }
 
-// The count of the packet at this place.
-pub fn count_at(packets: &[u8], at: usize) -> u8
-    requires { at + mpeg_length ≤ length packets.now }
-    ensures { result ≡ count_of (part packets.now at mpeg_length) }
+// The count of a packet.
+pub fn count(packet: &[u8]) -> u8
+    requires { head_length ≤ length packet.now }
+    ensures { result ≡ count_of packet.now }
 {
-    packets[at + 3] % COUNTS
+    packet[3] % COUNTS
 }
 
 pub fn next_count(count: u8) -> u8
@@ -68,24 +68,14 @@ pub fn next_count(count: u8) -> u8
     (count % COUNTS + 1) % COUNTS
 }
 
-// A byte 1, with the payload-start flag or without.
-fn with_flag(starts: bool, byte: u8) -> u8
-    requires { byte < 64 }
-    ensures { result ≡ flagged starts byte }
-{
-    if starts {
-        return START_FLAG + byte;
-    }
-    byte
-}
-
 // Writes the header of a packet.
 pub fn write_header(packet: &mut [u8], starts: bool, pid: u16, count: u8)
     requires { (head_length ≤ length packet.old) × (pid < pids) }
     ensures { packet.new ≡ put packet.old 0 (header starts pid count) }
 {
+    let high = (pid / 256) as u8;
     packet[0] = SYNC_BYTE;
-    packet[1] = with_flag(starts, (pid / 256) as u8);
+    packet[1] = if starts { START_FLAG + high } else { high };
     packet[2] = (pid % 256) as u8;
     packet[3] = PAYLOAD_ONLY + count % COUNTS;
 }
@@ -102,29 +92,21 @@ pub fn null_packet() -> [u8; MPEG_LENGTH]
     null
 }
 
-// Whether all bytes from one place to another are 0xFF.
-pub fn all_fill(packets: &[u8], from: usize, to: usize) -> bool
-    requires { (from ≤ to) × (to ≤ length packets.now) }
-    ensures { result ≡ all_fill (part packets.now from (to - from)) }
+// Whether all bytes are 0xFF.
+pub fn all_fill(bytes: &[u8]) -> bool
+    ensures { result ≡ all_fill bytes.now }
 {
-    let mut i = from;
-    while i < to {
-        if packets[i] != FILL_BYTE {
-            return false;
-        }
-        i += 1;
-    }
-    true
+    bytes.iter().all(|byte| *byte == FILL_BYTE)
 }
 
-// Whether the packet at this place is the null packet.
-pub fn is_null(packets: &[u8], at: usize) -> bool
-    requires { at + mpeg_length ≤ length packets.now }
-    ensures { result ≡ same (part packets.now at mpeg_length) null_packet }
+// Whether a packet is the null packet.
+pub fn is_null(packet: &[u8]) -> bool
+    requires { length packet.now ≡ mpeg_length }
+    ensures { result ≡ same packet.now null_packet }
 {
-    (packets[at] == SYNC_BYTE)
-        & (packets[at + 1] == NULL_PID_HIGH)
-        & (packets[at + 2] == NULL_PID_LOW)
-        & (packets[at + 3] == PAYLOAD_ONLY)
-        & all_fill(packets, at + HEAD_LENGTH, at + MPEG_LENGTH)
+    (packet[0] == SYNC_BYTE)
+        & (packet[1] == NULL_PID_HIGH)
+        & (packet[2] == NULL_PID_LOW)
+        & (packet[3] == PAYLOAD_ONLY)
+        & all_fill(&packet[HEAD_LENGTH..])
 }

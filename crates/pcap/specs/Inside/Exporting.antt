@@ -4,7 +4,7 @@ use Rattle.std.specs.Prelude.{ℕ, ◌+◌, ◌≤◌, true, cond, ◌||◌, Lis
 use Rattle.octets.specs.Count.{sum_to}
 use Rattle.capture.specs.File.{head_length, entry_length, open_psp, open_dmpt, closing, data_entry, data_over_udp, kind_at, body_length, Entry}
 use Rattle.pcap.specs.declared.Addresses.{Addresses}
-use Rattle.pcap.specs.declared.export.Measured.{Measured}
+use Rattle.pcap.specs.declared.export.Exported.{Exported}
 use Rattle.pcap.specs.File.{file_header, record_header, record_header_in, record_in}
 use Rattle.pcap.specs.Ethernet.{ethernet_length, ethernet_header}
 use Rattle.pcap.specs.Ipv4.{ipv4_length, ipv4_header}
@@ -29,7 +29,7 @@ record_length kind size =
     cond (eqb kind data_entry || eqb kind data_over_udp) (front_length + cond (eqb kind data_over_udp) udp_length 0 + size) 0
 
 -- a measure, with one more entry; and what the first n entries of a file come to
-abbrev pub counted_with : Measured → ℕ → ℕ → Measured
+abbrev pub counted_with : Exported → ℕ → ℕ → Exported
 counted_with m kind size =
     record {
       length = m.length + record_length kind size;
@@ -38,7 +38,7 @@ counted_with m kind size =
       closes = m.closes + cond (eqb kind closing) 1 0;
     }
 
-unfoldable pub measured_to : List ℕ → ℕ → Measured
+unfoldable pub measured_to : List ℕ → ℕ → Exported
 measured_to file n =
     let kind = kind_at head_length entry_length file in
     record {
@@ -49,7 +49,7 @@ measured_to file n =
     }
 
 -- far from the end of counting
-pub record Unhurried (m : Measured) : Type 0 where
+pub record Unhurried (m : Exported) : Type 0 where
   pub few_bytes : m.length ≤ 4294967296
   pub few-packets : m.packets ≤ 65536
   pub few-opens : m.opens ≤ 65536

@@ -1,14 +1,15 @@
 -- Inside: what functions promise each other on the way to a result. Nobody has to believe this file: the result is said without it.
 -- Here: how a record is judged step by step, what the first walk counts, and what the second one has laid. What an import answers and
 -- leaves is specs/Import.antt's.
-use Rattle.std.specs.Prelude.{ℕ, ◌+◌, ◌*◌, ◌<◌, ◌≤◌, ◌≡◌, false, cond, ◌||◌, List, [], ◌∷◌, ◌++◌, map, eqb, ltb, length}
+use Rattle.std.specs.Prelude.{ℕ, ◌+◌, ◌*◌, ◌<◌, ◌≤◌, ◌≡◌, false, cond, ◌||◌, List, [], ◌∷◌, ◌++◌, map, eqb, ltb, length, Result, Ok, Err}
+use Rattle.refusal.specs.declared.Refusal.{Refusal}
+use Rattle.refusal.specs.Number.{number_of}
 use Rattle.refusal.specs.Refusal.{◌when◌, first}
 use Rattle.octets.specs.Stretch.{joined}
 use Rattle.capture.specs.declared.Writer.{Writer}
 use Rattle.capture.specs.File.{head_length, entry_length, id_body, longest_file, most_entries, Entry, body_of}
 use Rattle.capture.specs.Write.{bodies_from, Laid}
 use Rattle.pcap.specs.declared.import.Tally.{Tally}
-use Rattle.pcap.specs.declared.import.Found.{Found}
 use Rattle.pcap.specs.File.{is_little, records, last_place, stops}
 use Rattle.pcap.specs.Ipv4.{ipv4_at, ipv4_length, payload_at, payload_length}
 use Rattle.pcap.specs.Judge.{not_ipv4, bad_ipv4_lengths, is_fragment}
@@ -58,8 +59,21 @@ pub record Countable (t : Tally) : Type 0 where
   pub few_fragments : t.fragments < count_limit
   pub few-others : t.others < count_limit
 
+-- .. and what it finds: why it stops, 61, 62 or 0, and what the records come to that it has seen; what it answers by that; and that it has
+-- found no reason to stop
+pub record Found : Type 0 where
+  pub cause : ℕ
+  pub tally : Tally
+
 abbrev pub found_in : List ℕ → Found
 found_in file = record { cause = first (stops file (last_place file) (is_little file)); tally = tally_of (records file) }
+
+abbrev pub sized : Tally → Found
+sized t = record { cause = 0; tally = t }
+
+abbrev pub Finds : Found → Result Tally Refusal → Type 0
+Finds found (Ok t) = found ≡ sized t
+Finds found (Err why) = found.cause ≡ number_of why
 
 -- how long the capture is with so many sessions; and the refusals, by what the walk found
 abbrev pub long_with : ℕ → Tally → ℕ

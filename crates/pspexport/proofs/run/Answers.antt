@@ -6,15 +6,15 @@ use Rattle.pspexport.proofs.run.Goals as goal
 
 pub slice_bounds-output-end : goal.slice_bounds-output-end
 slice_bounds-output-end g c =
-    let told = export_told _ _ c.output_room-output.result _ c.export-exported.result c.export-exported.ensures c.if-exported-ne-NONE.false in
-    omega (arith, told.file_inside, c.export-exported.auto.output)
+    let told = export_told _ _ _ _ _ c.in-Ok.ensures in
+    omega (arith, told.file_inside, c.export.auto.output)
 
 pub slice_bounds-write_output-end : goal.slice_bounds-write_output-end
 slice_bounds-write_output-end g c =
-    let told = export_told _ _ c.output_room-output.result _ c.export-exported.result c.export-exported.ensures c.if-exported-ne-NONE.false in
-    length_sliced _ _ (omega (arith, told.file_inside, c.export-exported.auto.output))
+    let told = export_told _ _ _ _ _ c.in-Ok.ensures in
+    length_sliced _ _ (omega (arith, told.file_inside, c.export.auto.output))
 
 pub write_counts-written-requires-clause-opens_bound : goal.write_counts-written-requires-clause-opens_bound
 write_counts-written-requires-clause-opens_bound g c =
-    let told = export_told _ _ c.output_room-output.result _ c.export-exported.result c.export-exported.ensures c.if-exported-ne-NONE.false in
+    let told = export_told _ _ _ _ _ c.in-Ok.ensures in
     (omega (arith, told.opens-few), omega (arith, told.closes-few))

@@ -6,20 +6,20 @@ use Rattle.pspimport.proofs.run.Goals as goal
 
 pub slice_bounds-output-end : goal.slice_bounds-output-end
 slice_bounds-output-end g c =
-    let told = import_told c.args.sessions.now c.args.file.now c.output_room-output.result _ c.import-imported.result c.import-imported.ensures c.if-imported-ne-NONE.false in
-    omega (arith, told.capture_inside, c.import-imported.auto.output)
+    let told = import_told c.args.sessions.now c.args.file.now _ _ _ c.in-Ok.ensures in
+    omega (arith, told.capture_inside, c.import.auto.output)
 
 pub slice_bounds-write_output-end : goal.slice_bounds-write_output-end
 slice_bounds-write_output-end g c =
-    let told = import_told c.args.sessions.now c.args.file.now c.output_room-output.result _ c.import-imported.result c.import-imported.ensures c.if-imported-ne-NONE.false in
-    length_sliced _ _ (omega (arith, told.capture_inside, c.import-imported.auto.output))
+    let told = import_told c.args.sessions.now c.args.file.now _ _ _ c.in-Ok.ensures in
+    length_sliced _ _ (omega (arith, told.capture_inside, c.import.auto.output))
 
 pub write_counts-written-requires-clause-foreign_bound : goal.write_counts-written-requires-clause-foreign_bound
 write_counts-written-requires-clause-foreign_bound g c =
-    let told = import_told c.args.sessions.now c.args.file.now c.output_room-output.result _ c.import-imported.result c.import-imported.ensures c.if-imported-ne-NONE.false in
+    let told = import_told c.args.sessions.now c.args.file.now _ _ _ c.in-Ok.ensures in
     (omega (arith, told.foreign_few, c.requires), omega (arith, told.misfits_few, c.requires))
 
 pub write_counts-written-requires-clause-fragments_bound : goal.write_counts-written-requires-clause-fragments_bound
 write_counts-written-requires-clause-fragments_bound g c =
-    let told = import_told c.args.sessions.now c.args.file.now c.output_room-output.result _ c.import-imported.result c.import-imported.ensures c.if-imported-ne-NONE.false in
+    let told = import_told c.args.sessions.now c.args.file.now _ _ _ c.in-Ok.ensures in
     (omega (arith, told.fragments_few, c.requires), omega (arith, told.others-few, c.requires))

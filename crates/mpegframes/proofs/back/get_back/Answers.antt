@@ -10,10 +10,10 @@ returns-then-back-ne-NONE c =
     let call : Call =
     record {
       packets = c.args.packets.now;
-      output = c.output_room-output.result;
+      output = c.room-output.result;
       lengths = c.lengths_room-lengths.result;
       short = c.requires.0;
-      output_long = sym c.output_room-output.ensures;
+      output_long = sym c.room-output.ensures;
       lengths_long = sym c.lengths_room-lengths.ensures;
       answer = c.read-back.result;
       output-left = c.read-back.new.output;
@@ -27,44 +27,44 @@ slice_bounds-output-end c =
     let call : Call =
     record {
       packets = c.args.packets.now;
-      output = c.output_room-output.result;
+      output = c.room-output.result;
       lengths = c.lengths_room-lengths.result;
       short = c.requires.0;
-      output_long = sym c.output_room-output.ensures;
+      output_long = sym c.room-output.ensures;
       lengths_long = sym c.lengths_room-lengths.ensures;
       answer = c.read-back.result;
       output-left = c.read-back.new.output;
       lengths-left = c.read-back.new.lengths;
       outcome = c.read-back.ensures;
     } in
-    omega (arith, bytes_inside call c.if-back-ne-NONE.false, c.read-back.auto.output, c.output_room-output.ensures)
+    omega (arith, bytes_inside call c.if-back-ne-NONE.false, c.read-back.auto.output, c.room-output.ensures)
 
 pub slice_bounds-pack-end : goal.slice_bounds-pack-end
 slice_bounds-pack-end c =
     let call : Call =
     record {
       packets = c.args.packets.now;
-      output = c.output_room-output.result;
+      output = c.room-output.result;
       lengths = c.lengths_room-lengths.result;
       short = c.requires.0;
-      output_long = sym c.output_room-output.ensures;
+      output_long = sym c.room-output.ensures;
       lengths_long = sym c.lengths_room-lengths.ensures;
       answer = c.read-back.result;
       output-left = c.read-back.new.output;
       lengths-left = c.read-back.new.lengths;
       outcome = c.read-back.ensures;
     } in
-    length_sliced _ _ (omega (arith, bytes_inside call c.if-back-ne-NONE.false, c.read-back.auto.output, c.output_room-output.ensures))
+    length_sliced _ _ (omega (arith, bytes_inside call c.if-back-ne-NONE.false, c.read-back.auto.output, c.room-output.ensures))
 
 pub slice_bounds-lengths-end : goal.slice_bounds-lengths-end
 slice_bounds-lengths-end c =
     let call : Call =
     record {
       packets = c.args.packets.now;
-      output = c.output_room-output.result;
+      output = c.room-output.result;
       lengths = c.lengths_room-lengths.result;
       short = c.requires.0;
-      output_long = sym c.output_room-output.ensures;
+      output_long = sym c.room-output.ensures;
       lengths_long = sym c.lengths_room-lengths.ensures;
       answer = c.read-back.result;
       output-left = c.read-back.new.output;
@@ -78,10 +78,10 @@ slice_bounds-pack-end-2 c =
     let call : Call =
     record {
       packets = c.args.packets.now;
-      output = c.output_room-output.result;
+      output = c.room-output.result;
       lengths = c.lengths_room-lengths.result;
       short = c.requires.0;
-      output_long = sym c.output_room-output.ensures;
+      output_long = sym c.room-output.ensures;
       lengths_long = sym c.lengths_room-lengths.ensures;
       answer = c.read-back.result;
       output-left = c.read-back.new.output;
@@ -95,10 +95,10 @@ pack-requires c =
     let call : Call =
     record {
       packets = c.args.packets.now;
-      output = c.output_room-output.result;
+      output = c.room-output.result;
       lengths = c.lengths_room-lengths.result;
       short = c.requires.0;
-      output_long = sym c.output_room-output.ensures;
+      output_long = sym c.room-output.ensures;
       lengths_long = sym c.lengths_room-lengths.ensures;
       answer = c.read-back.result;
       output-left = c.read-back.new.output;
@@ -112,10 +112,10 @@ returns c =
     let call : Call =
     record {
       packets = c.args.packets.now;
-      output = c.output_room-output.result;
+      output = c.room-output.result;
       lengths = c.lengths_room-lengths.result;
       short = c.requires.0;
-      output_long = sym c.output_room-output.ensures;
+      output_long = sym c.room-output.ensures;
       lengths_long = sym c.lengths_room-lengths.ensures;
       answer = c.read-back.result;
       output-left = c.read-back.new.output;

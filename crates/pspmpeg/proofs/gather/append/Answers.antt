@@ -1,5 +1,6 @@
 -- `pspmpeg::gather::append` is right since after i turns the first i lengths stand behind those before (`Appending`).
-use Rattle.std.proofs.Common.{arith, refl}
+use Rattle.std.proofs.Common.{ℕ, ◌+◌, arith, sym, ap}
+use Rattle.std.proofs.Math.ListN.{set}
 use Rattle.octets.specs.Bytes.{byte_at}
 use Rattle.octets.proofs.Counts.{sum-within}
 use Rattle.pspmpeg.proofs.Cutting.{append-begin, append_turn, all_appended, append_adds}
@@ -11,12 +12,12 @@ loop-i-init c = append-begin _ _ _ _
 pub overflow_add-sum : goal.overflow_add-sum
 overflow_add-sum c =
     let within = sum-within (byte_at c.args.lengths.now) c.loop-i.i c.args.more c.loop-i-test.true in
-    omega (arith, c.loop-i.invariant.sum_is, c.wide_u16-size.ensures.0, within, c.requires.bytes-there, c.well_formed.0.0)
+    omega (arith, c.loop-i.invariant.sum_is, c.from-sum.ensures, within, c.requires.bytes-there, c.well_formed.0.0)
 
 pub loop-i-preserved : goal.loop-i-preserved
 loop-i-preserved c =
-    append_turn c.loop-i.invariant c.requires.lengths-there c.requires.sizes_fit c.loop-i-test.true c.wide_u16-size.result
-    c.wide_u16-size.ensures.0 refl
+    append_turn c.loop-i.invariant c.requires.lengths-there c.requires.sizes_fit c.loop-i-test.true c.from-sum.result
+    c.from-sum.ensures (ap (λ (n : ℕ). set c.loop-i.sizes (c.args.before.count + c.loop-i.i) n) (sym c.from-sum.ensures))
 
 pub returns : goal.returns
 returns c =

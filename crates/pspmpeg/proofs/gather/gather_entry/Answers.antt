@@ -19,10 +19,10 @@ returns-then-not-wanted-clause-adds c =
     let rightly =
     chosen c.requires.stands.0 c.args.session c.kind_at-kind.result c.body_at-body.result.now c.is_for-wanted.result
     c.kind_at-kind.ensures c.body_at-body.ensures.its_bytes c.is_for-wanted.ensures in
-    not_chosen (frames_of (answer_at c.args.file.now c.args.stage.walk.index)) rightly c.if-not-wanted.true
+    not_chosen (frames_of (answer_at c.args.file.now c.args.walk.now.index)) rightly c.if-not-wanted.true
 
-pub append-gathered-requires : goal.append-gathered-requires
-append-gathered-requires c =
+pub append-requires : goal.append-requires
+append-requires c =
     let rightly =
     chosen c.requires.stands.0 c.args.session c.kind_at-kind.result c.body_at-body.result.now c.is_for-wanted.result
     c.kind_at-kind.ensures c.body_at-body.ensures.its_bytes c.is_for-wanted.ensures in
@@ -33,4 +33,4 @@ returns-clause-adds c =
     let rightly =
     chosen c.requires.stands.0 c.args.session c.kind_at-kind.result c.body_at-body.result.now c.is_for-wanted.result
     c.kind_at-kind.ensures c.body_at-body.ensures.its_bytes c.is_for-wanted.ensures in
-    adds_found c.step-stepped.ensures rightly c.if-not-wanted.false c.append-gathered.ensures
+    adds_found c.step-stepped.ensures rightly c.if-not-wanted.false c.append.ensures

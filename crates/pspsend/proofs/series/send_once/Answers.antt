@@ -2,6 +2,7 @@
 -- it.
 use Rattle.std.proofs.Common.{arith, refl}
 use Rattle.octets.proofs.Stretches.{length_sliced}
+use Rattle.pspsend.specs.Inside.{job_of}
 use Rattle.pspsend.proofs.Making.{Once, step_stops, contents_stay, bodies_stay, packet-short, step_countable, step_on, contents_on, bodies_on}
 use Rattle.pspsend.proofs.series.send_once.Goals as goal
 
@@ -9,8 +10,8 @@ pub returns-then-sent-ne-NONE-clause-value : goal.returns-then-sent-ne-NONE-clau
 returns-then-sent-ne-NONE-clause-value c =
     let once : Once =
     record {
-      job = record { session = c.args.session; flow = c.args.flow; bytes = c.args.bytes.now; lengths = c.args.lengths.now };
-      limit = c.args.limit;
+      job = job_of c.args.sending c.args.bytes.now c.args.lengths.now;
+      limit = c.args.sending.limit;
       series = c.args.series;
       scratch = c.args.scratch.now;
       scratch_long = c.requires.1;
@@ -24,8 +25,8 @@ pub returns-then-sent-ne-NONE-clause-contents_after : goal.returns-then-sent-ne-
 returns-then-sent-ne-NONE-clause-contents_after c =
     let once : Once =
     record {
-      job = record { session = c.args.session; flow = c.args.flow; bytes = c.args.bytes.now; lengths = c.args.lengths.now };
-      limit = c.args.limit;
+      job = job_of c.args.sending c.args.bytes.now c.args.lengths.now;
+      limit = c.args.sending.limit;
       series = c.args.series;
       scratch = c.args.scratch.now;
       scratch_long = c.requires.1;
@@ -39,8 +40,8 @@ pub returns-then-sent-ne-NONE-clause-bodies_after : goal.returns-then-sent-ne-NO
 returns-then-sent-ne-NONE-clause-bodies_after c =
     let once : Once =
     record {
-      job = record { session = c.args.session; flow = c.args.flow; bytes = c.args.bytes.now; lengths = c.args.lengths.now };
-      limit = c.args.limit;
+      job = job_of c.args.sending c.args.bytes.now c.args.lengths.now;
+      limit = c.args.sending.limit;
       series = c.args.series;
       scratch = c.args.scratch.now;
       scratch_long = c.requires.1;
@@ -54,8 +55,8 @@ pub slice_bounds-add-end : goal.slice_bounds-add-end
 slice_bounds-add-end c =
     let once : Once =
     record {
-      job = record { session = c.args.session; flow = c.args.flow; bytes = c.args.bytes.now; lengths = c.args.lengths.now };
-      limit = c.args.limit;
+      job = job_of c.args.sending c.args.bytes.now c.args.lengths.now;
+      limit = c.args.sending.limit;
       series = c.args.series;
       scratch = c.args.scratch.now;
       scratch_long = c.requires.1;
@@ -69,8 +70,8 @@ pub slice_bounds-add-end-2 : goal.slice_bounds-add-end-2
 slice_bounds-add-end-2 c =
     let once : Once =
     record {
-      job = record { session = c.args.session; flow = c.args.flow; bytes = c.args.bytes.now; lengths = c.args.lengths.now };
-      limit = c.args.limit;
+      job = job_of c.args.sending c.args.bytes.now c.args.lengths.now;
+      limit = c.args.sending.limit;
       series = c.args.series;
       scratch = c.args.scratch.now;
       scratch_long = c.requires.1;
@@ -84,8 +85,8 @@ pub add-longer-requires : goal.add-longer-requires
 add-longer-requires c =
     let once : Once =
     record {
-      job = record { session = c.args.session; flow = c.args.flow; bytes = c.args.bytes.now; lengths = c.args.lengths.now };
-      limit = c.args.limit;
+      job = job_of c.args.sending c.args.bytes.now c.args.lengths.now;
+      limit = c.args.sending.limit;
       series = c.args.series;
       scratch = c.args.scratch.now;
       scratch_long = c.requires.1;
@@ -99,8 +100,8 @@ pub returns-clause-value : goal.returns-clause-value
 returns-clause-value c =
     let once : Once =
     record {
-      job = record { session = c.args.session; flow = c.args.flow; bytes = c.args.bytes.now; lengths = c.args.lengths.now };
-      limit = c.args.limit;
+      job = job_of c.args.sending c.args.bytes.now c.args.lengths.now;
+      limit = c.args.sending.limit;
       series = c.args.series;
       scratch = c.args.scratch.now;
       scratch_long = c.requires.1;
@@ -114,8 +115,8 @@ pub returns-clause-contents_after : goal.returns-clause-contents_after
 returns-clause-contents_after c =
     let once : Once =
     record {
-      job = record { session = c.args.session; flow = c.args.flow; bytes = c.args.bytes.now; lengths = c.args.lengths.now };
-      limit = c.args.limit;
+      job = job_of c.args.sending c.args.bytes.now c.args.lengths.now;
+      limit = c.args.sending.limit;
       series = c.args.series;
       scratch = c.args.scratch.now;
       scratch_long = c.requires.1;
@@ -123,14 +124,14 @@ returns-clause-contents_after c =
       after = c.send-sent.new.output;
       permitted = c.send-sent.ensures;
     } in
-    contents_on once c.if-sent-ne-NONE.false _ refl _ _ c.add-longer.ensures.contents_after
+    contents_on once c.if-sent-ne-NONE.false _ refl _ _ (rw c.from.ensures at c.add-longer.ensures.contents_after)
 
 pub returns-clause-bodies_after : goal.returns-clause-bodies_after
 returns-clause-bodies_after c =
     let once : Once =
     record {
-      job = record { session = c.args.session; flow = c.args.flow; bytes = c.args.bytes.now; lengths = c.args.lengths.now };
-      limit = c.args.limit;
+      job = job_of c.args.sending c.args.bytes.now c.args.lengths.now;
+      limit = c.args.sending.limit;
       series = c.args.series;
       scratch = c.args.scratch.now;
       scratch_long = c.requires.1;

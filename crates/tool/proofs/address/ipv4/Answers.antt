@@ -1,42 +1,44 @@
 -- `tool::address::ipv4` is right since it finds the dots as the definition does, and reads what stands between them.
-use Rattle.std.proofs.Common.{arith, ℕ, ◌≡◌, ◌+◌, List, length, ap, refl, ◌∙◌}
-use Rattle.octets.proofs.Stretches.{sliced_front, sliced_part}
-use Rattle.tool.specs.Address.{octet_said, dot_from}
-use Rattle.tool.proofs.Addresses.{none_value, Dots, ipv4_bad, second_before, first-before, ipv4_good}
+use Rattle.std.proofs.Common.{ℕ, Some, ap, sym, ◌∙◌}
+use Rattle.tool.proofs.Addresses.{no_first_dot, no_second_dot, no_third_dot, first_none, second_none, third_none, fourth_none, all_four}
 use Rattle.tool.proofs.address.ipv4.Goals as goal
 
--- the places of the dots
-found : {text : List ℕ} {first second third fourth : ℕ} → first ≡ dot_from text 0 → second ≡ dot_from text (first + 1) →
-    third ≡ dot_from text (second + 1) → fourth ≡ dot_from text (third + 1) → Dots text first second third fourth
-found a b c d = record { is_first = a; is_second = b; is_third = c; is_fourth = d }
+pub returns-in_err-first : goal.returns-in_err-first
+returns-in_err-first c =
+    c.from_residual.ensures
+    ∙ no_first_dot c.args.text.now (sym c.in_err-first.was ∙ c.dot.ensures)
 
-pub returns-then-end-third : goal.returns-then-end-third
-returns-then-end-third c =
-    let dots = found c.dot-first.ensures.0 c.dot-second.ensures.0 c.dot-third.ensures.0 c.dot.ensures.0 in
-    (c.no_number.ensures ∙ ipv4_bad dots c.if-end-third.true, omega (arith, none_value c.no_number.ensures))
+pub returns-in_err-second : goal.returns-in_err-second
+returns-in_err-second c =
+    c.from_residual-in_err-second.ensures
+    ∙ no_second_dot c.args.text.now c.in_ok-first.first (sym c.in_ok-first.was ∙ c.dot.ensures) (sym c.in_err-second.was ∙ c.dot-2.ensures)
 
-pub slice_bounds-octet-count : goal.slice_bounds-octet-count
-slice_bounds-octet-count c =
-    first-before (found c.dot-first.ensures.0 c.dot-second.ensures.0 c.dot-third.ensures.0 c.dot.ensures.0) c.if-end-third.false
+pub returns-in_err-third : goal.returns-in_err-third
+returns-in_err-third c =
+    c.from_residual-in_err-third.ensures
+    ∙ no_third_dot c.args.text.now c.in_ok-first.first (sym c.in_ok-first.was ∙ c.dot.ensures) c.in_ok-second.second (sym c.in_ok-second.was ∙ c.dot-2.ensures) (sym c.in_err-third.was ∙ c.dot-3.ensures)
 
-pub slice_bounds-octet-start : goal.slice_bounds-octet-start
-slice_bounds-octet-start c =
-    first-before (found c.dot-first.ensures.0 c.dot-second.ensures.0 c.dot-third.ensures.0 c.dot.ensures.0) c.if-end-third.false
+pub returns-in_err-a : goal.returns-in_err-a
+returns-in_err-a c =
+    c.from_residual-in_err-a.ensures
+    ∙ first_none c.args.text.now c.in_ok-first.first (sym c.in_ok-first.was ∙ c.dot.ensures) c.in_ok-second.second (sym c.in_ok-second.was ∙ c.dot-2.ensures) c.in_ok-third.third (sym c.in_ok-third.was ∙ c.dot-3.ensures) (sym c.in_err-a.was ∙ c.octet.ensures)
 
-pub slice_bounds-octet-count-2 : goal.slice_bounds-octet-count-2
-slice_bounds-octet-count-2 c =
-    second_before (found c.dot-first.ensures.0 c.dot-second.ensures.0 c.dot-third.ensures.0 c.dot.ensures.0) c.if-end-third.false
+pub returns-in_err-b : goal.returns-in_err-b
+returns-in_err-b c =
+    c.from_residual-in_err-b.ensures
+    ∙ second_none c.args.text.now c.in_ok-first.first (sym c.in_ok-first.was ∙ c.dot.ensures) c.in_ok-second.second (sym c.in_ok-second.was ∙ c.dot-2.ensures) c.in_ok-third.third (sym c.in_ok-third.was ∙ c.dot-3.ensures) c.in_ok-a.a (sym c.in_ok-a.was ∙ c.octet.ensures) (sym c.in_err-b.was ∙ c.octet-2.ensures)
 
-pub slice_bounds-octet-start-2 : goal.slice_bounds-octet-start-2
-slice_bounds-octet-start-2 c =
-    second_before (found c.dot-first.ensures.0 c.dot-second.ensures.0 c.dot-third.ensures.0 c.dot.ensures.0) c.if-end-third.false
+pub returns-in_err-c : goal.returns-in_err-c
+returns-in_err-c c =
+    c.from_residual-in_err-c.ensures
+    ∙ third_none c.args.text.now c.in_ok-first.first (sym c.in_ok-first.was ∙ c.dot.ensures) c.in_ok-second.second (sym c.in_ok-second.was ∙ c.dot-2.ensures) c.in_ok-third.third (sym c.in_ok-third.was ∙ c.dot-3.ensures) c.in_ok-a.a (sym c.in_ok-a.was ∙ c.octet.ensures) c.in_ok-b.b (sym c.in_ok-b.was ∙ c.octet-2.ensures) (sym c.in_err-c.was ∙ c.octet-3.ensures)
+
+pub returns-in_err-d : goal.returns-in_err-d
+returns-in_err-d c =
+    c.from_residual-in_err-d.ensures
+    ∙ fourth_none c.args.text.now c.in_ok-first.first (sym c.in_ok-first.was ∙ c.dot.ensures) c.in_ok-second.second (sym c.in_ok-second.was ∙ c.dot-2.ensures) c.in_ok-third.third (sym c.in_ok-third.was ∙ c.dot-3.ensures) c.in_ok-a.a (sym c.in_ok-a.was ∙ c.octet.ensures) c.in_ok-b.b (sym c.in_ok-b.was ∙ c.octet-2.ensures) c.in_ok-c.c (sym c.in_ok-c.was ∙ c.octet-3.ensures) (sym c.in_err-d.was ∙ c.octet-4.ensures)
 
 pub returns : goal.returns
 returns c =
-    let dots = found c.dot-first.ensures.0 c.dot-second.ensures.0 c.dot-third.ensures.0 c.dot.ensures.0 in
-    let text = c.args.text.now in
-    let first = c.octet-a.ensures.0 ∙ ap octet_said (sliced_front text c.dot-first.result) in
-    let second = c.octet-b.ensures.0 ∙ ap octet_said (sliced_part text (c.dot-first.result + 1) c.dot-second.result _ refl) in
-    let third = c.octet-c.ensures.0 ∙ ap octet_said (sliced_part text (c.dot-second.result + 1) c.dot-third.result _ refl) in
-    let fourth = c.octet-d.ensures.0 ∙ ap octet_said (sliced_part text (c.dot-third.result + 1) (length text) _ refl) in
-    (c.join.ensures.0 ∙ ipv4_good dots c.if-end-third.false first second third fourth, c.join.ensures.1)
+    ap (λ (n : ℕ). Some n) c.from_be_bytes.ensures
+    ∙ all_four c.args.text.now c.in_ok-first.first (sym c.in_ok-first.was ∙ c.dot.ensures) c.in_ok-second.second (sym c.in_ok-second.was ∙ c.dot-2.ensures) c.in_ok-third.third (sym c.in_ok-third.was ∙ c.dot-3.ensures) c.in_ok-a.a (sym c.in_ok-a.was ∙ c.octet.ensures) c.in_ok-b.b (sym c.in_ok-b.was ∙ c.octet-2.ensures) c.in_ok-c.c (sym c.in_ok-c.was ∙ c.octet-3.ensures) c.in_ok-d.d (sym c.in_ok-d.was ∙ c.octet-4.ensures)

@@ -1,0 +1,45 @@
+-- No refusal has the number 0, which an answer is told by where nothing was refused.
+use mathlib.Core.Path.{◌≡◌}
+use native.Mathlib.Omega.{arith}
+use Rattle.refusal.specs.declared.Refusal.{Refusal}
+use Rattle.refusal.specs.declared.Refusal.TheVariants as refusal
+use Rattle.refusal.specs.Number.{number_of}
+
+pub number_some : (r : Refusal) → number_of r ≡ 0 → ⊥
+number_some refusal.SliceTooSmall e = omega (arith, e)
+number_some refusal.PacketTooShort e = omega (arith, e)
+number_some refusal.PacketTooLong e = omega (arith, e)
+number_some refusal.ControlMessage e = omega (arith, e)
+number_some refusal.SessionNotOpen e = omega (arith, e)
+number_some refusal.HeaderNotPlain e = omega (arith, e)
+number_some refusal.FlowOutside e = omega (arith, e)
+number_some refusal.NothingCarried e = omega (arith, e)
+number_some refusal.LengthsDisagree e = omega (arith, e)
+number_some refusal.ContentSpoilt e = omega (arith, e)
+number_some refusal.Late e = omega (arith, e)
+number_some refusal.TableBroken e = omega (arith, e)
+number_some refusal.SegmentOutside e = omega (arith, e)
+number_some refusal.NotVersion3 e = omega (arith, e)
+number_some refusal.OpenWithoutId e = omega (arith, e)
+number_some refusal.AlreadyOpen e = omega (arith, e)
+number_some refusal.AllRowsOpen e = omega (arith, e)
+number_some refusal.NumberUnknown e = omega (arith, e)
+number_some refusal.CloseOfNone e = omega (arith, e)
+number_some refusal.AddressOutside e = omega (arith, e)
+number_some refusal.LimitOutside e = omega (arith, e)
+number_some refusal.FramesUnsound e = omega (arith, e)
+number_some refusal.PositionOutside e = omega (arith, e)
+number_some refusal.NothingLeft e = omega (arith, e)
+number_some refusal.OutputTooSmall e = omega (arith, e)
+number_some refusal.FileTooLong e = omega (arith, e)
+number_some refusal.ContentsCut e = omega (arith, e)
+number_some refusal.TooManyEntries e = omega (arith, e)
+number_some refusal.EntryWrong e = omega (arith, e)
+number_some refusal.BodiesDoNotFill e = omega (arith, e)
+number_some refusal.MpegOutputTooSmall e = omega (arith, e)
+number_some refusal.FrameNotWritten e = omega (arith, e)
+number_some refusal.NoRunGivesIt e = omega (arith, e)
+number_some refusal.PcapHeaderWrong e = omega (arith, e)
+number_some refusal.RecordCut e = omega (arith, e)
+number_some refusal.ImportTooLarge e = omega (arith, e)
+number_some refusal.PcapOutputTooSmall e = omega (arith, e)

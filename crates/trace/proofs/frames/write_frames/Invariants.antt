@@ -1,0 +1,6 @@
+-- `trace::frames::write_frames`: after i turns the lines of the first i frames are written (`Framing`).
+use Rattle.trace.proofs.Tracing.{Framing}
+use Rattle.trace.proofs.frames.write_frames.Given as goal
+
+abbrev pub invariant-loop-length : goal.invariant-loop-length
+invariant-loop-length l = Framing l.initial.text l.at l.output l.lengths l.count l.text l.next l.from l.length-index
