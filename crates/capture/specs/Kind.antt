@@ -15,4 +15,4 @@ number_of kind.DataOverUdp = data_over_udp
 
 abbrev pub Reads : ℕ → Result Kind UnknownKind → Type 0
 Reads number (Ok k) = number ≡ number_of k
-Reads number (Err unknown) = is_kind (body_in kinds number) ≡ false
+Reads number (Err unknown) = (is_kind (body_in kinds number) ≡ false) × (unknown.0 ≡ number)

@@ -9,6 +9,9 @@
 
 mod back;
 
+ghost use Rattle.std.specs.Prelude.{◌≡◌, ◌+◌, length};
+ghost use Rattle.mpegframes.specs.Rooms.{most_read};
+
 use std::io::Write;
 
 fn too_long(stderr: &mut impl Write) {
@@ -19,8 +22,7 @@ fn too_long(stderr: &mut impl Write) {
 }
 
 fn main(rt: HostRuntime) {
-    // one byte more than is read, so that a longer one is seen to be too long
-    let mut file: [u8; back::MOST_READ + 1] = tool::room();
+    let mut file = file_room();
     let read = tool::read_input(&mut rt.stdin(), &mut file);
     if back::MOST_READ < read {
         too_long(&mut rt.stderr());
@@ -29,4 +31,11 @@ fn main(rt: HostRuntime) {
     let mut text: [u8; back::TEXT_ROOM] = tool::room();
     let length = back::get_back(&file[..read], &mut text);
     tool::write_output(&mut rt.stdout(), &text[..length]);
+}
+
+// One byte more than is read, so that a longer file is seen to be too long.
+fn file_room() -> [u8; back::MOST_READ + 1]
+    ensures { most_read + 1 ≡ length result }
+{
+    tool::room()
 }

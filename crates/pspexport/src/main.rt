@@ -10,6 +10,9 @@
 
 mod counts;
 
+ghost use Rattle.std.specs.Prelude.{◌≡◌, length};
+ghost use Rattle.pspexport.specs.Rooms.{output_room};
+
 use pcap::{Addresses, export};
 use std::env::Env;
 use std::io::{Read, Write};
@@ -56,6 +59,12 @@ fn addresses(env: &impl Env) -> Option<Addresses> {
     })
 }
 
+fn output_room() -> [u8; OUTPUT_ROOM]
+    ensures { output_room ≡ length result }
+{
+    tool::room()
+}
+
 // Reads the capture, and writes the file with what was left out, or says why not.
 fn run(
     stdin: &mut impl Read,
@@ -63,9 +72,9 @@ fn run(
     stderr: &mut impl Write,
     addresses: Addresses,
 ) {
-    let mut file = [0u8; tool::CAPTURE_ROOM];
+    let mut file = tool::capture_room();
     let read = tool::read_input(stdin, &mut file);
-    let mut output = [0u8; OUTPUT_ROOM];
+    let mut output = output_room();
     let exported = match export::export(addresses, &file[..read], &mut output) {
         Ok(exported) => exported,
         Err(why) => {

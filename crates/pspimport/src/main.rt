@@ -13,8 +13,9 @@
 mod counts;
 mod sessions;
 
-ghost use Rattle.std.specs.Prelude.{◌≤◌, length};
-ghost use Rattle.pspimport.specs.Rooms.{most_read};
+ghost use Rattle.std.specs.Prelude.{◌≡◌, ◌+◌, ◌≤◌, length};
+ghost use Rattle.capture.specs.File.{longest_file};
+ghost use Rattle.pspimport.specs.Rooms.{most_read, most_sessions};
 
 use pcap::import;
 use std::io::Write;
@@ -37,13 +38,12 @@ fn too_long(stderr: &mut impl Write) {
 }
 
 fn main(rt: HostRuntime) {
-    let mut sessions = [0u32; sessions::MOST_SESSIONS];
+    let mut sessions = sessions_room();
     let Some(count) = sessions::take_sessions(&rt, &mut sessions) else {
         usage(&mut rt.stderr());
         return;
     };
-    // one byte more than is read, so that a longer one is seen to be too long
-    let mut file: [u8; MOST_READ + 1] = tool::room();
+    let mut file = file_room();
     let read = tool::read_input(&mut rt.stdin(), &mut file);
     if MOST_READ < read {
         too_long(&mut rt.stderr());
@@ -57,11 +57,30 @@ fn main(rt: HostRuntime) {
     );
 }
 
+fn sessions_room() -> [u32; sessions::MOST_SESSIONS]
+    ensures { most_sessions ≡ length result }
+{
+    [0; sessions::MOST_SESSIONS]
+}
+
+// One byte more than is read, so that a longer file is seen to be too long.
+fn file_room() -> [u8; MOST_READ + 1]
+    ensures { most_read + 1 ≡ length result }
+{
+    tool::room()
+}
+
+fn output_room() -> [u8; capture::LONGEST_FILE]
+    ensures { longest_file ≡ length result }
+{
+    tool::room()
+}
+
 // Makes the capture, and writes it with what was skipped, or says why not.
 fn run(stdout: &mut impl Write, stderr: &mut impl Write, sessions: &[u32], file: &[u8])
     requires { length file.now ≤ most_read }
 {
-    let mut output: [u8; capture::LONGEST_FILE] = tool::room();
+    let mut output = output_room();
     let imported = match import::import(sessions, file, &mut output) {
         Ok(imported) => imported,
         Err(why) => {

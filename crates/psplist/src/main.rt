@@ -6,7 +6,7 @@
 #![tactic(auto)]
 
 fn main(rt: HostRuntime) {
-    let mut file = [0u8; tool::CAPTURE_ROOM];
+    let mut file = tool::capture_room();
     let read = tool::read_input(&mut rt.stdin(), &mut file);
     let mut text = [0u8; listing::LISTING_ROOM];
     let length = listing::list(&file[..read], &mut text);

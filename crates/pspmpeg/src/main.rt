@@ -47,7 +47,7 @@ fn session(env: &impl Env) -> Option<u32> {
 
 // Reads the capture and writes the packets.
 fn run(stdin: &mut impl Read, stdout: &mut impl Write, session: u32) {
-    let mut file = [0u8; tool::CAPTURE_ROOM];
+    let mut file = tool::capture_room();
     let read = tool::read_input(stdin, &mut file);
     let mut text = [0u8; packets::STREAM_ROOM];
     let length = write_stream(&file[..read], session, &mut text);

@@ -13,7 +13,7 @@
 mod input;
 mod series;
 
-ghost use Rattle.std.specs.Prelude.{◌≤◌, length};
+ghost use Rattle.std.specs.Prelude.{◌≡◌, ◌≤◌, length};
 ghost use Rattle.pspsend.specs.Inside.{most_bytes};
 
 use series::Sending;
@@ -60,11 +60,17 @@ fn sending(env: &impl Env) -> Option<Sending> {
     })
 }
 
+fn file_room() -> [u8; FILE_ROOM]
+    ensures { most_bytes ≡ length result }
+{
+    tool::room()
+}
+
 // Reads the frames and sends them.
 fn run(stdin: &mut impl Read, stdout: &mut impl Write, stderr: &mut impl Write, sending: Sending) {
-    let mut file: [u8; FILE_ROOM] = tool::room();
+    let mut file = file_room();
     let read = tool::read_input(stdin, &mut file);
-    let mut bytes: [u8; FILE_ROOM] = tool::room();
+    let mut bytes = file_room();
     let mut lengths: [u16; input::MOST] = tool::lengths_room();
     let taken = input::take_frames(&file[..read], &mut bytes, &mut lengths);
     let count = taken.count;

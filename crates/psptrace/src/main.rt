@@ -14,7 +14,7 @@ use replay::Walk;
 use std::io::Write;
 
 fn main(rt: HostRuntime) {
-    let mut file = [0u8; tool::CAPTURE_ROOM];
+    let mut file = tool::capture_room();
     let read = tool::read_input(&mut rt.stdin(), &mut file);
     let mut text = [0u8; trace::ENTRY_ROOM];
     trace(&mut rt.stdout(), &file[..read], &mut text);

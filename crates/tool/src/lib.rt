@@ -7,6 +7,7 @@ pub mod number;
 
 ghost use Rattle.std.specs.Prelude.{◌≡◌, ◌+◌, ◌≤◌, length};
 ghost use Rattle.std.specs.Counts.{IsPrefixLen};
+ghost use Rattle.capture.specs.File.{longest_file};
 ghost use Rattle.text.specs.Text.{Wrote};
 ghost use Rattle.tool.specs.Line.{line_of, number_room};
 ghost use Rattle.tool.specs.Refused.{refused_line, refused_room};
@@ -18,7 +19,7 @@ use std::io::{Read, Write};
 const ARGUMENT_ROOM: usize = 32;
 
 // Room for a capture, and one byte more, so that a longer one is seen to be too long.
-pub const CAPTURE_ROOM: usize = capture::LONGEST_FILE + 1;
+const CAPTURE_ROOM: usize = capture::LONGEST_FILE + 1;
 
 // Room for the line of a refusal.
 const REFUSED_ROOM: usize = 19;
@@ -66,6 +67,12 @@ pub fn lengths_room<const N: usize>() -> [u16; N]
     ensures { N ≡ length result }
 {
     [0; N]
+}
+
+pub fn capture_room() -> [u8; CAPTURE_ROOM]
+    ensures { longest_file + 1 ≡ length result }
+{
+    room()
 }
 
 // Reads an input into a room until there is no more room, the input ends or a read fails, and answers how many bytes it read.
