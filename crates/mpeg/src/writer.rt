@@ -42,7 +42,8 @@ fn bad_frame(frames: &[u8], start: usize, size: usize) -> bool
 }
 
 // Goes through all frames, and answers how many bytes are left of the one that has begun; or refuses one that may not be written, or bytes
-// behind the last. The loop stops at such a frame, and what it says is judged behind the loop: so a turn makes no answer.
+// behind the last. The loop only stops at a frame that may not be written, and it is refused behind the loop: so no answer is at hand in
+// the loop, and a turn is short (bench/README.md, stream f).
 fn survey(frames: &[u8], lengths: &[u16], place: usize) -> Result<usize, Refusal>
     ensures { Surveys frames.now lengths.now place result }
 {
@@ -60,7 +61,10 @@ fn survey(frames: &[u8], lengths: &[u16], place: usize) -> Result<usize, Refusal
         start += size;
         passed += 1;
     }
-    if (passed < lengths.len()) | (start != frames.len()) {
+    if passed < lengths.len() {
+        return Err(Refusal::FrameNotWritten);
+    }
+    if start != frames.len() {
         return Err(Refusal::FrameNotWritten);
     }
     Ok(begun.saturating_sub(place))
