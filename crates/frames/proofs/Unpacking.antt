@@ -2,12 +2,12 @@
 -- to be read (`Unpacking`, the loop's invariant).
 use Prim.Native.Nat.{ℕ, zero, suc, ◌+◌, ◌-◌, ◌<◌, ◌≤◌}
 use mathlib.Core.Path.{◌≡◌, refl, sym, ap, ◌∙◌}
-use mathlib.Core.Bool.{Bool, true, false, cond, ◌&&◌}
+use mathlib.Core.Bool.{true, false}
 use mathlib.Core.List.{List, [], ◌∷◌, ◌++◌, append-nil, append_assoc}
 use native.Mathlib.Omega.{arith}
-use lib.Dec.{leb, ltb}
+use lib.Dec.{leb}
 use lib.ListN.{length, set, length-append}
-use borrow.Author.Tests.{leb-true, leb-false, ltb-false, lt-leb, le-leb}
+use borrow.Author.Tests.{lt-leb, le-leb}
 use Rattle.octets.specs.Bytes.{be16_at}
 use Rattle.octets.specs.Stretch.{part, rest, put, joined, lengths_of}
 use Rattle.octets.proofs.Stretches.{length_part, length_rest, part-rest, length-put, put-nil, put-put_front, set-put}
@@ -22,23 +22,20 @@ module _ (file : List ℕ) (at : ℕ) (inside : at ≤ length file) where
   left_is : length (rest file at) ≡ length file - at
   left_is = length_rest file at
 
-  pub stands-not : length file - at < length_bytes → false ≡ stands_whole (rest file at)
+  pub stands-not : length file - at < length_bytes → stands_whole (rest file at) ≡ false
   stands-not h = rw (lt-leb length_bytes (length (rest file at)) (omega (arith, left_is))) refl
 
-  pub stands_if : length_bytes ≤ length file - at → (size : ℕ) → size ≡ be16_at file at →
-      leb size (length file - at - length_bytes) ≡ stands_whole (rest file at)
-  stands_if h size e =
-      rw (le-leb length_bytes (length (rest file at)) (omega (arith, left_is)), be16_rest file at, ← e, left_is)
-      (by (leb size (length file - at - length_bytes)) refl)
-    where
-      by : (t : Bool) → leb size (length file - at - length_bytes) ≡ t → t ≡ leb (length_bytes + size) (length file - at)
-      by true q = sym (le-leb (length_bytes + size) (length file - at) (omega (arith, leb-true size (length file - at - length_bytes) q)))
-      by false q = sym (lt-leb (length_bytes + size) (length file - at) (omega (arith, leb-false size (length file - at - length_bytes) q)))
+  module _ (h : length_bytes ≤ length file - at) (size : ℕ) (e : size ≡ be16_at file at) where
+    by_size : stands_whole (rest file at) ≡ leb (length_bytes + size) (length file - at)
+    by_size = rw (le-leb length_bytes (length (rest file at)) (omega (arith, left_is)), be16_rest file at, ← e, left_is) refl
+
+    pub stands_cut : length file - at - length_bytes < size → stands_whole (rest file at) ≡ false
+    stands_cut l = by_size ∙ lt-leb (length_bytes + size) (length file - at) (omega (arith, l))
+
+    pub stands_all : size ≤ length file - at - length_bytes → stands_whole (rest file at) ≡ true
+    stands_all l = by_size ∙ le-leb (length_bytes + size) (length file - at) (omega (arith, h, l))
 
   module _ (stands : stands_whole (rest file at) ≡ true) where
-    pub length-there : at + length_bytes ≤ length file
-    length-there = omega (arith, left_is, (stands_long (rest file at) stands).0)
-
     pub frame-there : at + length_bytes + be16_at file at ≤ length file
     frame-there = omega (arith, left_is, be16_rest file at, (stands_long (rest file at) stands).1)
 
@@ -47,7 +44,8 @@ module _ (file : List ℕ) (at : ℕ) (inside : at ≤ length file) where
 
     behind_is : behind_front (rest file at) ≡ rest file (at + length_bytes + be16_at file at)
     behind_is =
-        let place : at + (length_bytes + be16_at (rest file at) 0) ≡ at + length_bytes + be16_at file at = omega (arith, be16_rest file at) in
+        let place : at + (length_bytes + be16_at (rest file at) 0) ≡ at + length_bytes + be16_at file at =
+        omega (arith, be16_rest file at) in
         rest-rest file at (length_bytes + be16_at (rest file at) 0) ∙ ap (rest file) place
 
 -- as many frames are asked for as there are lengths
@@ -139,34 +137,22 @@ module _ {file bytes₀ lengths₀ bytes lengths : List ℕ} {count total at : �
         }
 
   -- no frame more
-  module _ (stops : (ltb count (length lengths) && stands_whole (rest file at)) ≡ false) where
+  module _ (stops : count < length lengths → stands_whole (rest file at) ≡ false) where
     frames_all : whole_frames most file ≡ u.taken
     unfolding whole_frames
-    frames_all = u.frames_are ∙ ap (λ (x : List (List ℕ)). u.taken ++ x) (by (ltb count (length lengths)) refl) ∙ append-nil u.taken
+    frames_all = u.frames_are ∙ ap (λ (x : List (List ℕ)). u.taken ++ x) (by (most - count) refl) ∙ append-nil u.taken
       where
-        none_more : (n : ℕ) (l : List ℕ) → stands_whole l ≡ false → whole_frames n l ≡ []
-        none_more zero l e = refl
-        none_more (suc n) l e = ap (λ (t : Bool). cond t (front_frame l ∷ whole_frames n (behind_front l)) []) e
-
-        by : (t : Bool) → ltb count (length lengths) ≡ t → whole_frames (most - count) (rest file at) ≡ []
-        by true e = none_more (most - count) (rest file at) (sym (ap (λ (b : Bool). b && stands_whole (rest file at)) e) ∙ stops)
-        by false e =
-            let full : most - count ≡ 0 = omega (arith, ltb-false count (length lengths) e, lengths-same) in
-            ap (λ (n : ℕ). whole_frames n (rest file at)) full
+        by : (n : ℕ) → most - count ≡ n → whole_frames n (rest file at) ≡ []
+        by zero e = refl
+        by (suc n) e = rw (stops (omega (arith, e, lengths-same))) refl
 
     left_all : left_behind most file ≡ rest file at
     unfolding left_behind
-    left_all = u.left_are ∙ by (ltb count (length lengths)) refl
+    left_all = u.left_are ∙ by (most - count) refl
       where
-        none_more : (n : ℕ) (l : List ℕ) → stands_whole l ≡ false → left_behind n l ≡ l
-        none_more zero l e = refl
-        none_more (suc n) l e = ap (λ (t : Bool). cond t (left_behind n (behind_front l)) l) e
-
-        by : (t : Bool) → ltb count (length lengths) ≡ t → left_behind (most - count) (rest file at) ≡ rest file at
-        by true e = none_more (most - count) (rest file at) (sym (ap (λ (b : Bool). b && stands_whole (rest file at)) e) ∙ stops)
-        by false e =
-            let full : most - count ≡ 0 = omega (arith, ltb-false count (length lengths) e, lengths-same) in
-            ap (λ (n : ℕ). left_behind n (rest file at)) full
+        by : (n : ℕ) → most - count ≡ n → left_behind n (rest file at) ≡ rest file at
+        by zero e = refl
+        by (suc n) e = rw (stops (omega (arith, e, lengths-same))) refl
 
     pub unpack_end : PermitsUnpack file bytes₀ lengths₀ (record { count = count; bytes = total; left = length file - at }) bytes lengths
     unpack_end =

@@ -12,7 +12,8 @@
 --     |  ..                           |
 --
 -- Read from the front it is whole frames, as long as a whole one stands there; what is left behind them belongs to none.
-use Rattle.std.specs.Prelude.{ℕ, zero, suc, ◌+◌, ◌≡◌, Bool, cond, ◌&&◌, List, [], ◌∷◌, ◌++◌, map, leb, length}
+use Rattle.std.specs.Prelude.{ℕ, zero, suc, ◌+◌, ◌≡◌, Bool, true, false, cond, ◌&&◌, Option, Some, None, List, [], ◌∷◌, ◌++◌, map, leb}
+use Rattle.std.specs.Prelude.{length}
 use Rattle.octets.specs.Bytes.{be16_at, two}
 use Rattle.octets.specs.Stretch.{part, rest, put, joined, lengths_of, cut_by}
 use Rattle.frames.specs.declared.Unpacked.{Unpacked}
@@ -36,6 +37,11 @@ front_frame file = part file length_bytes (be16_at file 0)
 
 abbrev pub behind_front : List ℕ → List ℕ
 behind_front file = rest file (length_bytes + be16_at file 0)
+
+-- what is answered of the front: how long the frame is that stands whole there, or that none does
+abbrev pub SaysFront : List ℕ → Option ℕ → Type 0
+SaysFront file (Some size) = (stands_whole file ≡ true) × (size ≡ be16_at file 0)
+SaysFront file None = stands_whole file ≡ false
 
 -- the whole frames at the front, at most so many; and what is left behind them
 unfoldable pub whole_frames : ℕ → List ℕ → List (List ℕ)

@@ -6,7 +6,7 @@ ghost use Rattle.std.specs.Prelude.{◌≡◌, ◌+◌, ◌*◌, ◌≤◌, leng
 ghost use Rattle.octets.specs.Bytes.{byte_at};
 ghost use Rattle.octets.specs.Count.{sum_to};
 ghost use Rattle.octets.specs.Stretch.{rest};
-ghost use Rattle.frames.specs.Frames.{length_bytes, stands_whole, PermitsPack, PermitsUnpack};
+ghost use Rattle.frames.specs.Frames.{length_bytes, SaysFront, PermitsPack, PermitsUnpack};
 
 // How long a frame's length is in the file.
 pub const LENGTH_BYTES: usize = 2;
@@ -38,13 +38,20 @@ pub fn pack(bytes: &[u8], lengths: &[u16], file: &mut [u8]) -> usize
     at
 }
 
-// Whether a whole frame, with its length before it, stands at this place of the file.
-fn stands_whole(file: &[u8], at: usize) -> bool
+// The length of the frame that stands whole at this place of the file, with its length before it; or none where no whole one does.
+fn whole_at(file: &[u8], at: usize) -> Option<u16>
     requires { at ≤ length file.now }
-    ensures { result ≡ stands_whole (rest file.now at) }
+    ensures { SaysFront (rest file.now at) result }
 {
     let left = file.len() - at;
-    LENGTH_BYTES <= left && usize::from(octets::read_u16(file, at)) <= left - LENGTH_BYTES
+    if left < LENGTH_BYTES {
+        return None;
+    }
+    let length = octets::read_u16(file, at);
+    if left - LENGTH_BYTES < usize::from(length) {
+        return None;
+    }
+    Some(length)
 }
 
 // Takes the frames apart into their bytes, back to back, and their lengths: at most as many as there are lengths lent.
@@ -56,8 +63,11 @@ pub fn unpack(file: &[u8], bytes: &mut [u8], lengths: &mut [u16]) -> Unpacked
     let mut count: usize = 0;
     let mut total: usize = 0;
     let mut at: usize = 0;
-    while (count < lengths.len()) & stands_whole(file, at) {
-        let length = octets::read_u16(file, at);
+    // No `for`: it goes from frame to frame, up to the first that does not stand whole.
+    while count < lengths.len() {
+        let Some(length) = whole_at(file, at) else {
+            break;
+        };
         let size = usize::from(length);
         let body = at + LENGTH_BYTES;
         octets::copy(bytes, total, file, body, size);

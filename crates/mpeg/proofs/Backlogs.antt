@@ -115,7 +115,8 @@ module _ (t behind : List ℕ) (h : length t < payload_length) (some : 0 < lengt
 
   pub packet-ends : (count : ℕ) →
       packet_of count (length t) (t ++ behind)
-      ≡ header true frames_pid count ++ (length t ∷ (t ++ filled_to (pointed_length - length t) (part behind 0 (pointed_length - length t))))
+      ≡ header true frames_pid count
+      ++ (length t ∷ (t ++ filled_to (pointed_length - length t) (part behind 0 (pointed_length - length t))))
   packet-ends count =
       let front = part behind 0 (pointed_length - length t) in
       let n : pointed_length - length (t ++ front) ≡ pointed_length - length t - length front = omega (arith, length-append t front) in

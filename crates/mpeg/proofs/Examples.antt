@@ -63,7 +63,8 @@ both = long 394 ++ short
 abbrev both_lengths : List ℕ
 both_lengths = 400 ∷ 6 ∷ []
 
-r_found : (left_at both_lengths 0 ≡ 0) × (left_at both_lengths 1 ≡ 399) × (left_at both_lengths 216 ≡ 184) × (left_at both_lengths 217 ≡ 183)
+r_found : (left_at both_lengths 0 ≡ 0) × (left_at both_lengths 1 ≡ 399) × (left_at both_lengths 216 ≡ 184)
+    × (left_at both_lengths 217 ≡ 183)
     × (left_at both_lengths 399 ≡ 1) × (left_at both_lengths 400 ≡ 0) × (left_at both_lengths 401 ≡ 5) × (left_at both_lengths 406 ≡ 0)
 unfolding left_at
 r_found = (refl, refl, refl, refl, refl, refl, refl, refl)

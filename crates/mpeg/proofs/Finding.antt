@@ -67,7 +67,8 @@ finding_begin {packed} {standing} s =
       few_bytes = omega (arith, s.few_bytes);
       few-frames = s.few-frames;
       so_far =
-          ap (λ (l : List ℕ). standing_with standing.expected standing.frames standing.bytes (found pointed_length l)) (sym (rest-none packed));
+          ap (λ (l : List ℕ). standing_with standing.expected standing.frames standing.bytes (found pointed_length l))
+          (sym (rest-none packed));
     }
 
 -- At the end of the packet nothing is left.

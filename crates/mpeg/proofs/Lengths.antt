@@ -119,9 +119,6 @@ module _ {bytes lengths : List ℕ} {count : ℕ} {lengths' : List ℕ} {from k 
                 ∙ ap (put lengths 0) (sym (lengths-suc k bytes) ∙ ap (λ (n : ℕ). said_lengths n bytes) (sym one));
           }
 
-  pub tell_end : count ≤ k → lengths' ≡ put lengths 0 (said_lengths count bytes)
-  tell_end done = t.told ∙ ap (λ (n : ℕ). put lengths 0 (said_lengths n bytes)) (let e : k ≡ count = omega (arith, t.within) in e)
-
 -- Good frames say their lengths, whatever stands behind them.
 said_front : (frame behind : List ℕ) → good frame ≡ true → said_length (frame ++ behind) ≡ length frame
 said_front frame behind g = said-append frame behind (omega (arith, good-some frame g)) ∙ (good_says frame g).its_length

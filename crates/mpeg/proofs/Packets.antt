@@ -39,7 +39,8 @@ handed-none bytes h = rw (lt-leb mpeg_length (length bytes) h) refl
 
 -- the first n bytes of the slice that is handed from
 pub handed : (queue null from answer : Bor (List ℕ)) (n : ℕ) → source queue null ≡ from → handed_length from.now ≡ n →
-    answer.ref_ptr.0 ≡ from.ref_ptr.0 → answer.ref_ptr.1 ≡ from.ref_ptr.1 → answer.now ≡ part from.now 0 n → PermitsHandOut queue null answer
+    answer.ref_ptr.0 ≡ from.ref_ptr.0 → answer.ref_ptr.1 ≡ from.ref_ptr.1 → answer.now ≡ part from.now 0 n →
+    PermitsHandOut queue null answer
 handed queue null from answer n s l block place bytes =
     record { in_its_source = rw s block; at_its_front = rw s place; its_bytes = rw (s, l) bytes }
 
@@ -121,9 +122,6 @@ module _ (d bytes : List ℕ) (place left count : ℕ) (w : Waiting bytes place 
   module _ (far : payload_length ≤ left) where
     pub unpointed_there : place + payload_length ≤ length bytes
     unpointed_there = omega (arith, far, w.something, w.all_there)
-
-    pub unpointed_carries : payload_length ≡ carries left waiting
-    unpointed_carries = rw (le-leb payload_length left far) refl
 
     pub unpointed_written : (first last : List ℕ) → first ≡ put d 0 (header false frames_pid count) →
         last ≡ put first head_length (part bytes place payload_length) → last ≡ put d 0 (data_packet count left waiting)

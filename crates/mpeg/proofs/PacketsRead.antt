@@ -30,7 +30,8 @@ standing expected begun frames = record { sound = true; expected = expected; beg
 abbrev pub Expects : ℕ → ℕ → Type 0
 Expects expected count = (expected ≡ any_count) ⊎ (expected ≡ count % counts)
 
-pub read_null : (expected : ℕ) (frames : List (List ℕ)) → read_packet (standing expected [] frames) null_packet ≡ standing expected [] frames
+pub read_null : (expected : ℕ) (frames : List (List ℕ)) →
+    read_packet (standing expected [] frames) null_packet ≡ standing expected [] frames
 unfolding none
 read_null expected frames = ways.read_null (standing expected [] frames) null_packet refl (same_self null_packet)
 
@@ -63,7 +64,8 @@ module _ (count : ℕ) (body : List ℕ) where
   fits : (starts : Bool) (expected : ℕ) → Expects expected count → count_fits expected (header starts frames_pid count ++ body) ≡ true
   fits starts expected (inl e) = rw (eq-eqb expected any_count e) refl
   fits starts expected (inr e) =
-      rw (eq-eqb expected (count_of (header starts frames_pid count ++ body)) (e ∙ sym (count_of_lem starts))) (or-true (eqb expected any_count))
+      rw (eq-eqb expected (count_of (header starts frames_pid count ++ body)) (e ∙ sym (count_of_lem starts)))
+      (or-true (eqb expected any_count))
 
 next_of : (count : ℕ) (body : List ℕ) (starts : Bool) → next_count (count_of (header starts frames_pid count ++ body)) ≡ next_count count
 next_of count body starts = ap next_count (count_of_lem count body starts) ∙ omega arith
@@ -120,7 +122,8 @@ pointed_is : (count : ℕ) (t bytes : List ℕ) → pointed (flagged_packet coun
 pointed_is count t bytes = rest-append (header true frames_pid count ++ (length t ∷ [])) (t ++ bytes)
 
 by_with : (expected count : ℕ) (t bytes : List ℕ) (done : List (List ℕ)) (b : List ℕ) → Expects expected count →
-    read_packet (standing expected b done) (flagged_packet count t bytes) ≡ with_flag (standing expected b done) (flagged_packet count t bytes)
+    read_packet (standing expected b done) (flagged_packet count t bytes)
+    ≡ with_flag (standing expected b done) (flagged_packet count t bytes)
 by_with expected count t bytes done b e =
     let body = length t ∷ (t ++ bytes) in
     read_with

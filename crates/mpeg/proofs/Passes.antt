@@ -169,7 +169,8 @@ within_of standing b small =
     record { count_known = b.count_known; few_bytes = omega (arith, b.few_bytes); few-frames = b.few-frames }
 
 -- a packet that stands among others
-pub follows_at : {packet l : List ℕ} {a b : Told} → packet ≡ l → Follows (λ s. read_packet s packet) a b → Follows (λ s. read_packet s l) a b
+pub follows_at : {packet l : List ℕ} {a b : Told} → packet ≡ l → Follows (λ s. read_packet s packet) a b →
+    Follows (λ s. read_packet s l) a b
 follows_at {packet} {l} {a} {b} e follows = λ s may is. follows s may is ∙ ap (λ (p : List ℕ). standing_of (read_packet s p)) e
 
 -- A reading finds no more bytes than there are, and no more frames than bytes.

@@ -172,7 +172,8 @@ module _ (s : Reading) (packet : List ℕ) (more : List (List ℕ)) (may : may_b
       (on may_begin-none bytes-none) in
       rw (headed-rest h) at r
   step_by (went_on h begun m e) sound behind =
-      let on : may_begin (longer s packet) ≡ true → AllBytes (longer s packet) → RunOf (longer s packet) (next_count (count_of packet)) more =
+      let on : may_begin (longer s packet) ≡ true → AllBytes (longer s packet) →
+      RunOf (longer s packet) (next_count (count_of packet)) more =
       rw e at behind in
       let r =
       goes_further s.begun (rest packet head_length) s.expected (count_of packet) more begun payload_long h.fits

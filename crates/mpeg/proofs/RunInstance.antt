@@ -56,7 +56,8 @@ written = refl
 -- .. and the reader reads them
 read_back : reading (joined packets)
     ≡ record { sound = true; expected = 3; begun = 0x09 ∷ 0x0A ∷ 0x01 ∷ 0x26 ∷ replicate 172 0xE1; frames = A ∷ B ∷ C ∷ D ∷ [] }
-unfolding reading read_from read_packet packets_in up_to with_flag without_flag found none same all_fill good may_begin null_packet part rest joined
+unfolding reading read_from read_packet packets_in up_to with_flag without_flag found none same all_fill good may_begin null_packet
+    part rest joined
 read_back = refl
 
 -- so much has been sent, and these frames whole

@@ -25,7 +25,8 @@ use Rattle.mpeg.specs.Packet.{pointed_length, frames_pid}
 use Rattle.mpeg.specs.Frame.{starts_well, Good}
 use Rattle.mpeg.specs.Write.{packet_of, carried, count_after}
 use Rattle.mpeg.specs.Read.{Reading, at_start, any_count, read_packet, read_from, packets_in, reading}
-use Rattle.mpeg.specs.Run.{Backlog, no_backlog, Burst, added, waiting_in, left_in, packet_next, after_next, run_packets, run_end, GoodBursts}
+use Rattle.mpeg.specs.Run.{Backlog, no_backlog, Burst, added, waiting_in, left_in, packet_next, after_next, run_packets, run_end}
+use Rattle.mpeg.specs.Run.{GoodBursts}
 use Rattle.mpeg.specs.Run.{all_frames, sent_whole, RunsAreRead, AllComeBack, DrainedIsEmpty}
 use Rattle.mpeg.proofs.Backlogs.{Mid, between, within, mid_front, one, one_some, At, at_left, at_next, at_added, at_none, at_on}
 use Rattle.mpeg.proofs.Backlogs.{at_whole, at_ends, NotEmpty, at_sent, count_next, count-some, packet_on, packet-ends, carried_some}
@@ -73,7 +74,8 @@ none-begun (within x b y t) w h = absurd (never h)
     never e = omega arith
 
 -- what waits does not start with what a packet is filled up with
-room_starts : (m : ℕ) (waiting : List (List ℕ)) → Each Good waiting → 0 < m → 0 < length (joined waiting) → all_fill (room m waiting) ≡ false
+room_starts : (m : ℕ) (waiting : List (List ℕ)) → Each Good waiting → 0 < m → 0 < length (joined waiting) →
+    all_fill (room m waiting) ≡ false
 room_starts m [] g k some = absurd (not-suc-le-zero (rw length-joined-none at some))
 room_starts m (f ∷ waiting) (g, gs) k some =
     let w = joined (f ∷ waiting) in

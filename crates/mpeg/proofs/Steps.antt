@@ -39,7 +39,8 @@ frames_pass (f ∷ more) g =
     (frames_pass more g.1)
 
 pub passed_are_frames : (lengths bytes : List ℕ) → bad_frames lengths bytes ≡ false →
-    (lengths_of (cut_by lengths bytes) ≡ lengths) × (joined (cut_by lengths bytes) ≡ bytes) × Each (λ f. good f ≡ true) (cut_by lengths bytes)
+    (lengths_of (cut_by lengths bytes) ≡ lengths) × (joined (cut_by lengths bytes) ≡ bytes)
+    × Each (λ f. good f ≡ true) (cut_by lengths bytes)
 unfolding bad_frames
 passed_are_frames [] bytes h =
     let empty = length_none bytes (eqb-true (length bytes) 0 (not-false (eqb (length bytes) 0) h)) in

@@ -57,7 +57,8 @@ module _ (bytes : List ℕ) (start size : ℕ) (inside : start ≤ length bytes)
   module _ (h : ((ltb size beside_field || ltb longest size) || ltb (length bytes) (start + size)) ≡ false) where
     pub enough : beside_field ≤ size
     enough =
-        ltb-false size beside_field (or-false-left (ltb size beside_field) _ (or-false-left (ltb size beside_field || ltb longest size) _ h))
+        ltb-false size beside_field
+        (or-false-left (ltb size beside_field) _ (or-false-left (ltb size beside_field || ltb longest size) _ h))
 
     not_long : size ≤ longest
     not_long =

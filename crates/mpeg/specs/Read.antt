@@ -3,7 +3,8 @@
 -- packets which this reader takes are those of the runs and no others is `runs_are_read` and `read_is_run`.
 --
 -- It goes from packet to packet, and between two packets it has the frames found so far and the bytes so far of one that is not finished.
-use Rattle.std.specs.Prelude.{ℕ, zero, suc, ◌+◌, ◌*◌, ◌/◌, ◌%◌, ◌≡◌, Bool, true, false, not, cond, ◌&&◌, ◌||◌, List, [], ◌∷◌, ◌++◌, eqb, ltb, leb, length}
+use Rattle.std.specs.Prelude.{ℕ, zero, suc, ◌+◌, ◌*◌, ◌/◌, ◌%◌, ◌≡◌, Bool, true, false, not, cond, ◌&&◌, ◌||◌, List, [], ◌∷◌, ◌++◌, eqb}
+use Rattle.std.specs.Prelude.{ltb, leb, length}
 use Rattle.refusal.specs.Refusal.{Refusal, ◌when◌, first}
 use Rattle.octets.specs.Bytes.{byte_at}
 use Rattle.octets.specs.Stretch.{part, rest, put, joined, lengths_of}

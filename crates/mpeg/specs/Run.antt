@@ -119,7 +119,8 @@ CallsMakeRuns = (q : Backlog) (output : List ℕ) → Each Good q.frames → mpe
 pub record JudgedByFrames : Type 0 where
   pub frames_pass : (frames : List (List ℕ)) → Each (λ f. good f ≡ true) frames → bad_frames (lengths_of frames) (joined frames) ≡ false
   pub passed_are_frames : (lengths bytes : List ℕ) → bad_frames lengths bytes ≡ false →
-      (lengths_of (cut_by lengths bytes) ≡ lengths) × (joined (cut_by lengths bytes) ≡ bytes) × Each (λ f. good f ≡ true) (cut_by lengths bytes)
+      (lengths_of (cut_by lengths bytes) ≡ lengths) × (joined (cut_by lengths bytes) ≡ bytes)
+      × Each (λ f. good f ≡ true) (cut_by lengths bytes)
 
 -- `sent_may_go`: frames that have been sent whole may be taken away from the front, with their bytes taken off the place: the same packet
 -- comes next, and behind it things stand as before.

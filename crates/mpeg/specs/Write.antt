@@ -1,7 +1,8 @@
 -- The writer (W3): one call, one packet. It is given frames, back to back with their lengths, how many of their bytes have been sent, and
 -- the count; and writes the next packet at the front of the output, or refuses. It answers how many bytes have been sent now, the next
 -- count, and whether it was a null packet. A refusal and a null packet give back the place and the count as they were given.
-use Rattle.std.specs.Prelude.{ℕ, zero, suc, ◌+◌, ◌-◌, min, ◌≡◌, Bool, true, false, not, cond, ◌||◌, List, [], ◌∷◌, ◌++◌, eqb, ltb, leb, length}
+use Rattle.std.specs.Prelude.{ℕ, zero, suc, ◌+◌, ◌-◌, min, ◌≡◌, Bool, true, false, not, cond, ◌||◌, List, [], ◌∷◌, ◌++◌, eqb, ltb, leb}
+use Rattle.std.specs.Prelude.{length}
 use Rattle.refusal.specs.Refusal.{Refusal, ◌when◌, first}
 use Rattle.octets.specs.Stretch.{part, rest, put}
 use Rattle.octets.specs.Tests.{none}

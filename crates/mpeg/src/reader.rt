@@ -181,6 +181,7 @@ fn frames_in(packed: &[u8], standing: Standing) -> Option<Standing>
     let mut frames = standing.frames;
     let mut bytes = standing.bytes;
     let mut from = 0;
+    // No `for`: a turn goes on behind the frame that it has found, and how long that is stands in the frame.
     while from < packed.len() {
         if packed[from] == ts::FILL_BYTE {
             if !ts::all_fill(&packed[from..]) {

@@ -1,6 +1,6 @@
 -- The laws of `any`, `least`, `sum_to` and `up_to`: what they mean, and one turn more, at the code's `k + 1`. The invariants of
--- the loops that compute them stand here too, as records: `Gathered` for a loop that gathers faults, `Sought` for one that
--- looks for the first number that passes. A loop's own proof then only cites a begin, a turn and an end.
+-- the loops that compute them stand here too, as records: `Gathered` for a loop that gathers faults, whose own proof then only
+-- cites a begin, a turn and an end; `Sought` for one that looks for the first number that passes.
 use Prim.Native.Nat.{ℕ, zero, suc, ◌+◌, ◌*◌, ◌<◌, ◌≤◌}
 use mathlib.Core.Path.{◌≡◌, refl, ap, ◌∙◌, sym}
 use mathlib.Core.Bool.{Bool, true, false, not, ◌||◌, or-true, or-false, or_assoc, true≢false}
@@ -30,9 +30,6 @@ or-false-right true true h = h
 pub or_true_right : (a b : Bool) → (a || b) ≡ true → a ≡ false → b ≡ true
 or_true_right true b h e = absurd (true≢false e)
 or_true_right false b h e = h
-
-pub or_same : {a b x y : Bool} → a ≡ x → b ≡ y → (a || b) ≡ (x || y)
-or_same p q = rw (p, q) refl
 
 -- Some number passes, or none.
 pub any_none : (p : ℕ → Bool) → any p 0 ≡ false
@@ -256,17 +253,5 @@ pub record Sought (p : ℕ → Bool) (n i : ℕ) : Type 0 where
   pub within : i ≤ n
   pub none : any p i ≡ false
 
-pub seek_begin : (p : ℕ → Bool) (n : ℕ) → Sought p n 0
-seek_begin p n = record { within = omega arith; none = any_none p }
-
-pub seek_turn : {p : ℕ → Bool} {n i : ℕ} → Sought p n i → i < n → p i ≡ false → Sought p n (i + 1)
-seek_turn {p} {n} {i} g l e = record { within = omega arith; none = none_more p i g.none e }
-
-pub seek_found : {p : ℕ → Bool} {n i : ℕ} → Sought p n i → i < n → p i ≡ true → i ≡ least p n
-seek_found {p} {n} {i} g l e = sym (least_at p n i g.none e l)
-
 pub seek_none : {p : ℕ → Bool} {n i : ℕ} → Sought p n i → n ≤ i → any p n ≡ false
 seek_none {p} {n} {i} g l = let q : n ≡ i = omega (arith, g.within, l) in ap (any p) q ∙ g.none
-
-pub seek_end : {p : ℕ → Bool} {n i : ℕ} → Sought p n i → n ≤ i → n ≡ least p n
-seek_end {p} {n} {i} g l = sym (least-none p n (seek_none g l))

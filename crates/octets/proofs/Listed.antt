@@ -9,14 +9,14 @@ use native.Mathlib.Omega.{arith}
 use Rattle.std.proofs.lemmas.Bool.{cases_lt}
 use lib.Dec.{ltb}
 use lib.ListN.{get_or, length, take}
-use Rattle.std.specs.List.{list_any, position, position_or_len, range_with_len, sum_by}
+use Rattle.std.specs.List.{list_any, position, position_or_len, range_with_len}
 use Rattle.std.specs.Prelude.{Some, None}
 use Rattle.std.proofs.Common.{add-one, zero-add}
 use Rattle.std.proofs.Math.Seq.{take-length}
 use Rattle.std.proofs.lemmas.List.Folds.{list_any_more}
-use Rattle.std.proofs.lemmas.List.Sums.{sum_by_more, prefix_len-le-length, fails_before_first, passes_at_first}
+use Rattle.std.proofs.lemmas.List.Sums.{prefix_len-le-length, fails_before_first, passes_at_first}
 use Rattle.std.proofs.lemmas.List.FromFn.{length-range_with_len, get_or-range_with_len}
-use Rattle.octets.specs.Count.{any, least, sum_to}
+use Rattle.octets.specs.Count.{any, least}
 use Rattle.octets.proofs.Counts.{none_all, any_same, least_at, least-none}
 
 module _ {A : Type 0} (p : A → Bool) (xs : List A) (d : A) where
@@ -52,14 +52,3 @@ any_counted p n =
     any_listed p (range_with_len 0 n) 0
     ∙ rw (length-range_with_len 0 n)
     (any_same (λ i. p (get_or (range_with_len 0 n) i 0)) p n (λ i l. ap p (get_or-range_with_len 0 n i 0 l ∙ zero-add i)))
-
-module _ {A : Type 0} (f : A → ℕ) (xs : List A) (d : A) where
-  sum-front : (n : ℕ) → n ≤ length xs → sum_by f (take n xs) ≡ sum_to (λ i. f (get_or xs i d)) n
-  unfolding sum_to
-  sum-front zero within = refl
-  sum-front (suc n) within =
-      let more : sum_by f (take (n + 1) xs) ≡ sum_by f (take n xs) + f (get_or xs n d) = sum_by_more f xs n d (omega arith) in
-      rw add-one at more ∙ ap (λ (m : ℕ). m + f (get_or xs n d)) (sum-front n (omega arith))
-
-  pub sum-listed : sum_by f xs ≡ sum_to (λ i. f (get_or xs i d)) (length xs)
-  sum-listed = ap (sum_by f) (sym (take-length xs)) ∙ sum-front (length xs) (omega arith)

@@ -134,10 +134,6 @@ pub part-rest_front : (l : List ℕ) (from n : ℕ) → part (rest l from) 0 n �
 part-rest_front l from n = part-rest l from 0 n ∙ ap (λ (at : ℕ). part l at n) (add-zero from)
 
 -- one element before the list
-pub part-cons : (x : ℕ) (l : List ℕ) (from n : ℕ) → part (x ∷ l) (suc from) n ≡ part l from n
-unfolding part
-part-cons x l from n = refl
-
 pub part_front : (x : ℕ) (l : List ℕ) (n : ℕ) → part (x ∷ l) 0 (suc n) ≡ x ∷ part l 0 n
 unfolding part
 part_front x l n = refl
@@ -360,7 +356,8 @@ pub put_sliced : {x : List ℕ} (d y : List ℕ) (at to : ℕ) → at ≤ to →
 unfolding put
 put_sliced {x} d y at to h e size =
     let end : to ≡ at + length y = omega arith in
-    ap (λ (l : List ℕ). take at d ++ (l ++ post_of at (to - at) d)) e ∙ ap (λ (l : List ℕ). take at d ++ (y ++ l)) (Post-is at to d h ∙ ap (λ (n : ℕ). drop n d) end)
+    ap (λ (l : List ℕ). take at d ++ (l ++ post_of at (to - at) d)) e
+    ∙ ap (λ (l : List ℕ). take at d ++ (y ++ l)) (Post-is at to d h ∙ ap (λ (n : ℕ). drop n d) end)
     ∙ sym (append_assoc (take at d) y (drop (at + length y) d))
 
 -- what is put over all of a list is the list
@@ -684,7 +681,8 @@ module _ {A : Type 0} (f : A → List ℕ) where
 
 -- Bytes taken apart by the first i + 1 of many lengths: the last stretch starts behind the first i lengths.
 pub cut-part_more : (lengths bytes : List ℕ) (i : ℕ) → i < length lengths →
-    cut_by (part lengths 0 (i + 1)) bytes ≡ cut_by (part lengths 0 i) bytes ++ (part bytes (sum_to (byte_at lengths) i) (byte_at lengths i) ∷ [])
+    cut_by (part lengths 0 (i + 1)) bytes
+    ≡ cut_by (part lengths 0 i) bytes ++ (part bytes (sum_to (byte_at lengths) i) (byte_at lengths i) ∷ [])
 cut-part_more lengths bytes i h =
     ap (λ (l : List ℕ). cut_by l bytes) (part_more lengths i h)
     ∙ cut_more (part lengths 0 i) (byte_at lengths i) bytes
@@ -715,10 +713,6 @@ set-four-put d a b c e h =
 -- a stretch from its first element on
 pub part_byte : (l : List ℕ) (i j n m : ℕ) → j ≡ i + 1 → n ≡ 1 + m → i < length l → part l i n ≡ byte_at l i ∷ part l j m
 part_byte l i j n m e d h = rw (e, d) (sym (part-part l i 1 m) ∙ ap (λ (one : List ℕ). one ++ part l (i + 1) m) (part_one l i h))
-
--- .. up to a place
-pub part_byte_to : (l : List ℕ) (i to : ℕ) → i < to → to ≤ length l → part l i (to - i) ≡ byte_at l i ∷ part l (i + 1) (to - (i + 1))
-part_byte_to l i to h k = part_byte l i (i + 1) (to - i) (to - (i + 1)) refl (omega arith) (omega arith)
 
 -- .. and from its first four on
 pub part-four : (l : List ℕ) (at m : ℕ) → at + 4 ≤ length l →

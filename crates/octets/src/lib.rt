@@ -1,5 +1,8 @@
 // Bytes in slices: numbers read and written, big-endian ones and in either byte order, and one stretch copied into another slice. Nothing
 // here knows of packets. Each public function asks that the place lies in the slice: only proved code calls them.
+//
+// A number's length and its order stand in the function's name and not in a parameter of one generic function: so each call says them, and
+// each contract names the one word of the definitions that it stands for.
 #![tactic(auto)]
 
 ghost use Rattle.std.specs.Prelude.{◌≡◌, ◌+◌, ◌≤◌, ◌<◌, length};
@@ -121,6 +124,7 @@ pub fn copy(target: &mut [u8], at: usize, source: &[u8], from: usize, count: usi
     ensures { target.new ≡ put target.old at (part source.now from count) }
 {
     let mut done = 0;
+    // No `for`: it goes on by blocks, as long as more than a whole one is left.
     while BLOCK < count - done {
         copy_block(target, at + done, source, from + done, SHORT);
         done += SHORT;

@@ -16,7 +16,8 @@ use Rattle.octets.proofs.Elements.{each_too, each_map}
 use Rattle.octets.proofs.Stretches.{length_part, part_of_part}
 use Rattle.octets.proofs.Those.{those-none, length-those-cons, each-those}
 use Rattle.pcap.specs.File.{is_little, start, after, bytes_at, records_from, first_place, records}
-use Rattle.pcap.specs.Judge.{not_ipv4, bad_ipv4_lengths, is_fragment, is_udp, bad_udp_lengths, is_l2tp, skip_of, data_at, data_length, entry_of}
+use Rattle.pcap.specs.Judge.{not_ipv4, bad_ipv4_lengths, is_fragment, is_udp, bad_udp_lengths, is_l2tp, skip_of, data_at, data_length}
+use Rattle.pcap.specs.Judge.{entry_of}
 use Rattle.pcap.specs.Import.{is_for, entries_of, skipped, Stretch}
 use Rattle.pcap.proofs.Reading.{bytes_inside, length_bytes}
 use Rattle.pcap.proofs.Walk.{records_more, records_end, whole-or-not}

@@ -47,7 +47,8 @@ ten_words total carries s t u v a b c d e f = (omega arith, omega arith)
 
 -- the sum of a header's words, and what its checksum adds to it
 module _ (by : Addresses) (total carried : ℕ) (short : total < 65536) (small : carried < 256) where
-  sum_with : (check : ℕ) → check < 65536 → word_sum (ipv4_with by total carried check) 10 ≡ word_sum (ipv4_with by total carried 0) 10 + check
+  sum_with : (check : ℕ) → check < 65536 →
+      word_sum (ipv4_with by total carried check) 10 ≡ word_sum (ipv4_with by total carried 0) 10 + check
   unfolding sum_to
   sum_with check fits = omega arith
 

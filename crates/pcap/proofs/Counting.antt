@@ -57,14 +57,6 @@ module _ (r : List ℕ) where
   unfolding entries_of
   entry_skipped h = ap (map entry_of) (those_one 0 ∙ cond-false (is_for 0 r) (r ∷ []) [] (ne_eqb (skip_of r) 0 h))
 
-  skipped_so : (cause : ℕ) → skip_of r ≡ cause → skipped cause (r ∷ []) ≡ 1
-  unfolding skipped
-  skipped_so cause e = ap length (those_one cause ∙ cond-true (is_for cause r) (r ∷ []) [] (eq-eqb (skip_of r) cause e))
-
-  skipped-not : (cause : ℕ) → (skip_of r ≡ cause → ⊥) → skipped cause (r ∷ []) ≡ 0
-  unfolding skipped
-  skipped-not cause h = ap length (those_one cause ∙ cond-false (is_for cause r) (r ∷ []) [] (ne_eqb (skip_of r) cause h))
-
 -- Tallies.
 same_tally : {a b : Tally} → a.packets ≡ b.packets → a.bytes ≡ b.bytes → a.foreign ≡ b.foreign → a.misfits ≡ b.misfits →
     a.fragments ≡ b.fragments → a.others ≡ b.others → a ≡ b

@@ -56,7 +56,8 @@ empty = record { kind = 4; body = [] }
 -- out and back, in either byte order: the data entries
 there_and_back :
     (entries_of (records (export_of by (opens ∷ over_ip ∷ over_udp_lem ∷ empty ∷ []))) ≡ over_ip ∷ over_udp_lem ∷ empty ∷ [])
-    × (entries_of (records (pcap_of false (map (packet_of by) (over_ip ∷ over_udp_lem ∷ empty ∷ [])))) ≡ over_ip ∷ over_udp_lem ∷ empty ∷ [])
+    × (entries_of (records (pcap_of false (map (packet_of by) (over_ip ∷ over_udp_lem ∷ empty ∷ []))))
+    ≡ over_ip ∷ over_udp_lem ∷ empty ∷ [])
     × (length (export_of by (opens ∷ over_ip ∷ [])) ≡ 24 + 16 + 14 + 20 + 2)
 unfolding sum_to part joined those
     is_little wrong_fields bad_header whole start size after bytes_at records_from first_place records pcap_of
@@ -170,7 +171,8 @@ export_code file room = (exported by file (replicate room 0)).answer.code
 
 exports :
     ((exported by capture (replicate 83 0)).answer ≡ record { code = 0; length = 83; packets = 1; opens = 2; closes = 1 })
-    × (export_code capture 82 ≡ 64) × (export_code (set capture 1 3) 0 ≡ 45) × (export_code (set capture 2 9) 0 ≡ 44) × (export_code [] 0 ≡ 42)
+    × (export_code capture 82 ≡ 64) × (export_code (set capture 1 3) 0 ≡ 45) × (export_code (set capture 2 9) 0 ≡ 44)
+    × (export_code [] 0 ≡ 42)
     × (export_code (0xFF ∷ 0xFF ∷ []) 0 ≡ 43) × (export_code (replicate 60001 0) 0 ≡ 41)
 unfolding sum_to up_to any part put joined those
     body_start nth_entry entries file_of pcap_of packet_of export_of exported_by exported

@@ -15,7 +15,8 @@ use Rattle.octets.specs.Those.{those}
 use Rattle.octets.proofs.Counts.{sum_more, sum_agree, sum-within, sum_below, up_to-none, up_to_more}
 use Rattle.octets.proofs.Stretches.{joined-none, length-put, put-nil, put_more, put-put_front}
 use Rattle.octets.proofs.Those.{those-none, length-those, joined-those_more, length-joined-those}
-use Rattle.capture.specs.File.{head_length, entry_length, longest_file, entry_count, kind_at, body_length, body_start, file_refusals, file_refusal}
+use Rattle.capture.specs.File.{head_length, entry_length, longest_file, entry_count, kind_at, body_length, body_start, file_refusals}
+use Rattle.capture.specs.File.{file_refusal}
 use Rattle.capture.specs.File.{Entry, nth_entry, entries, StandsAt}
 use Rattle.capture.proofs.Checking.{is_sound, start_first, start-next, body-inside, body_long}
 use Rattle.pcap.specs.declared.Addresses.{Addresses}
@@ -47,7 +48,8 @@ records_none by file =
     ∙ ap (λ (l : List Entry). joined (map (record_for by) l)) (those-none is_data)
     ∙ joined-none
 
-records_more : (by : Addresses) (file : List ℕ) (k : ℕ) → records_to by file (k + 1) ≡ records_to by file k ++ record_of by (nth_entry file k)
+records_more : (by : Addresses) (file : List ℕ) (k : ℕ) →
+    records_to by file (k + 1) ≡ records_to by file k ++ record_of by (nth_entry file k)
 records_more by file k =
     ap (λ (l : List Entry). joined (map (record_for by) (those is_data l))) (up_to_more (nth_entry file) k)
     ∙ joined-those_more is_data (record_for by) (up_to (nth_entry file) k) (nth_entry file k)
@@ -139,7 +141,8 @@ export_begin by file headed count e =
     }
 
 -- an entry by its parts
-entry_is : {kind : ℕ} {body : List ℕ} (file : List ℕ) (k : ℕ) → kind ≡ kind_at head_length entry_length file k → body ≡ (nth_entry file k).body →
+entry_is : {kind : ℕ} {body : List ℕ} (file : List ℕ) (k : ℕ) → kind ≡ kind_at head_length entry_length file k →
+    body ≡ (nth_entry file k).body →
     record { kind = kind; body = body } ≡ nth_entry file k
 unfolding nth_entry
 entry_is {kind} {body} file k e b = rw (e, b) refl
@@ -229,7 +232,8 @@ module _ (by : Addresses) (file output : List ℕ) where
   last : List Refusal
   last = 64 when ltb (length output) (length (export_of by (entries file))) ∷ []
 
-  pub capture_refused : (code : ℕ) → code ≡ file_refusal file → (code ≡ 0 → ⊥) → outcome (refused_with code) output ≡ exported by file output
+  pub capture_refused : (code : ℕ) → code ≡ file_refusal file → (code ≡ 0 → ⊥) →
+      outcome (refused_with code) output ≡ exported by file output
   unfolding file_refusal exported exported_by last
   capture_refused zero e some = absurd (some refl)
   capture_refused (suc c) e some =

@@ -15,7 +15,8 @@ use Rattle.capture.specs.File.{data_entry, data_over_udp}
 use Rattle.pcap.specs.Ipv4.{ipv4_at, ipv4_length, l2tp_protocol, udp_protocol, header_length, total_length}
 use Rattle.pcap.specs.Ipv4.{fragment_bits, protocol, payload_at, payload_length}
 use Rattle.pcap.specs.Udp.{udp_length, l2tp_port, target_port, length_said}
-use Rattle.pcap.specs.Judge.{not_ipv4, bad_ipv4_lengths, is_fragment, is_udp, bad_udp_lengths, is_l2tp, skips, skip_of, data_at, data_length}
+use Rattle.pcap.specs.Judge.{not_ipv4, bad_ipv4_lengths, is_fragment, is_udp, bad_udp_lengths, is_l2tp, skips, skip_of, data_at}
+use Rattle.pcap.specs.Judge.{data_length}
 use Rattle.pcap.specs.declared.judge.Cause.{Cause}
 use Rattle.pcap.specs.declared.judge.Cause.TheVariants as cause
 use Rattle.pcap.specs.Judge.{Judged, number_of, judged_by, judged}
@@ -100,7 +101,8 @@ module _ (r : List ℕ) where
   unfolding judged_by
   by_cause n e = rw e refl
 
-  by_no_cause : (kind at size : ℕ) → skip_of r ≡ 0 → kind ≡ cond (is_udp r) data_over_udp data_entry → at ≡ data_at r → size ≡ data_length r →
+  by_no_cause : (kind at size : ℕ) → skip_of r ≡ 0 → kind ≡ cond (is_udp r) data_over_udp data_entry → at ≡ data_at r →
+      size ≡ data_length r →
       found kind at size ≡ judged r
   unfolding judged_by
   by_no_cause kind at size e ek ea es = rw (e, ek, ea, es) refl

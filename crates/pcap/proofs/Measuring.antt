@@ -19,7 +19,8 @@ abbrev pub measured : ℕ → ℕ → ℕ → ℕ → Exported
 measured long packets opens closes = record { length = long; packets = packets; opens = opens; closes = closes }
 
 -- An entry adds no more than so much.
-cond_short : (data-entry over_udp_lem : Bool) (size : ℕ) → cond data-entry (front_length + cond over_udp_lem udp_length 0 + size) 0 ≤ 58 + size
+cond_short : (data-entry over_udp_lem : Bool) (size : ℕ) →
+    cond data-entry (front_length + cond over_udp_lem udp_length 0 + size) 0 ≤ 58 + size
 cond_short true true size = omega arith
 cond_short true false size = omega arith
 cond_short false over_udp_lem size = omega arith

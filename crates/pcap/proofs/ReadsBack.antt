@@ -182,7 +182,8 @@ module _ (little : Bool) (packets : List (List ℕ)) where
     all_read : HasRead little (length file) file (first_place file) packets
     unfolding pcap_of
     all_read =
-        let begins : first_place file ≡ length (file_header_in little) = first_good file header_reads_back ∙ sym (length-file_header little) in
+        let begins : first_place file ≡ length (file_header_in little) =
+        first_good file header_reads_back ∙ sym (length-file_header little) in
         let enough : length packets ≤ length file =
         omega (arith, few-packets little packets, length-append (file_header_in little) (written little packets)) in
         subst (λ (at : ℕ). HasRead little (length file) file at packets) (sym begins)

@@ -7,7 +7,8 @@ use Rattle.refusal.specs.Number.{number_of}
 use Rattle.refusal.specs.Refusal.{Refusal, ◌when◌, first}
 use Rattle.octets.specs.Stretch.{put}
 use Rattle.octets.specs.Those.{those}
-use Rattle.capture.specs.File.{head_length, entry_length, open_psp, open_dmpt, closing, data_entry, data_over_udp, Entry, entries, file_refusals}
+use Rattle.capture.specs.File.{head_length, entry_length, open_psp, open_dmpt, closing, data_entry, data_over_udp, Entry, entries}
+use Rattle.capture.specs.File.{file_refusals}
 use Rattle.pcap.specs.declared.Addresses.{Addresses}
 use Rattle.pcap.specs.declared.export.Exported.{Exported}
 use Rattle.pcap.specs.File.{pcap_of}

@@ -11,7 +11,8 @@ use Rattle.pcap.specs.declared.judge.Cause.{Cause}
 use Rattle.pcap.specs.declared.judge.Cause.TheVariants as cause
 use Rattle.pcap.specs.declared.judge.Data.{Data}
 use Rattle.pcap.specs.Ethernet.{ethernet_length, ipv4_type, ether_type}
-use Rattle.pcap.specs.Ipv4.{ipv4_at, ipv4_length, l2tp_protocol, udp_protocol, version, header_length, total_length, fragment_bits, protocol}
+use Rattle.pcap.specs.Ipv4.{ipv4_at, ipv4_length, l2tp_protocol, udp_protocol, version, header_length, total_length, fragment_bits}
+use Rattle.pcap.specs.Ipv4.{protocol}
 use Rattle.pcap.specs.Ipv4.{payload_at, payload_length}
 use Rattle.pcap.specs.Udp.{udp_length, l2tp_port, target_port, length_said}
 

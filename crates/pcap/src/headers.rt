@@ -89,7 +89,8 @@ fn write_pair(output: &mut [u8], at: usize, first: u8, second: u8)
     output[at + 1] = second;
 }
 
-// An IPv4 header with a 0 for the checksum: of a packet of `total` bytes, which carries the protocol `carried`.
+// An IPv4 header with a 0 for the checksum: of a packet of `total` bytes, which carries the protocol `carried`. That is a plain byte here,
+// and no enum, since it is written as it is and IPv4 has a protocol for each of the 256.
 fn write_unchecked_ipv4(
     output: &mut [u8],
     at: usize,

@@ -83,6 +83,7 @@ fn survey(file: &[u8]) -> Result<Tally, Refusal>
         fragments: 0,
         others: 0,
     };
+    // No `for`: where the next record begins stands in this one, and behind the last the walk says why it stops.
     while let Some(packet) = walk.record() {
         tally = count(tally, packet);
         walk = walk.advance();
@@ -167,6 +168,7 @@ fn write_records(file: &[u8], output: &mut [u8], count: usize, opened: Writer) -
 {
     let mut walk = reader::open(file);
     let mut writer = opened;
+    // No `for`: where the next record begins stands in this one.
     while let Some(packet) = walk.record() {
         writer = write_record(packet, output, count, writer);
         walk = walk.advance();

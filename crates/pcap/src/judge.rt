@@ -126,7 +126,7 @@ fn judge_payload(packet: &[u8], at: usize, room: usize) -> Result<Data, Cause>
     requires { Uncut packet.now at room }
     ensures { told result ≡ judged packet.now }
 {
-    let carried = packet[PROTOCOL_AT];
+    let carried = packet[PROTOCOL_AT]; // any byte may stand here
     if carried == L2TP_PROTOCOL {
         return Ok(Data {
             kind: Kind::Data,

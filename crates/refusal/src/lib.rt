@@ -1,6 +1,6 @@
-// Every refusal of documents 01 and 02 that the code gives so far, lowest number first, and the number that the papers give it; no other file of
-// Rattle code writes one as a numeral. (In specs/ it is the other way round: there the refusal lists have the paper's numerals, so that they
-// can be held against its table.)
+// Every refusal of documents 01 and 02 that the code gives so far, lowest number first, and the number that the papers give it; no other
+// file of Rattle code writes one as a numeral. (In specs/ it is the other way round: there the refusal lists have the paper's numerals, so
+// that they can be held against its table.)
 #![tactic(auto)]
 
 ghost use Rattle.std.specs.Prelude.{◌≡◌};

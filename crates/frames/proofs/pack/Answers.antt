@@ -22,10 +22,12 @@ copy-requires c =
     )
 
 pub overflow_add-at : goal.overflow_add-at
-overflow_add-at c = omega (arith, frame_room_lem c.loop-size.invariant c.requires.0 c.requires.1 c.loop-size-test.true _ c.from-count.ensures)
+overflow_add-at c =
+    omega (arith, frame_room_lem c.loop-size.invariant c.requires.0 c.requires.1 c.loop-size-test.true _ c.from-count.ensures)
 
 pub overflow_add-from : goal.overflow_add-from
-overflow_add-from c = omega (arith, frame-there c.loop-size.invariant c.requires.0 c.requires.1 c.loop-size-test.true _ c.from-count.ensures)
+overflow_add-from c =
+    omega (arith, frame-there c.loop-size.invariant c.requires.0 c.requires.1 c.loop-size-test.true _ c.from-count.ensures)
 
 pub loop-size-preserved : goal.loop-size-preserved
 loop-size-preserved c =

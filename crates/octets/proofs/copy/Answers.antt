@@ -19,4 +19,5 @@ loop-done-preserved c = (
 
 pub returns : goal.returns
 returns c =
-    put_on _ _ _ _ _ _ _ _ c.loop-done.invariant.2 c.copy_block-2.ensures (omega arith) (omega arith) (omega arith) (omega arith) (omega arith)
+    put_on _ _ _ _ _ _ _ _ c.loop-done.invariant.2 c.copy_block-2.ensures (omega arith) (omega arith) (omega arith) (omega arith)
+    (omega arith)

@@ -8,5 +8,6 @@ use Rattle.octets.proofs.write_little_u32.Goals as goal
 pub returns : goal.returns
 returns c =
     let a = c.args in
-    put_sliced a.bytes.now (four_le a.number) a.at (a.at + 4) (omega arith) (c.copy_from_slice.ensures.after ∙ c.to_le_bytes.ensures ∙ four_le_bytes a.number)
+    put_sliced a.bytes.now (four_le a.number) a.at (a.at + 4) (omega arith)
+    (c.copy_from_slice.ensures.after ∙ c.to_le_bytes.ensures ∙ four_le_bytes a.number)
     (omega arith)

@@ -8,5 +8,6 @@ use Rattle.octets.proofs.write_u32.Goals as goal
 pub returns : goal.returns
 returns c =
     let a = c.args in
-    put_sliced a.bytes.now (four a.number) a.at (a.at + 4) (omega arith) (c.copy_from_slice.ensures.after ∙ c.to_be_bytes.ensures ∙ four_bytes a.number)
+    put_sliced a.bytes.now (four a.number) a.at (a.at + 4) (omega arith)
+    (c.copy_from_slice.ensures.after ∙ c.to_be_bytes.ensures ∙ four_bytes a.number)
     (omega arith)

@@ -2,7 +2,8 @@
 -- Here: how an export is measured and written entry by entry. The file that it makes is specs/Export.antt's.
 use Rattle.std.specs.Prelude.{ℕ, ◌+◌, ◌≤◌, true, cond, ◌||◌, List, [], ◌++◌, eqb}
 use Rattle.octets.specs.Count.{sum_to}
-use Rattle.capture.specs.File.{head_length, entry_length, open_psp, open_dmpt, closing, data_entry, data_over_udp, kind_at, body_length, Entry}
+use Rattle.capture.specs.File.{head_length, entry_length, open_psp, open_dmpt, closing, data_entry, data_over_udp, kind_at, body_length}
+use Rattle.capture.specs.File.{Entry}
 use Rattle.pcap.specs.declared.Addresses.{Addresses}
 use Rattle.pcap.specs.declared.export.Exported.{Exported}
 use Rattle.pcap.specs.File.{file_header, record_header, record_header_in, record_in}

@@ -16,4 +16,5 @@ told kind p k (Err refusal) found = sym (extent_refused kind p k (λ z. number_s
 
 pub returns : goal.returns
 returns c =
-    c.unwrap_or.ensures ∙ told c.args.kind (packet_by c.args.transport c.args.packet.now) c.args.k c.segment_extent.result c.segment_extent.ensures
+    c.unwrap_or.ensures
+    ∙ told c.args.kind (packet_by c.args.transport c.args.packet.now) c.args.k c.segment_extent.result c.segment_extent.ensures

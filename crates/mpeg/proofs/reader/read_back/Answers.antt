@@ -37,7 +37,8 @@ write_lengths-requires c =
     let found : told (Some c.in_ok-found.found) ≡ standing_of (reading c.args.packets.now) =
     ap told (sym c.in_ok-found.ensures.ok_part) ∙ c.survey.ensures in (
       lengths-room (asked c.args.packets.now c.args.output.now c.args.lengths.now) _ found refl c.if-output-found.false,
-      are_laid (asked c.args.packets.now c.args.output.now c.args.lengths.now) _ found refl c.if-output-found.false _ c.write_frames.ensures,
+      are_laid (asked c.args.packets.now c.args.output.now c.args.lengths.now) _ found refl c.if-output-found.false _
+          c.write_frames.ensures,
     )
 
 pub returns : goal.returns

@@ -11,7 +11,8 @@ returns-then-is_null c = λ s may is. null_between refl _ c.is_null.ensures s is
 
 pub returns-then-has_header : goal.returns-then-has_header
 returns-then-has_header c = λ s may is.
-    data_without refl _ c.is_null.ensures s is c.if-is_null.false c.has_header.ensures c.if-has_header.true (c.without_flag.ensures s may is)
+    data_without refl _ c.is_null.ensures s is c.if-is_null.false c.has_header.ensures c.if-has_header.true
+    (c.without_flag.ensures s may is)
 
 pub returns-then-has_header-2 : goal.returns-then-has_header-2
 returns-then-has_header-2 c = λ s may is.

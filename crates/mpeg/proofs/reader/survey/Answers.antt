@@ -5,7 +5,8 @@ use Rattle.ts.specs.Packet.{mpeg_length}
 use Rattle.std.specs.Prelude.{Some}
 use Rattle.mpeg.specs.Inside.Standing.{standing_of, spoilt, told}
 use Rattle.mpeg.proofs.Fronts.{none_found}
-use Rattle.mpeg.proofs.Passes.{Passing, pass_begin, pass_inside, pass_within, within_of, follows_at, pass_turn, pass_through, pass_end, reading-cut}
+use Rattle.mpeg.proofs.Passes.{Passing, pass_begin, pass_inside, pass_within, within_of, follows_at, pass_turn, pass_through, pass_end}
+use Rattle.mpeg.proofs.Passes.{reading-cut}
 use Rattle.mpeg.proofs.reader.survey.Goals as goal
 
 pub returns-then-packets-ne0 : goal.returns-then-packets-ne0
@@ -25,7 +26,8 @@ read_packet-requires c =
 pub returns-in_err-standing : goal.returns-in_err-standing
 returns-in_err-standing c =
     let more : mpeg_length * c.loop-k.k < length c.args.packets.now = omega arith in
-    let lost = pass_turn c.loop-k.invariant c.if-packets-ne0.false more refl spoilt (follows_at c.packet_at.ensures c.in_err-standing.ensures) in
+    let lost =
+    pass_turn c.loop-k.invariant c.if-packets-ne0.false more refl spoilt (follows_at c.packet_at.ensures c.in_err-standing.ensures) in
     ap told c.from_residual.ensures ∙ pass_end lost c.if-packets-ne0.false refl
 
 pub loop-k-preserved : goal.loop-k-preserved

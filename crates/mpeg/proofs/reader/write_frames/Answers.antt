@@ -49,11 +49,13 @@ pub loop-k-preserved : goal.loop-k-preserved
 loop-k-preserved c =
     let more : mpeg_length * c.loop-k.k < length c.args.packets.now = omega arith in
     let next : mpeg_length * c.loop-k.k + mpeg_length ≡ mpeg_length * (c.loop-k.k + 1) = omega arith in
-    subst (λ (at : ℕ). Pouring c.args.packets.now c.args.output.now c.args.total (told (Some c.in-Some.next)) at c.write_bytes.new.output) next
+    subst
+    (λ (at : ℕ). Pouring c.args.packets.now c.args.output.now c.args.total (told (Some c.in-Some.next)) at c.write_bytes.new.output) next
     (pour_turn c.loop-k.invariant c.requires more _ (follows_at c.packet_at-packet.ensures c.in-Some.ensures) _
     (rw c.packet_at-packet.ensures at c.write_bytes.ensures))
 
 pub returns : goal.returns
 returns c =
-    let done : length c.args.packets.now ≤ mpeg_length * c.loop-k.k = omega (arith, reading-whole c.args.packets.now c.requires.all_sound) in
+    let done : length c.args.packets.now ≤ mpeg_length * c.loop-k.k =
+    omega (arith, reading-whole c.args.packets.now c.requires.all_sound) in
     pour_end c.loop-k.invariant c.requires done

@@ -13,22 +13,29 @@ asked bytes lengths place count output = record { bytes = bytes; lengths = lengt
 pub returns-in_err-left : goal.returns-in_err-left
 returns-in_err-left c =
     let refused = err_from_is_err_and c.from_residual.result c.from_residual.ensures.1 in
-    rw (refused.1, refused.2, c.in_err-left.ensures.1) (write_bad (asked c.args.frames.now c.args.lengths.now c.args.place c.args.count c.args.output.now) (sym c.in_err-left.ensures.0))
+    rw (refused.1, refused.2, c.in_err-left.ensures.1)
+    (write_bad (asked c.args.frames.now c.args.lengths.now c.args.place c.args.count c.args.output.now)
+    (sym c.in_err-left.ensures.0))
 
 pub returns-then-output-lt-MPEG_LENGTH : goal.returns-then-output-lt-MPEG_LENGTH
-returns-then-output-lt-MPEG_LENGTH c = write_small (asked c.args.frames.now c.args.lengths.now c.args.place c.args.count c.args.output.now) (sym c.in_ok-left.ensures.0) c.if-output-lt-MPEG_LENGTH.true
+returns-then-output-lt-MPEG_LENGTH c =
+    write_small (asked c.args.frames.now c.args.lengths.now c.args.place c.args.count c.args.output.now)
+    (sym c.in_ok-left.ensures.0) c.if-output-lt-MPEG_LENGTH.true
 
 pub returns-then-frames-place : goal.returns-then-frames-place
 returns-then-frames-place c =
-    write_null (asked c.args.frames.now c.args.lengths.now c.args.place c.args.count c.args.output.now) (sym c.in_ok-left.ensures.0) c.if-output-lt-MPEG_LENGTH.false c.null_packet-null.result _ c.if-frames-place.true
+    write_null (asked c.args.frames.now c.args.lengths.now c.args.place c.args.count c.args.output.now)
+    (sym c.in_ok-left.ensures.0) c.if-output-lt-MPEG_LENGTH.false c.null_packet-null.result _ c.if-frames-place.true
     c.null_packet-null.ensures c.copy.ensures
 
 pub write_data-carried-requires : goal.write_data-carried-requires
 write_data-carried-requires c =
-    waits (asked c.args.frames.now c.args.lengths.now c.args.place c.args.count c.args.output.now) (sym c.in_ok-left.ensures.0) c.if-output-lt-MPEG_LENGTH.false c.if-frames-place.false _ c.in_ok-left.ensures.1
+    waits (asked c.args.frames.now c.args.lengths.now c.args.place c.args.count c.args.output.now)
+    (sym c.in_ok-left.ensures.0) c.if-output-lt-MPEG_LENGTH.false c.if-frames-place.false _ c.in_ok-left.ensures.1
 
 pub returns : goal.returns
 returns c =
-    write_frames (asked c.args.frames.now c.args.lengths.now c.args.place c.args.count c.args.output.now) (sym c.in_ok-left.ensures.0) c.if-output-lt-MPEG_LENGTH.false c.if-frames-place.false _ c.in_ok-left.ensures.1
+    write_frames (asked c.args.frames.now c.args.lengths.now c.args.place c.args.count c.args.output.now)
+    (sym c.in_ok-left.ensures.0) c.if-output-lt-MPEG_LENGTH.false c.if-frames-place.false _ c.in_ok-left.ensures.1
     c.write_data-carried.result c.next_count.result _ c.write_data-carried.ensures.value c.next_count.ensures
     c.write_data-carried.ensures.output_after

@@ -22,5 +22,6 @@ returns-clause-output_after c =
     let filling = c.fill.ensures.after (λ y h. h) in
     filled_written a.output.now a.frames.now a.place c.requires.0 c.requires.1 _ _ (omega (arith, c.if-waiting-ge-POINTED_LENGTH.false))
     c.copy.ensures
-    (put_sliced c.copy.new.target (replicate room fill_byte) from mpeg_length (omega arith) (filling ∙ ap (λ (n : ℕ). replicate n fill_byte) long)
+    (put_sliced c.copy.new.target (replicate room fill_byte) from mpeg_length (omega arith)
+    (filling ∙ ap (λ (n : ℕ). replicate n fill_byte) long)
     (length-replicate room fill_byte))
