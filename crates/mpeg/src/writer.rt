@@ -130,7 +130,7 @@ pub fn write(frames: &[u8], lengths: &[u16], place: usize, count: u8, output: &m
 {
     match write_next(frames, lengths, place, count, output) {
         Ok(sent) => Written {
-            code: refusal::code(Ok(())),
+            code: refusal::NONE,
             place: sent.place,
             count: sent.count,
             null: sent.null,
