@@ -15,7 +15,7 @@ ghost use Rattle.packet.specs.Segments.{entry_width, length_values};
 ghost use Rattle.sender.specs.Cut.{index_of, least_room};
 ghost use Rattle.sender.specs.Packet.{worth as bitWorth, entry_number, header_of};
 ghost use Rattle.sender.specs.Send.{most_frames, most_segments, greatest_limit, bad_size, bad_frames, outside, early_refusals};
-ghost use Rattle.sender.specs.Send.{later_refusals, PermitsSend};
+ghost use Rattle.sender.specs.Send.{later_refusals, told, PermitsSend};
 ghost use Rattle.sender.specs.Inside.{surveyed, Placeable, position_after, placed_next, with_entry, Ready, cut_of, Written};
 
 use flow::Flow;
@@ -58,6 +58,14 @@ pub struct Sent {
     pub number: u16,
 }
 
+// What a call that is not refused answers: the same but for the number of a refusal.
+#[derive(Clone, Copy)]
+pub struct Next {
+    pub length: usize,
+    pub position: Position,
+    pub number: u16,
+}
+
 // How far the cut has come: the room that is left, the position, and the segments placed with their bytes.
 #[derive(Clone, Copy)]
 struct Progress {
@@ -67,7 +75,8 @@ struct Progress {
     bytes: usize,
 }
 
-// Writes the next packet of these frames for a flow of a session at the front of the output; or refuses, and then nothing has changed.
+// Writes the next packet of these frames for a flow of a session at the front of the output; or refuses, and then nothing has changed. The
+// answer is a plain struct, since it crosses to C.
 pub fn send(
     session: u32,
     flow: usize,
@@ -91,7 +100,49 @@ pub fn send(
         })
         (record { answer = result; output = output.new }) }
 {
-    let judged = refuse(
+    match send_next(
+        session, flow, number, limit, frames, lengths, position, output,
+    ) {
+        Ok(next) => Sent {
+            code: refusal::NONE,
+            length: next.length,
+            position: next.position,
+            number: next.number,
+        },
+        Err(refused) => Sent {
+            code: u32::from(refused),
+            length: 0,
+            position,
+            number,
+        },
+    }
+}
+
+// The same, for a caller that takes a Result.
+pub fn send_next(
+    session: u32,
+    flow: usize,
+    number: u16,
+    limit: usize,
+    frames: &[u8],
+    lengths: &[u16],
+    position: Position,
+    output: &mut [u8],
+) -> Result<Next, Refusal>
+    ensures { PermitsSend
+        (record {
+          session = session;
+          flow = flow;
+          number = number;
+          limit = limit;
+          bytes = frames.now;
+          lengths = lengths.now;
+          position = position;
+          output = output.old;
+        })
+        (record { answer = told position number result; output = output.new }) }
+{
+    refuse(
         session,
         flow,
         limit,
@@ -99,24 +150,15 @@ pub fn send(
         lengths,
         position,
         output.len(),
-    );
-    if let Err(refusal) = judged {
-        return Sent {
-            code: u32::from(refusal),
-            length: 0,
-            position,
-            number,
-        };
-    }
+    )?;
     let room = limit - header::HEADER_LENGTH;
     let cut = write_segments(output, frames, lengths, room, position);
     write_header(output, session, flow, cut.count, number);
-    Sent {
-        code: 0,
+    Ok(Next {
         length: ENTRIES_AT + psp::ENTRY_WIDTH * cut.count + cut.bytes,
         position: cut.position,
         number: flow::number_after(number),
-    }
+    })
 }
 
 // Whether this is no frame's length.
