@@ -86,6 +86,14 @@ pub struct Capture<'a> {
     pub ghost roomy: { Roomy contents.now bodies.now },
 }
 
+// A capture that is being written into one slice, since it is known how many entries it will have.
+#[derive(Drop)]
+pub struct Counted<'a> {
+    pub file: &'a mut [u8],
+    pub count: usize,
+    pub writer: Writer,
+}
+
 // A capture without entries.
 pub fn begin() -> Writer
     ensures { result ≡ record { entries = 0; bytes = 0 } }
@@ -188,24 +196,40 @@ fn write_content(contents: &mut [u8], k: usize, kind: u8, size: usize)
     octets::write_u16(contents, at + 2, size as u16);
 }
 
-// Writes an entry behind those that are there, into the one slice of a file that will have `count` entries.
-pub fn lay(file: &mut [u8], count: usize, writer: Writer, kind: u8, body: &[u8]) -> Writer
-    requires { FitsIn file.old count writer body.now }
-    ensures value { result ≡ added writer body.now }
-    ensures file_after { file.new ≡ laid file.old count writer (record { kind = kind; body = body.now }) }
-{
-    let size = body.len();
-    write_content(file, writer.entries, kind, size);
-    let behind = HEAD_LENGTH + ENTRY_LENGTH * count + writer.bytes;
-    octets::copy(file, behind, body, 0, size);
-    Writer {
-        entries: writer.entries + 1,
-        bytes: writer.bytes + size,
+impl<'a> Counted<'a> {
+    ghost use Rattle.capture.specs.Adding.{SameFile};
+
+    // Writes an entry behind those that are there.
+    pub fn lay(&mut self, kind: u8, body: &[u8])
+        requires { FitsIn self.old.file.now self.old.count self.old.writer body.now }
+        ensures value { self.new.writer ≡ added self.old.writer body.now }
+        ensures file_after { self.new.file.now
+            ≡ laid self.old.file.now self.old.count self.old.writer (record { kind = kind; body = body.now }) }
+        ensures same_file { SameFile self.old self.new }
+    {
+        let size = body.len();
+        write_content(self.file, self.writer.entries, kind, size);
+        let behind = HEAD_LENGTH + ENTRY_LENGTH * self.count + self.writer.bytes;
+        octets::copy(self.file, behind, body, 0, size);
+        self.writer = Writer {
+            entries: self.writer.entries + 1,
+            bytes: self.writer.bytes + size,
+        };
+    }
+
+    // Writes how many entries there are.
+    pub fn finish(&mut self)
+        requires { (head_length ≤ length self.old.file.now) × (self.old.writer.entries < 65536) }
+        ensures file_after { self.new.file.now ≡ put self.old.file.now 0 (two self.old.writer.entries) }
+        ensures same_writer { self.new.writer ≡ self.old.writer }
+        ensures same_file { SameFile self.old self.new }
+    {
+        finish(self.file, self.writer);
     }
 }
 
 // Writes how many entries there are. (Whether they are too many is for `refuse` to say.)
-pub fn finish(contents: &mut [u8], writer: Writer)
+fn finish(contents: &mut [u8], writer: Writer)
     requires { (head_length ≤ length contents.old) × (writer.entries < 65536) }
     ensures { contents.new ≡ put contents.old 0 (two writer.entries) }
 {
