@@ -1,4 +1,5 @@
 pub mod File
 pub mod Kind
 pub mod Write
+pub mod Adding
 pub mod Inside

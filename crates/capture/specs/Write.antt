@@ -2,8 +2,9 @@
 -- anything; how many entries there are is written last. The file is the front of the one slice and then the front of the other. Entries
 -- that are too many for a file, or too long, are counted and not written, so that the file is refused by 41 or 43 and never cut short.
 -- Where it is known before how many entries there will be, contents and bodies grow in one slice.
-use Rattle.std.specs.Prelude.{ℕ, ◌+◌, ◌*◌, ◌<◌, ◌≤◌, ◌≡◌, Bool, true, cond, ◌&&◌, List, [], ◌∷◌, map, leb, ltb, length}
-use Rattle.refusal.specs.Refusal.{Refusal, ◌when◌}
+use Rattle.std.specs.Prelude.{ℕ, ◌+◌, ◌*◌, ◌<◌, ◌≤◌, ◌≡◌, Bool, true, cond, ◌&&◌, List, [], ◌∷◌, map, eqb, leb, ltb, length}
+use Rattle.refusal.specs.Refusal.{Refusal, ◌when◌, first}
+use Rattle.octets.specs.Bytes.{two}
 use Rattle.octets.specs.Stretch.{put, joined}
 use Rattle.octets.specs.Each.{Each}
 use Rattle.capture.specs.declared.Writer.{Writer}
@@ -39,7 +40,10 @@ pub record Roomy (contents bodies : List ℕ) : Type 0 where
   pub contents_long : head_length + entry_length * most_entries ≤ length contents
   pub bodies_long : longest_file ≤ length bodies
 
--- counts that are far from overflowing
+-- counts that are far from overflowing: those of a file whose length is asked for, and those to which a body is added
+abbrev pub Summable : Writer → Type 0
+Summable w = (w.entries ≤ 4294967296) × (w.bytes ≤ 4294967296 * 65536 + 65536)
+
 pub record Countable (w : Writer) (body : List ℕ) : Type 0 where
   pub few-entries : w.entries < 4294967296
   pub few_bytes : w.bytes < 4294967296 * 65536
@@ -51,6 +55,10 @@ contents_after contents w e = cond (within (added w e.body)) (put contents (head
 
 abbrev pub bodies_after : List ℕ → Writer → Entry → List ℕ
 bodies_after bodies w e = cond (within (added w e.body)) (put bodies w.bytes e.body) bodies
+
+-- .. and once all are: how many there are is written, where the file is not refused
+abbrev pub contents_finished : List ℕ → Writer → List ℕ
+contents_finished contents w = cond (eqb (first (write_refusals w)) 0) (put contents 0 (two w.entries)) contents
 
 -- what stands in the two slices once these entries have been added to a capture that was begun in them
 pub record Holds (entries : List Entry) (contents₀ bodies₀ contents bodies : List ℕ) (w : Writer) : Type 0 where

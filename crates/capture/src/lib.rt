@@ -12,7 +12,7 @@ ghost use Rattle.refusal.specs.Number.{code_of};
 ghost use Rattle.octets.specs.Bytes.{two};
 ghost use Rattle.octets.specs.Stretch.{put};
 ghost use Rattle.capture.specs.File.{head_length, entry_length, content_for, content_of};
-ghost use Rattle.capture.specs.Write.{Fits, added, file_length, within, write_refusals, Roomy, Countable, contents_after, bodies_after};
+ghost use Rattle.capture.specs.Write.{Fits, added, file_length, within, write_refusals, Roomy, Summable, Countable, contents_after, bodies_after, contents_finished};
 ghost use Rattle.capture.specs.Write.{FitsIn, laid};
 ghost use Rattle.capture.specs.Kind.{number_of, Reads};
 
@@ -69,11 +69,29 @@ impl TryFrom<u8> for Kind {
     }
 }
 
-// A capture that is being written: how many entries it has, and how many bytes their bodies have together.
+// How far a capture is written: how many entries it has, and how many bytes their bodies have together. (That these are small enough to be
+// summed is no invariant: definitions and theorems make writers too.)
 #[derive(Clone, Copy)]
 pub struct Writer {
     pub entries: usize,
     pub bytes: usize,
+}
+
+// A capture that is being written, in two slices that have room for any file.
+#[derive(Drop)]
+pub struct Capture<'a> {
+    pub contents: &'a mut [u8],
+    pub bodies: &'a mut [u8],
+    pub writer: Writer,
+    pub ghost roomy: { Roomy contents.now bodies.now },
+}
+
+// A capture that is being written into one slice, since it is known how many entries it will have.
+#[derive(Drop)]
+pub struct Counted<'a> {
+    pub file: &'a mut [u8],
+    pub count: usize,
+    pub writer: Writer,
 }
 
 // A capture without entries.
@@ -88,7 +106,7 @@ pub fn begin() -> Writer
 
 // The length of the file.
 fn file_length(writer: Writer) -> usize
-    requires { (writer.entries ≤ 4294967296) × (writer.bytes ≤ 4294967296 * 65536 + 65536) }
+    requires { Summable writer }
     ensures { result ≡ file_length writer }
 {
     HEAD_LENGTH + ENTRY_LENGTH * writer.entries + writer.bytes
@@ -96,7 +114,7 @@ fn file_length(writer: Writer) -> usize
 
 // Whether the file is within the limits.
 fn is_within(writer: Writer) -> bool
-    requires { (writer.entries ≤ 4294967296) × (writer.bytes ≤ 4294967296 * 65536 + 65536) }
+    requires { Summable writer }
     ensures { result ≡ within writer }
 {
     let length = file_length(writer);
@@ -105,7 +123,7 @@ fn is_within(writer: Writer) -> bool
 
 // Refusals 41 and 43 of the file. Where there is none, no entry was left out for want of room.
 pub fn refuse(writer: Writer) -> Result<(), Refusal>
-    requires { (writer.entries ≤ 4294967296) × (writer.bytes ≤ 4294967296 * 65536 + 65536) }
+    requires { Summable writer }
     ensures { code_of result ≡ first (write_refusals writer) }
 {
     if LONGEST_FILE < file_length(writer) {
@@ -117,21 +135,42 @@ pub fn refuse(writer: Writer) -> Result<(), Refusal>
     Ok(())
 }
 
-// Adds an entry. One that the file has no room for is counted, and not written.
-pub fn add(contents: &mut [u8], bodies: &mut [u8], writer: Writer, kind: u8, body: &[u8]) -> Writer
-    requires { Roomy contents.old bodies.old × Countable writer body.now }
-    ensures value { result ≡ added writer body.now }
-    ensures contents_after { contents.new
-        ≡ contents_after contents.old writer (record { kind = kind; body = body.now }) }
-    ensures bodies_after { bodies.new ≡ bodies_after bodies.old writer (record { kind = kind; body = body.now }) }
-{
-    let entries = writer.entries + 1;
-    let bytes = writer.bytes + body.len();
-    let longer = Writer { entries, bytes };
-    if is_within(longer) {
-        store(contents, bodies, writer, kind, body);
+impl<'a> Capture<'a> {
+    ghost use Rattle.capture.specs.Adding.{SameSlices};
+
+    // Adds an entry. One that the file has no room for is counted, and not written.
+    pub fn add(&mut self, kind: u8, body: &[u8])
+        requires { Countable self.old.writer body.now }
+        ensures value { self.new.writer ≡ added self.old.writer body.now }
+        ensures contents_after { self.new.contents.now
+            ≡ contents_after self.old.contents.now self.old.writer (record { kind = kind; body = body.now }) }
+        ensures bodies_after { self.new.bodies.now
+            ≡ bodies_after self.old.bodies.now self.old.writer (record { kind = kind; body = body.now }) }
+        ensures same_slices { SameSlices self.old self.new }
+    {
+        let longer = Writer {
+            entries: self.writer.entries + 1,
+            bytes: self.writer.bytes + body.len(),
+        };
+        if is_within(longer) {
+            store(self.contents, self.bodies, self.writer, kind, body);
+        }
+        self.writer = longer;
     }
-    longer
+
+    // Writes how many entries there are; or refuses the file, and then nothing has changed.
+    pub fn finish(&mut self) -> Result<(), Refusal>
+        requires { Summable self.old.writer }
+        ensures its_number { code_of result ≡ first (write_refusals self.old.writer) }
+        ensures contents_after { self.new.contents.now ≡ contents_finished self.old.contents.now self.old.writer }
+        ensures bodies_after { self.new.bodies.now ≡ self.old.bodies.now }
+        ensures same_writer { self.new.writer ≡ self.old.writer }
+        ensures same_slices { SameSlices self.old self.new }
+    {
+        refuse(self.writer)?;
+        finish(self.contents, self.writer);
+        Ok(())
+    }
 }
 
 // Writes an entry behind those that are there.
@@ -157,24 +196,40 @@ fn write_content(contents: &mut [u8], k: usize, kind: u8, size: usize)
     octets::write_u16(contents, at + 2, size as u16);
 }
 
-// Writes an entry behind those that are there, into the one slice of a file that will have `count` entries.
-pub fn lay(file: &mut [u8], count: usize, writer: Writer, kind: u8, body: &[u8]) -> Writer
-    requires { FitsIn file.old count writer body.now }
-    ensures value { result ≡ added writer body.now }
-    ensures file_after { file.new ≡ laid file.old count writer (record { kind = kind; body = body.now }) }
-{
-    let size = body.len();
-    write_content(file, writer.entries, kind, size);
-    let behind = HEAD_LENGTH + ENTRY_LENGTH * count + writer.bytes;
-    octets::copy(file, behind, body, 0, size);
-    Writer {
-        entries: writer.entries + 1,
-        bytes: writer.bytes + size,
+impl<'a> Counted<'a> {
+    ghost use Rattle.capture.specs.Adding.{SameFile};
+
+    // Writes an entry behind those that are there.
+    pub fn lay(&mut self, kind: u8, body: &[u8])
+        requires { FitsIn self.old.file.now self.old.count self.old.writer body.now }
+        ensures value { self.new.writer ≡ added self.old.writer body.now }
+        ensures file_after { self.new.file.now
+            ≡ laid self.old.file.now self.old.count self.old.writer (record { kind = kind; body = body.now }) }
+        ensures same_file { SameFile self.old self.new }
+    {
+        let size = body.len();
+        write_content(self.file, self.writer.entries, kind, size);
+        let behind = HEAD_LENGTH + ENTRY_LENGTH * self.count + self.writer.bytes;
+        octets::copy(self.file, behind, body, 0, size);
+        self.writer = Writer {
+            entries: self.writer.entries + 1,
+            bytes: self.writer.bytes + size,
+        };
+    }
+
+    // Writes how many entries there are.
+    pub fn finish(&mut self)
+        requires { (head_length ≤ length self.old.file.now) × (self.old.writer.entries < 65536) }
+        ensures file_after { self.new.file.now ≡ put self.old.file.now 0 (two self.old.writer.entries) }
+        ensures same_writer { self.new.writer ≡ self.old.writer }
+        ensures same_file { SameFile self.old self.new }
+    {
+        finish(self.file, self.writer);
     }
 }
 
 // Writes how many entries there are. (Whether they are too many is for `refuse` to say.)
-pub fn finish(contents: &mut [u8], writer: Writer)
+fn finish(contents: &mut [u8], writer: Writer)
     requires { (head_length ≤ length contents.old) × (writer.entries < 65536) }
     ensures { contents.new ≡ put contents.old 0 (two writer.entries) }
 {

@@ -106,7 +106,7 @@ fn delivered(taken: Taken, at: usize, table: &Table) -> Received
     let mut next = *table;
     next.rows[at] = taken.row;
     Received {
-        code: 0,
+        code: refusal::NONE,
         frames: taken.frames,
         bytes: taken.bytes,
         dropped: taken.dropped,

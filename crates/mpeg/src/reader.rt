@@ -68,7 +68,7 @@ pub fn read(packets: &[u8], output: &mut [u8], lengths: &mut [u16]) -> ReadBack
 {
     match read_back(packets, output, lengths) {
         Ok(found) => ReadBack {
-            code: refusal::code(Ok(())),
+            code: refusal::NONE,
             frames: found.frames,
             bytes: found.bytes,
         },

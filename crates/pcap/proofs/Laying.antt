@@ -8,10 +8,10 @@ use native.Mathlib.Omega.{arith}
 use lib.ListN.{length, take, drop, length-append}
 use Rattle.octets.specs.Bytes.{byte_at, four}
 use Rattle.octets.specs.Stretch.{part, rest, put, joined}
-use Rattle.octets.proofs.Stretches.{joined_one, length-joined-none, length-joined-append, length-put, put_whole, sliced_part}
+use Rattle.octets.proofs.Stretches.{joined_one, length-joined-none, length-joined-append, length-put, sliced_part}
 use Rattle.octets.proofs.Stretches.{rest-none, rest_byte, rest_past}
 use Rattle.capture.specs.declared.Writer.{Writer}
-use Rattle.capture.specs.File.{head_length, entry_length, id_body, open_psp, Entry, opening, content_of, body_of}
+use Rattle.capture.specs.File.{head_length, entry_length, open_psp, Entry, opening, content_of, body_of}
 use Rattle.capture.specs.Write.{added, bodies_from, FitsIn, laid}
 use Rattle.capture.proofs.Writing.{laid_more}
 use Rattle.pcap.specs.File.{is_little, whole, after, bytes_at, records_from, first_place, records}
@@ -127,11 +127,8 @@ module _ {all : List Entry} {count : ℕ} {file₀ : List ℕ} {w₀ : Writer} {
   laying_end none = h.onward file w (rw none (lays_none count file w))
 
 -- An open: its body is the session's number in four bytes.
-module _ (session : ℕ) {count : ℕ} {output : List ℕ} {w : Writer} (r : RoomFor (opening session ∷ []) count output w) (id body : List ℕ)
-    (long : length id ≡ id_body) (written : body ≡ put id 0 (four session)) where
-  body_is : body ≡ four session
-  body_is = written ∙ put_whole id (four session) long
-
+module _ (session : ℕ) {count : ℕ} {output : List ℕ} {w : Writer} (r : RoomFor (opening session ∷ []) count output w) (body : List ℕ)
+    (body_is : body ≡ four session) where
   pub open_fits : FitsIn output count w body
   open_fits = rw body_is (room_fits r)
 

@@ -7,11 +7,11 @@ ghost use Rattle.capture.specs.File.{longest_file, most_entries, opening, file_o
 ghost use Rattle.pcap.specs.File.{records};
 ghost use Rattle.pcap.specs.Import.{entries_of, all_entries, told, PermitsImport};
 ghost use Rattle.pcap.specs.Inside.Importing.{tally_of, plus, Countable, Finds, found_in, sized, long_with, refusal_by};
-ghost use Rattle.pcap.specs.Inside.Importing.{none_yet, RoomFor, LaysOn};
+ghost use Rattle.pcap.specs.Inside.Importing.{none_yet, RoomFor, RoomIn, LaysIn};
 
 use crate::judge::Cause;
 use crate::{judge, reader};
-use capture::{Kind, Writer};
+use capture::{Counted, Kind};
 use refusal::Refusal;
 
 // How long a session ID is, as the body of an entry.
@@ -125,55 +125,48 @@ fn refuse(sessions: usize, tally: Tally, room: usize) -> Result<(), Refusal>
 }
 
 // Writes the entry that opens a session.
-fn write_open(output: &mut [u8], count: usize, writer: Writer, session: u32) -> Writer
-    requires { RoomFor (opening session ∷ []) count output.old writer }
-    ensures { LaysOn (opening session ∷ []) count output.old writer output.new result }
+fn write_open(capture: &mut Counted, session: u32)
+    requires { RoomIn (opening session ∷ []) capture.old }
+    ensures { LaysIn (opening session ∷ []) capture.old capture.new }
 {
-    let mut id = [0u8; ID_BODY];
-    let body: &mut [u8] = &mut id;
-    octets::write_u32(body, 0, session);
-    capture::lay(output, count, writer, u8::from(Kind::OpenPsp), body)
+    capture.lay(u8::from(Kind::OpenPsp), &session.to_be_bytes());
 }
 
 // .. and those of all sessions.
-fn write_opens(sessions: &[u32], output: &mut [u8], count: usize) -> Writer
-    requires { RoomFor (map opening sessions.now) count output.old none_yet }
-    ensures { LaysOn (map opening sessions.now) count output.old none_yet output.new result }
+fn write_opens(capture: &mut Counted, sessions: &[u32])
+    requires { RoomIn (map opening sessions.now) capture.old }
+    ensures { LaysIn (map opening sessions.now) capture.old capture.new }
 {
-    let mut writer = capture::begin();
     for session in sessions {
-        writer = write_open(output, count, writer, *session);
+        write_open(capture, *session);
     }
-    writer
 }
 
 // Writes the entry of a record that is not skipped.
-fn write_record(packet: &[u8], output: &mut [u8], count: usize, writer: Writer) -> Writer
-    requires { RoomFor (entries_of (packet.now ∷ [])) count output.old writer }
-    ensures { LaysOn (entries_of (packet.now ∷ [])) count output.old writer output.new result }
+fn write_record(capture: &mut Counted, packet: &[u8])
+    requires { RoomIn (entries_of (packet.now ∷ [])) capture.old }
+    ensures { LaysIn (entries_of (packet.now ∷ [])) capture.old capture.new }
 {
     let Ok(data) = judge::judge(packet) else {
-        return writer;
+        return;
     };
     let begin = data.at;
     let end = begin + data.length;
     let kind = u8::from(data.kind);
-    capture::lay(output, count, writer, kind, &packet[begin..end])
+    capture.lay(kind, &packet[begin..end]);
 }
 
 // .. and those of all: the second walk.
-fn write_records(file: &[u8], output: &mut [u8], count: usize, opened: Writer) -> Writer
-    requires { RoomFor (entries_of (records file.now)) count output.old opened }
-    ensures { LaysOn (entries_of (records file.now)) count output.old opened output.new result }
+fn write_records(capture: &mut Counted, file: &[u8])
+    requires { RoomIn (entries_of (records file.now)) capture.old }
+    ensures { LaysIn (entries_of (records file.now)) capture.old capture.new }
 {
     let mut walk = reader::open(file);
-    let mut writer = opened;
     // No `for`: where the next record begins stands in this one.
     while let Some(packet) = walk.record() {
-        writer = write_record(packet, output, count, writer);
+        write_record(capture, packet);
         walk = walk.advance();
     }
-    writer
 }
 
 // Writes the capture.
@@ -182,9 +175,14 @@ fn write(sessions: &[u32], file: &[u8], output: &mut [u8], count: usize)
     requires count_value { count ≡ length (all_entries sessions.now file.now) }
     ensures { output.new ≡ put output.old 0 (file_of (all_entries sessions.now file.now)) }
 {
-    let opened = write_opens(sessions, output, count);
-    let writer = write_records(file, output, count, opened);
-    capture::finish(output, writer);
+    let mut capture = Counted {
+        file: output,
+        count,
+        writer: capture::begin(),
+    };
+    write_opens(&mut capture, sessions);
+    write_records(&mut capture, file);
+    capture.finish();
 }
 
 // Makes a capture of a pcap file, with entries that open the sessions in front.

@@ -11,7 +11,7 @@ use Rattle.octets.specs.Each.{Each}
 use Rattle.flow.specs.Flow.{longest}
 use Rattle.packet.specs.Segments.{Segment}
 use Rattle.sender.specs.Rules.{Pieces, FrameSized, whole_frame, begun_frame, in_turn}
-use Rattle.sender.proofs.Frames.{Filled}
+use Rattle.sender.proofs.Pieces.{Filled}
 use Rattle.promises.proofs.Walk.{attempt, walk, every, keep, survivors, miss, last, more, only, first, no_frame}
 
 -- a frame has as many segments as pieces

@@ -19,7 +19,7 @@ use Rattle.packet.specs.Check.{kind_psp, check}
 use Rattle.packet.proofs.Passing.{PspPassed, check-passed, body-inside, body-some}
 use Rattle.card.specs.Hear.{judged_by, judged_of}
 use Rattle.sender.specs.Rules.{Pieces, segments_of, all_segments, whole_frame, begun_frame, in_turn, Line, packet_at, KeepsRules}
-use Rattle.sender.proofs.Frames.{Filled}
+use Rattle.sender.proofs.Pieces.{Filled}
 
 abbrev pub HasBytes : Segment → Type 0
 HasBytes s = Filled s.body

@@ -16,6 +16,7 @@ mod series;
 ghost use Rattle.std.specs.Prelude.{◌≡◌, ◌≤◌, length};
 ghost use Rattle.pspsend.specs.Inside.{most_bytes};
 
+use sender::Frames;
 use series::Sending;
 use std::env::Env;
 use std::io::{Read, Write};
@@ -75,28 +76,26 @@ fn run(stdin: &mut impl Read, stdout: &mut impl Write, stderr: &mut impl Write, 
     let taken = input::take_frames(&file[..read], &mut bytes, &mut lengths);
     let count = taken.count;
     let total = taken.bytes;
-    send(stdout, stderr, sending, &bytes[..total], &lengths[..count]);
+    let frames = Frames {
+        bytes: &bytes[..total],
+        lengths: &lengths[..count],
+    };
+    send(stdout, stderr, sending, frames);
 }
 
 // Makes the capture, and writes it or says why not.
-fn send(
-    stdout: &mut impl Write,
-    stderr: &mut impl Write,
-    sending: Sending,
-    bytes: &[u8],
-    lengths: &[u16],
-)
-    requires { length bytes.now ≤ most_bytes }
+fn send(stdout: &mut impl Write, stderr: &mut impl Write, sending: Sending, frames: Frames)
+    requires { length frames.bytes.now ≤ most_bytes }
 {
     let mut contents: [u8; series::CONTENTS_ROOM] = tool::room();
     let mut bodies: [u8; capture::LONGEST_FILE] = tool::room();
-    let made = series::make(sending, bytes, lengths, &mut contents, &mut bodies);
-    if made.code != refusal::NONE {
-        tool::refuse(stderr, made.code);
-        return;
+    match series::make(sending, frames, &mut contents, &mut bodies) {
+        Ok(made) => {
+            let front = made.contents;
+            let behind = made.bodies;
+            tool::write_output(stdout, &contents[..front]);
+            tool::write_output(stdout, &bodies[..behind]);
+        }
+        Err(refusal) => tool::refuse(stderr, u32::from(refusal)),
     }
-    let front = made.contents;
-    let behind = made.bodies;
-    tool::write_output(stdout, &contents[..front]);
-    tool::write_output(stdout, &bodies[..behind]);
 }

@@ -84,15 +84,15 @@ impl From<Refusal> for u32 {
     }
 }
 
-// The number that C and the listing are told: that of the refusal, or 0 where nothing was refused.
+// What the answers that cross to C say in the place of a refusal's number where nothing was refused.
+pub const NONE: u32 = 0;
+
+// The number that C and the listing are told: that of the refusal, or `NONE`.
 pub fn code(answer: Result<(), Refusal>) -> u32
     ensures { result ≡ code_of answer }
 {
     match answer {
-        Ok(()) => 0,
+        Ok(()) => NONE,
         Err(refusal) => u32::from(refusal),
     }
 }
-
-// What the answers that cross to C say in the place of a refusal's number where nothing was refused.
-pub const NONE: u32 = 0;

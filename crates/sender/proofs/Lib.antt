@@ -5,7 +5,7 @@ pub mod Judging
 pub mod Writing
 pub mod Sending
 pub mod Keeping
-pub mod Frames
+pub mod Pieces
 pub mod Series
 pub mod Ways
 pub mod Unique

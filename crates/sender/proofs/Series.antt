@@ -31,7 +31,7 @@ use Rattle.sender.specs.Series.{Job, Turn, Sound, Usable, start_of_frame, asked_
 use Rattle.octets.specs.Each.{Each}
 use Rattle.sender.specs.Rules.{Pieces, Line, Addressed, segments_of, all_segments, packet_at, KeepsRules}
 use Rattle.sender.proofs.Positions.{Framed, framed, Inside, place-within, carried-append, carried-place, carried-bytes}
-use Rattle.sender.proofs.Frames.{Apart, carried_apart, frames_from, all_frames}
+use Rattle.sender.proofs.Pieces.{Apart, carried_apart, frames_from, all_frames}
 use Rattle.sender.proofs.Keeping.{Typed, sent-number, sent-inside, sent_farther, sent_passes, sent-counts, sent-addressed}
 use Rattle.sender.proofs.Keeping.{sent-numbered, sent-carries}
 

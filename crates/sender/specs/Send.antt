@@ -2,6 +2,9 @@
 -- refused. It answers the packet's length, the next position and the next sequence number; a refused one gives back the position and the
 -- number that it was given, with length 0. Every byte behind the packet stays as it was, and all of the output where it is refused.
 use Rattle.std.specs.Prelude.{ℕ, zero, suc, ◌+◌, ◌-◌, ◌≡◌, Bool, not, ◌&&◌, ◌||◌, List, [], ◌∷◌, ◌++◌, eqb, ltb, length}
+use Rattle.std.specs.Prelude.{Result, Ok, Err}
+use Rattle.refusal.specs.declared.Refusal.{Refusal as Why}
+use Rattle.refusal.specs.Number.{number_of}
 use Rattle.refusal.specs.Refusal.{Refusal, ◌when◌, first}
 use Rattle.octets.specs.Stretch.{put}
 use Rattle.octets.specs.Count.{any, sum_to}
@@ -11,6 +14,7 @@ use Rattle.packet.specs.Header.{id_length, header_length}
 use Rattle.packet.specs.Segments.{entry_width}
 use Rattle.sender.specs.declared.Position.{Position}
 use Rattle.sender.specs.declared.Sent.{Sent}
+use Rattle.sender.specs.declared.Next.{Next}
 use Rattle.sender.specs.Cut.{Cut, frame_length, cut}
 use Rattle.sender.specs.Packet.{packet_of}
 
@@ -96,6 +100,11 @@ cut_for a = cut most_segments entry_width a.bytes a.lengths (start_of a)
 
 abbrev pub packet_for : Asked → List ℕ
 packet_for a = packet_of a.session a.flow a.number (cut_for a).segments
+
+-- What a call answers by a Result, as the one record: of a refusal its number, and the position and the number that were given.
+abbrev pub told : Position → ℕ → Result Next Why → Sent
+told at number (Ok n) = record { code = 0; length = n.length; position = n.position; number = n.number }
+told at number (Err why) = record { code = number_of why; length = 0; position = at; number = number }
 
 -- everything that a call answers and leaves
 pub record SendOutcome : Type 0 where

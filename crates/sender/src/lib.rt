@@ -15,7 +15,7 @@ ghost use Rattle.packet.specs.Segments.{entry_width, length_values};
 ghost use Rattle.sender.specs.Cut.{index_of, least_room};
 ghost use Rattle.sender.specs.Packet.{worth as bitWorth, entry_number, header_of};
 ghost use Rattle.sender.specs.Send.{most_frames, most_segments, greatest_limit, bad_size, bad_frames, outside, early_refusals};
-ghost use Rattle.sender.specs.Send.{later_refusals, PermitsSend};
+ghost use Rattle.sender.specs.Send.{later_refusals, told, PermitsSend};
 ghost use Rattle.sender.specs.Inside.{surveyed, Placeable, position_after, placed_next, with_entry, Ready, cut_of, Written};
 
 use flow::Flow;
@@ -39,6 +39,13 @@ const LEAST_ROOM: usize = psp::ENTRY_WIDTH + 1;
 // Where the entries start: behind the session ID and the header.
 const ENTRIES_AT: usize = header::ID_LENGTH + header::HEADER_LENGTH;
 
+// What a call is given to send: the frames' bytes, back to back, and the length of each.
+#[derive(Clone, Copy)]
+pub struct Frames<'a> {
+    pub bytes: &'a [u8],
+    pub lengths: &'a [u16],
+}
+
 // The next byte to send is byte `offset` of frame `frame`, both counted from 0. Behind the last frame it is (count, 0).
 #[repr(C)] // it crosses to the host program as it is
 #[derive(Clone, Copy)]
@@ -58,6 +65,14 @@ pub struct Sent {
     pub number: u16,
 }
 
+// What a call that is not refused answers: the same but for the number of a refusal.
+#[derive(Clone, Copy)]
+pub struct Next {
+    pub length: usize,
+    pub position: Position,
+    pub number: u16,
+}
+
 // How far the cut has come: the room that is left, the position, and the segments placed with their bytes.
 #[derive(Clone, Copy)]
 struct Progress {
@@ -67,7 +82,8 @@ struct Progress {
     bytes: usize,
 }
 
-// Writes the next packet of these frames for a flow of a session at the front of the output; or refuses, and then nothing has changed.
+// Writes the next packet of these frames for a flow of a session at the front of the output; or refuses, and then nothing has changed. The
+// frames come as two slices and the answer is a plain struct, since they cross to C.
 pub fn send(
     session: u32,
     flow: usize,
@@ -91,32 +107,58 @@ pub fn send(
         })
         (record { answer = result; output = output.new }) }
 {
-    let judged = refuse(
-        session,
-        flow,
-        limit,
-        frames.len(),
+    let given = Frames {
+        bytes: frames,
         lengths,
-        position,
-        output.len(),
-    );
-    if let Err(refusal) = judged {
-        return Sent {
-            code: u32::from(refusal),
+    };
+    match send_next(session, flow, number, limit, given, position, output) {
+        Ok(next) => Sent {
+            code: refusal::NONE,
+            length: next.length,
+            position: next.position,
+            number: next.number,
+        },
+        Err(refused) => Sent {
+            code: u32::from(refused),
             length: 0,
             position,
             number,
-        };
+        },
     }
+}
+
+// The same, for a caller that takes a Result.
+pub fn send_next(
+    session: u32,
+    flow: usize,
+    number: u16,
+    limit: usize,
+    frames: Frames,
+    position: Position,
+    output: &mut [u8],
+) -> Result<Next, Refusal>
+    ensures { PermitsSend
+        (record {
+          session = session;
+          flow = flow;
+          number = number;
+          limit = limit;
+          bytes = frames.entry.bytes.now;
+          lengths = frames.entry.lengths.now;
+          position = position;
+          output = output.old;
+        })
+        (record { answer = told position number result; output = output.new }) }
+{
+    refuse(session, flow, limit, frames, position, output.len())?;
     let room = limit - header::HEADER_LENGTH;
-    let cut = write_segments(output, frames, lengths, room, position);
+    let cut = write_segments(output, frames, room, position);
     write_header(output, session, flow, cut.count, number);
-    Sent {
-        code: 0,
+    Ok(Next {
         length: ENTRIES_AT + psp::ENTRY_WIDTH * cut.count + cut.bytes,
         position: cut.position,
         number: flow::number_after(number),
-    }
+    })
 }
 
 // Whether this is no frame's length.
@@ -126,50 +168,59 @@ fn bad_length(length: usize) -> bool
     (length == 0) | (usize::from(Flow::LONGEST) < length)
 }
 
-// How long these frames are together; or None, where one of the lengths is no frame's. (It looks at all lengths, whatever they are: a loop
-// without a way out is made into vector instructions.)
-fn survey(lengths: &[u16]) -> Option<usize>
-    requires { length lengths.now ≤ most_frames }
-    ensures { result ≡ surveyed lengths.now }
-{
-    let mut total = 0;
-    let mut bad = false;
-    for length in lengths {
-        let length = usize::from(*length);
-        total += length;
-        bad |= bad_length(length);
+impl<'a> Frames<'a> {
+    // How long these frames are together; or None, where one of the lengths is no frame's. (It looks at all lengths, whatever they are: a
+    // loop without a way out is made into vector instructions.)
+    fn survey(self) -> Option<usize>
+        requires { length self.lengths.now ≤ most_frames }
+        ensures { result ≡ surveyed self.entry.lengths.now }
+    {
+        let mut total = 0;
+        let mut bad = false;
+        for length in self.lengths {
+            let length = usize::from(*length);
+            total += length;
+            bad |= bad_length(length);
+        }
+        if bad { None } else { Some(total) }
     }
-    if bad { None } else { Some(total) }
-}
 
-// Refusal 33's condition: too many frames, a length that is none, or lengths that do not add up to the bytes.
-fn bad_frames(total: usize, lengths: &[u16]) -> bool
-    ensures { result ≡ bad_frames total lengths.now }
-{
-    lengths.len() > MOST_FRAMES || survey(lengths) != Some(total)
-}
-
-// Refusal 34's condition: a frame above the count, an offset that its frame has not, or an offset behind the last frame.
-fn is_outside(lengths: &[u16], position: Position) -> bool
-    ensures { result ≡ outside lengths.now position }
-{
-    let count = lengths.len();
-    let frame = position.frame;
-    if frame < count {
-        return usize::from(lengths[frame]) <= position.offset;
+    // Refusal 33's condition: too many frames, a length that is none, or lengths that do not add up to the bytes.
+    fn are_unsound(self) -> bool
+        ensures { result ≡ bad_frames (length self.entry.bytes.now) self.entry.lengths.now }
+    {
+        self.lengths.len() > MOST_FRAMES || self.survey() != Some(self.bytes.len())
     }
-    (count < frame) | (position.offset != 0)
+
+    // Refusal 34's condition: a frame above the count, an offset that its frame has not, or an offset behind the last frame.
+    fn is_outside(self, position: Position) -> bool
+        ensures { result ≡ outside self.entry.lengths.now position }
+    {
+        let count = self.lengths.len();
+        let frame = position.frame;
+        if frame < count {
+            return usize::from(self.lengths[frame]) <= position.offset;
+        }
+        (count < frame) | (position.offset != 0)
+    }
+
+    // Where the byte at a position stands among the bytes of all frames.
+    fn index_of(self, position: Position) -> usize
+        requires { (position.frame ≤ length self.lengths.now) × (length self.lengths.now ≤ most_frames)
+            × (position.offset ≤ longest) }
+        ensures { result ≡ index_of self.entry.lengths.now position }
+    {
+        let mut start = 0;
+        for length in &self.lengths[..position.frame] {
+            start += usize::from(*length);
+        }
+        start + position.offset
+    }
 }
 
 // Refusals 31 to 33, which look neither at the position nor at the output.
-fn refuse_early(
-    session: u32,
-    flow: usize,
-    limit: usize,
-    total: usize,
-    lengths: &[u16],
-) -> Result<(), Refusal>
-    ensures { code_of result ≡ first (early_refusals session flow limit total lengths.now) }
+fn refuse_early(session: u32, flow: usize, limit: usize, frames: Frames) -> Result<(), Refusal>
+    ensures { code_of result ≡ first (early_refusals session flow limit (length frames.entry.bytes.now) frames.entry.lengths.now) }
 {
     if (session == 0) | (Flow::TOP < flow) {
         return Err(Refusal::AddressOutside);
@@ -177,7 +228,7 @@ fn refuse_early(
     if (limit < LEAST_LIMIT) | (GREATEST_LIMIT < limit) {
         return Err(Refusal::LimitOutside);
     }
-    if bad_frames(total, lengths) {
+    if frames.are_unsound() {
         return Err(Refusal::FramesUnsound);
     }
     Ok(())
@@ -186,17 +237,17 @@ fn refuse_early(
 // Refusals 34 to 36, of the position and the output. The output is to have room for any packet within the limit.
 fn refuse_later(
     limit: usize,
-    lengths: &[u16],
+    frames: Frames,
     position: Position,
     space: usize,
 ) -> Result<(), Refusal>
     requires { limit ≤ greatest_limit }
-    ensures { code_of result ≡ first (later_refusals limit lengths.now position space) }
+    ensures { code_of result ≡ first (later_refusals limit frames.entry.lengths.now position space) }
 {
-    if is_outside(lengths, position) {
+    if frames.is_outside(position) {
         return Err(Refusal::PositionOutside);
     }
-    if position.frame == lengths.len() {
+    if position.frame == frames.lengths.len() {
         return Err(Refusal::NothingLeft);
     }
     if space < limit + header::ID_LENGTH {
@@ -210,16 +261,15 @@ fn refuse(
     session: u32,
     flow: usize,
     limit: usize,
-    total: usize,
-    lengths: &[u16],
+    frames: Frames,
     position: Position,
     space: usize,
 ) -> Result<(), Refusal>
-    ensures { code_of result ≡ first (early_refusals session flow limit total lengths.now
-        ++ later_refusals limit lengths.now position space) }
+    ensures { code_of result ≡ first (early_refusals session flow limit (length frames.entry.bytes.now) frames.entry.lengths.now
+        ++ later_refusals limit frames.entry.lengths.now position space) }
 {
-    refuse_early(session, flow, limit, total, lengths)?;
-    refuse_later(limit, lengths, position, space)
+    refuse_early(session, flow, limit, frames)?;
+    refuse_later(limit, frames, position, space)
 }
 
 // What a bit is worth that is set or not.
@@ -256,13 +306,13 @@ fn position_after(position: Position, size: usize, ends: bool) -> Position
 }
 
 // Places the next segment: writes its entry, and counts its bytes. Its body is written later.
-fn place(output: &mut [u8], lengths: &[u16], progress: Progress) -> Progress
-    requires { Placeable output.old lengths.now progress }
-    ensures value { result ≡ placed_next lengths.now progress }
-    ensures output_after { output.new ≡ with_entry output.old lengths.now progress }
+fn place(output: &mut [u8], frames: Frames, progress: Progress) -> Progress
+    requires { Placeable output.old frames.lengths.now progress }
+    ensures value { result ≡ placed_next frames.entry.lengths.now progress }
+    ensures output_after { output.new ≡ with_entry output.old frames.entry.lengths.now progress }
 {
     let position = progress.position;
-    let left = usize::from(lengths[position.frame]) - position.offset;
+    let left = usize::from(frames.lengths[position.frame]) - position.offset;
     let size = min(left, progress.room - psp::ENTRY_WIDTH);
     let begins = position.offset == 0;
     let ends = size == left;
@@ -277,15 +327,9 @@ fn place(output: &mut [u8], lengths: &[u16], progress: Progress) -> Progress
 }
 
 // Cuts segments into so much room, from a position on: writes their entries, and behind them their bodies.
-fn write_segments(
-    output: &mut [u8],
-    frames: &[u8],
-    lengths: &[u16],
-    room: usize,
-    position: Position,
-) -> Progress
-    requires { Ready (length frames.now) lengths.now position room (length output.old) }
-    ensures { Written (cut_of frames.now lengths.now room position)
+fn write_segments(output: &mut [u8], frames: Frames, room: usize, position: Position) -> Progress
+    requires { Ready (length frames.bytes.now) frames.lengths.now position room (length output.old) }
+    ensures { Written (cut_of frames.entry.bytes.now frames.entry.lengths.now room position)
         output.old output.new room result }
 {
     let mut progress = Progress {
@@ -294,34 +338,23 @@ fn write_segments(
         count: 0,
         bytes: 0,
     };
-    while goes_on(lengths.len(), progress) {
-        progress = place(output, lengths, progress);
+    while goes_on(frames, progress) {
+        progress = place(output, frames, progress);
     }
     let bodies = ENTRIES_AT + psp::ENTRY_WIDTH * progress.count;
-    let from = index_of(lengths, position);
-    octets::copy(output, bodies, frames, from, progress.bytes);
+    let from = frames.index_of(position);
+    octets::copy(output, bodies, frames.bytes, from, progress.bytes);
     progress
 }
 
 // Whether another segment is placed: fewer than 127 are, frames remain, and so does room for an entry and a byte.
-fn goes_on(frames: usize, progress: Progress) -> bool
+fn goes_on(frames: Frames, progress: Progress) -> bool
     ensures { result ≡ (ltb progress.count most_segments
-        && (ltb progress.position.frame frames && leb (least_room entry_width) progress.room)) }
+        && (ltb progress.position.frame (length frames.entry.lengths.now) && leb (least_room entry_width) progress.room)) }
 {
-    let position = progress.position;
-    (progress.count < MOST_SEGMENTS) & ((position.frame < frames) & (LEAST_ROOM <= progress.room))
-}
-
-// Where the byte at a position stands among the bytes of all frames.
-fn index_of(lengths: &[u16], position: Position) -> usize
-    requires { (position.frame ≤ length lengths.now) × (length lengths.now ≤ most_frames) × (position.offset ≤ longest) }
-    ensures { result ≡ index_of lengths.now position }
-{
-    let mut start = 0;
-    for length in &lengths[..position.frame] {
-        start += usize::from(*length);
-    }
-    start + position.offset
+    let count = frames.lengths.len();
+    let frame = progress.position.frame;
+    (progress.count < MOST_SEGMENTS) & ((frame < count) & (LEAST_ROOM <= progress.room))
 }
 
 // Writes the session ID and the header at the front of a packet: S set, V, H and X and the reserved bit 0.

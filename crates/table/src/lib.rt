@@ -284,7 +284,7 @@ pub fn open(table: Table, request: Request) -> Opening
             let mut next = table;
             next.rows[at] = fresh_row(request);
             Opening {
-                code: 0,
+                code: refusal::NONE,
                 table: next,
             }
         }
@@ -318,7 +318,7 @@ pub fn close(table: Table, id: u32) -> Closing
             let dropped = held_in(&next.rows[at]);
             next.rows[at] = closed_row();
             Closing {
-                code: 0,
+                code: refusal::NONE,
                 dropped,
                 table: next,
             }

@@ -7,6 +7,8 @@ use Rattle.refusal.specs.Number.{number_of}
 use Rattle.refusal.specs.Refusal.{◌when◌, first}
 use Rattle.octets.specs.Stretch.{joined}
 use Rattle.capture.specs.declared.Writer.{Writer}
+use Rattle.capture.specs.declared.Counted.{Counted}
+use Rattle.capture.specs.Adding.{SameFile}
 use Rattle.capture.specs.File.{head_length, entry_length, id_body, longest_file, most_entries, Entry, body_of}
 use Rattle.capture.specs.Write.{bodies_from, Laid}
 use Rattle.pcap.specs.declared.import.Tally.{Tally}
@@ -102,3 +104,11 @@ pub record LaysOn (es : List Entry) (count : ℕ) (file : List ℕ) (w : Writer)
   pub bytes_more : w'.bytes ≡ w.bytes + length (joined (map body_of es))
   pub as_long : length file' ≡ length file
   pub laid_behind : (es₀ : List Entry) (file₀ : List ℕ) → Laid es₀ count file₀ file w → Laid (es₀ ++ es) count file₀ file' w'
+
+-- .. in a capture that is lent, and goes on in the same slice
+abbrev pub RoomIn : List Entry → Counted → Type 0
+RoomIn es c = RoomFor es c.count c.file.now c.writer
+
+pub record LaysIn (es : List Entry) (before after : Counted) : Type 0 where
+  pub lays_on : LaysOn es before.count before.file.now before.writer after.file.now after.writer
+  pub same_file : SameFile before after

@@ -5,7 +5,7 @@ use Rattle.sender.proofs.write_segments.Goals as goal
 
 pub loop-output-init : goal.loop-output-init
 loop-output-init c =
-    let a = c.args in (c.requires, writing_begin a.frames.now a.lengths.now a.room a.position a.output.now c.requires)
+    let a = c.args in (c.requires, writing_begin a.frames.bytes.now a.frames.lengths.now a.room a.position a.output.now c.requires)
 
 pub place-progress-requires : goal.place-progress-requires
 place-progress-requires c = writing_placeable _ _ _ _ _ _ c.loop-output.invariant.1 (sym c.goes_on.ensures ∙ c.loop-output-test.true)
@@ -20,8 +20,8 @@ pub index_of-from-requires : goal.index_of-from-requires
 index_of-from-requires c =
     let a = c.args in
     let ready = c.loop-output.invariant.0 in
-    let there = inside a.lengths.now a.position ready.position-inside in
-    let sound = framed (length a.frames.now) a.lengths.now ready.frames-sound in
+    let there = inside a.frames.lengths.now a.position ready.position-inside in
+    let sound = framed (length a.frames.bytes.now) a.frames.lengths.now ready.frames-sound in
     (there.among, sound.few, offset_small sound a.position there)
 
 pub copy-requires : goal.copy-requires

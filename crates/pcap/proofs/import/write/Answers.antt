@@ -1,19 +1,31 @@
 -- `pcap::import::write` lays all entries into the room for them, and then writes their number.
+use Rattle.std.proofs.Common.{◌≡◌, List, ℕ, rules, ◌∙◌}
 use Rattle.pcap.proofs.Importing.{opens-room, records_room, finish_fits, capture_written}
 use Rattle.pcap.proofs.import.write.Goals as goal
 
-pub write_opens-opened-requires : goal.write_opens-opened-requires
-write_opens-opened-requires c = opens-room c.args.sessions.now c.args.file.now c.requires.room_for
+-- who lent the slice finds there what the capture left in it
+found_there : {lent output file : List ℕ} → lent ≡ file → output ≡ lent → output ≡ file
+found_there is there = there ∙ is
 
-pub write_records-writer-requires : goal.write_records-writer-requires
-write_records-writer-requires c =
-    records_room c.args.sessions.now c.args.file.now c.requires.room_for c.write_opens-opened.ensures
+pub write_opens-requires : goal.write_opens-requires
+write_opens-requires c = rw c.begin.ensures (opens-room c.args.sessions.now c.args.file.now c.requires.room_for)
+
+pub write_records-requires : goal.write_records-requires
+write_records-requires c =
+    let opened = rw c.begin.ensures at c.write_opens.ensures.lays_on in
+    rw c.write_opens.ensures.same_file.1 (records_room c.args.sessions.now c.args.file.now c.requires.room_for opened)
 
 pub finish-requires : goal.finish-requires
 finish-requires c =
-    finish_fits c.args.sessions.now c.args.file.now c.requires.room_for c.write_opens-opened.ensures c.write_records-writer.ensures
+    let opened = rw c.begin.ensures at c.write_opens.ensures.lays_on in
+    let wrote = rw c.write_opens.ensures.same_file.1 at c.write_records.ensures.lays_on in
+    finish_fits c.args.sessions.now c.args.file.now c.requires.room_for opened wrote
 
 pub returns : goal.returns
 returns c =
-    capture_written c.args.sessions.now c.args.file.now c.requires.room_for c.write_opens-opened.ensures c.write_records-writer.ensures _
-    c.requires.count_value c.finish.ensures
+    let opened = rw c.begin.ensures at c.write_opens.ensures.lays_on in
+    let wrote = rw c.write_opens.ensures.same_file.1 at c.write_records.ensures.lays_on in
+    found_there {lent = c.finish.new.self.file.now}
+    (capture_written c.args.sessions.now c.args.file.now c.requires.room_for opened wrote _ c.requires.count_value
+    c.finish.ensures.file_after)
+    (search rules)

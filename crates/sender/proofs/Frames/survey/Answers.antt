@@ -1,6 +1,6 @@
 use Rattle.std.proofs.Common.{arith}
 use Rattle.sender.proofs.Judging.{survey_begin, survey_turn}
-use Rattle.sender.proofs.survey.Goals as goal
+use Rattle.sender.proofs.Frames.survey.Goals as goal
 
 pub loop-length-init : goal.loop-length-init
 loop-length-init c = survey_begin _ _

@@ -1,6 +1,0 @@
-use Rattle.std.proofs.Common.{length}
-use Rattle.sender.proofs.Judging.{Surveying}
-use Rattle.sender.proofs.survey.Given as goal
-
-abbrev pub invariant-loop-length : goal.invariant-loop-length
-invariant-loop-length l = Surveying l.lengths (length l.lengths) l.total l.bad l.length-index
