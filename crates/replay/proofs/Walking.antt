@@ -11,7 +11,7 @@ use Rattle.table.specs.Rows.{empty}
 use Rattle.join.specs.Slices.{most_bytes, most_frames}
 use Rattle.card.specs.declared.Received.{Received}
 use Rattle.card.specs.Receive.{holding_size}
-use Rattle.capture.specs.File.{Entry, head_length, entry_length, most_entries, body_in, kinds, takes_length, entry_count, kind_at, body_start}
+use Rattle.capture.specs.File.{Entry, head_length, entry_length, body_in, kinds, takes_length, entry_count, kind_at, body_start}
 use Rattle.capture.specs.File.{file_refusal, nth_entry, StandsAt}
 use Rattle.capture.proofs.Checking.{is_sound, start_first, start-next, body-inside, body_long, entry_right}
 use Rattle.replay.specs.declared.Lent.{Lent}

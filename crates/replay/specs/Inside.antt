@@ -11,6 +11,7 @@ use Rattle.card.specs.Receive.{holding_size}
 use Rattle.card.specs.History.{Answer}
 use Rattle.capture.specs.File.{Entry, head_length, entry_length, entry_count, kind_at, body_start, file_refusal}
 use Rattle.replay.specs.declared.Lent.{Lent}
+use Rattle.replay.specs.declared.Rooms.{Rooms}
 use Rattle.replay.specs.declared.Walk.{Walk}
 use Rattle.replay.specs.declared.Stepped.{Stepped}
 use Rattle.replay.specs.Run.{Running, answer_to, run_one, standing, answer_at}
@@ -65,6 +66,17 @@ pub record Begins (file : List ℕ) (w : Walk) : Type 0 where
   pub at_first : w.index ≡ 0
   pub first-start : w.start ≡ body_start head_length entry_length file 0
   pub empty-table : w.table ≡ empty
+
+-- rooms of zeros, and rooms lent as they are
+pub record Zeros (rooms : Rooms) : Type 0 where
+  pub holding-zero : rooms.holding ≡ replicate holding_size 0
+  pub output-zero : rooms.output ≡ replicate most_bytes 0
+  pub lengths-zero : rooms.lengths ≡ replicate most_frames 0
+
+pub record AsTheyAre (rooms : Rooms) (lent : Lent) : Type 0 where
+  pub holding-is : lent.holding.now ≡ rooms.holding
+  pub output-is : lent.output.now ≡ rooms.output
+  pub lengths-is : lent.lengths.now ≡ rooms.lengths
 
 -- a sound file, and slices of zeros to run it with
 pub record Unused (file : List ℕ) (lent : Lent) : Type 0 where

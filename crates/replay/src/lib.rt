@@ -8,7 +8,7 @@ ghost use Rattle.std.specs.Prelude.{◌≡◌, ◌<◌, replicate};
 ghost use Rattle.join.specs.Slices.{most_bytes, most_frames};
 ghost use Rattle.card.specs.Receive.{holding_size};
 ghost use Rattle.capture.specs.File.{head_length, entry_count, file_refusal};
-ghost use Rattle.replay.specs.Inside.{StillLent, Stands, Begins, Steps};
+ghost use Rattle.replay.specs.Inside.{StillLent, Stands, Begins, Steps, Zeros, AsTheyAre};
 
 use capture::reader;
 use card::Received;
@@ -37,23 +37,40 @@ pub struct Stepped {
     pub answer: Received,
 }
 
-// The slices that a run begins with: all zeros.
-pub fn holding_room() -> [u8; card::HOLDING_SIZE]
-    ensures { result ≡ replicate holding_size 0 }
-{
-    [0; card::HOLDING_SIZE]
+// Rooms for the slices of a run.
+pub struct Rooms {
+    holding: [u8; card::HOLDING_SIZE],
+    output: [u8; card::MOST_BYTES],
+    lengths: [u16; card::MOST_FRAMES],
 }
 
-pub fn output_room() -> [u8; card::MOST_BYTES]
-    ensures { result ≡ replicate most_bytes 0 }
-{
-    [0; card::MOST_BYTES]
-}
+impl Rooms {
+    // All zeros, as a run begins with them.
+    pub fn new() -> Rooms
+        ensures { Zeros result }
+    {
+        Rooms {
+            holding: [0; card::HOLDING_SIZE],
+            output: [0; card::MOST_BYTES],
+            lengths: [0; card::MOST_FRAMES],
+        }
+    }
 
-pub fn lengths_room() -> [u16; card::MOST_FRAMES]
-    ensures { result ≡ replicate most_frames 0 }
-{
-    [0; card::MOST_FRAMES]
+    // Lends them, as they are.
+    pub fn lend(&mut self) -> Lent
+        ensures { AsTheyAre self.old result }
+    {
+        let Rooms {
+            holding,
+            output,
+            lengths,
+        } = self;
+        Lent {
+            holding,
+            output,
+            lengths,
+        }
+    }
 }
 
 impl Walk {

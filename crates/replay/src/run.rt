@@ -5,10 +5,10 @@ ghost use Rattle.capture.specs.File.{body_in, kinds, takes_length};
 ghost use Rattle.replay.specs.Run.{transport_of};
 ghost use Rattle.replay.specs.Inside.{as_running, answered, RunsTo, StillLent};
 
+use super::Lent;
 use capture::Kind;
 use card::Received;
 use packet::header;
-use super::Lent;
 use table::{Request, Table};
 
 // What a call answers that delivers nothing.
