@@ -86,6 +86,29 @@ module _ {file : List ℕ} {w : Walk} {lent : Lent} (s : Stands file w lent)
             goes_on = record { stands = there same; one_on = refl };
           }
 
+-- The slices that are lent stay the same ones from call to call.
+pub lent_first : {lent : Lent} → StillLent lent lent
+lent_first =
+    record {
+      holding-same = refl;
+      output-same = refl;
+      lengths-same = refl;
+      holding-size = refl;
+      output-size = refl;
+      lengths-size = refl;
+    }
+
+pub lent_then : {first then last : Lent} → StillLent first then → StillLent then last → StillLent first last
+lent_then a b =
+    record {
+      holding-same = b.holding-same ∙ a.holding-same;
+      output-same = b.output-same ∙ a.output-same;
+      lengths-same = b.lengths-same ∙ a.lengths-same;
+      holding-size = b.holding-size ∙ a.holding-size;
+      output-size = b.output-size ∙ a.output-size;
+      lengths-size = b.lengths-size ∙ a.lengths-size;
+    }
+
 -- Before the first entry the run stands as it begins, with slices as long as any call needs.
 pub unused_sized : {file : List ℕ} {lent : Lent} → Unused file lent → Sized lent
 unused_sized u =

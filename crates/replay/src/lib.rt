@@ -38,6 +38,7 @@ pub struct Stepped {
 }
 
 // Rooms for the slices of a run.
+#[derive(Drop)]
 pub struct Rooms {
     holding: [u8; card::HOLDING_SIZE],
     output: [u8; card::MOST_BYTES],
