@@ -20,13 +20,13 @@ fn too_long(stderr: &mut impl Write) {
 
 fn main(rt: HostRuntime) {
     // one byte more than is read, so that a longer one is seen to be too long
-    let mut file: [u8; back::MOST_READ + 1] = tool::room();
+    let mut file: [u8; back::MOST_READ + 1] = tool::room(0);
     let read = tool::read_input(&mut rt.stdin(), &mut file);
     if back::MOST_READ < read {
         too_long(&mut rt.stderr());
         return;
     }
-    let mut text: [u8; back::TEXT_ROOM] = tool::room();
+    let mut text: [u8; back::TEXT_ROOM] = tool::room(0);
     let length = back::get_back(&file[..read], &mut text);
     tool::write_output(&mut rt.stdout(), &text[..length]);
 }

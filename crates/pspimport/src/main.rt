@@ -43,7 +43,7 @@ fn main(rt: HostRuntime) {
         return;
     };
     // one byte more than is read, so that a longer one is seen to be too long
-    let mut file: [u8; MOST_READ + 1] = tool::room();
+    let mut file: [u8; MOST_READ + 1] = tool::room(0);
     let read = tool::read_input(&mut rt.stdin(), &mut file);
     if MOST_READ < read {
         too_long(&mut rt.stderr());
@@ -61,7 +61,7 @@ fn main(rt: HostRuntime) {
 fn run(stdout: &mut impl Write, stderr: &mut impl Write, sessions: &[u32], file: &[u8])
     requires { length file.now ≤ most_read }
 {
-    let mut output: [u8; capture::LONGEST_FILE] = tool::room();
+    let mut output: [u8; capture::LONGEST_FILE] = tool::room(0);
     let imported = match import::import(sessions, file, &mut output) {
         Ok(imported) => imported,
         Err(why) => {

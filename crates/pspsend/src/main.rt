@@ -62,10 +62,10 @@ fn sending(env: &impl Env) -> Option<Sending> {
 
 // Reads the frames and sends them.
 fn run(stdin: &mut impl Read, stdout: &mut impl Write, stderr: &mut impl Write, sending: Sending) {
-    let mut file: [u8; FILE_ROOM] = tool::room();
+    let mut file: [u8; FILE_ROOM] = tool::room(0);
     let read = tool::read_input(stdin, &mut file);
-    let mut bytes: [u8; FILE_ROOM] = tool::room();
-    let mut lengths: [u16; input::MOST] = tool::lengths_room();
+    let mut bytes: [u8; FILE_ROOM] = tool::room(0);
+    let mut lengths: [u16; input::MOST] = tool::room(0);
     let taken = input::take_frames(&file[..read], &mut bytes, &mut lengths);
     let count = taken.count;
     let total = taken.bytes;
@@ -82,8 +82,8 @@ fn send(
 )
     requires { length bytes.now ≤ most_bytes }
 {
-    let mut contents: [u8; series::CONTENTS_ROOM] = tool::room();
-    let mut bodies: [u8; capture::LONGEST_FILE] = tool::room();
+    let mut contents: [u8; series::CONTENTS_ROOM] = tool::room(0);
+    let mut bodies: [u8; capture::LONGEST_FILE] = tool::room(0);
     let made = series::make(sending, bytes, lengths, &mut contents, &mut bodies);
     if made.code != refusal::NONE {
         tool::refuse(stderr, made.code);
