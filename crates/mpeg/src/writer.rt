@@ -43,8 +43,8 @@ fn bad_frame(frames: &[u8], start: usize, size: usize) -> bool
 
 // Goes through all frames, and answers how many bytes are left of the one that has begun; or refuses one that may not be written, or bytes
 // behind the last. The loop only stops at a frame that may not be written, and it is refused behind the loop: so no answer is at hand in
-// the loop, and a turn is short (bench/README.md, stream f).
-// (The frames and their lengths stay two slices, as they come from C: nothing here looks at the lengths but this.)
+// the loop, and a turn is short (bench/README.md, stream f). (The frames and their lengths stay two slices, as they come from C: nothing
+// here looks at the lengths but this.)
 fn survey(frames: &[u8], lengths: &[u16], place: usize) -> Result<usize, Refusal>
     ensures { Surveys frames.now lengths.now place result }
 {

@@ -17,8 +17,8 @@ pub fn get_back(packets: &[u8], text: &mut [u8]) -> usize
     requires { (length packets.now ≤ most_read) × (text_room ≤ length text.old) }
     ensures { Wrote text.old text.new 0 result (got_back packets.now) }
 {
-    let mut output: [u8; MOST_READ] = tool::room();
-    let mut lengths: [u16; MOST_READ] = tool::lengths_room();
+    let mut output: [u8; MOST_READ] = tool::room(0);
+    let mut lengths: [u16; MOST_READ] = tool::room(0);
     let back = reader::read(packets, &mut output, &mut lengths);
     if back.code != refusal::NONE {
         return tool::write_refused(text, 0, back.code);

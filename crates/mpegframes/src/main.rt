@@ -28,7 +28,7 @@ fn main(rt: HostRuntime) {
         too_long(&mut rt.stderr());
         return;
     }
-    let mut text: [u8; back::TEXT_ROOM] = tool::room();
+    let mut text: [u8; back::TEXT_ROOM] = tool::room(0);
     let length = back::get_back(&file[..read], &mut text);
     tool::write_output(&mut rt.stdout(), &text[..length]);
 }
@@ -37,5 +37,5 @@ fn main(rt: HostRuntime) {
 fn file_room() -> [u8; back::MOST_READ + 1]
     ensures { most_read + 1 ≡ length result }
 {
-    tool::room()
+    tool::room(0)
 }

@@ -62,7 +62,7 @@ fn addresses(env: &impl Env) -> Option<Addresses> {
 fn output_room() -> [u8; OUTPUT_ROOM]
     ensures { output_room ≡ length result }
 {
-    tool::room()
+    tool::room(0)
 }
 
 // Reads the capture, and writes the file with what was left out, or says why not.

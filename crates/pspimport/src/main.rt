@@ -67,13 +67,13 @@ fn sessions_room() -> [u32; sessions::MOST_SESSIONS]
 fn file_room() -> [u8; MOST_READ + 1]
     ensures { most_read + 1 ≡ length result }
 {
-    tool::room()
+    tool::room(0)
 }
 
 fn output_room() -> [u8; capture::LONGEST_FILE]
     ensures { longest_file ≡ length result }
 {
-    tool::room()
+    tool::room(0)
 }
 
 // Makes the capture, and writes it with what was skipped, or says why not.

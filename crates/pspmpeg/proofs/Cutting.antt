@@ -11,6 +11,7 @@ use Rattle.octets.proofs.Counts.{sum-none, sum_more}
 use Rattle.octets.proofs.Stretches.{length_part, part_none, part_more, length-put, put-nil, put-put, set-put, length-lengths_of}
 use Rattle.octets.proofs.Stretches.{total, total-part, lengths_of-cut, joined-cut}
 use Rattle.card.specs.Receive.{frames_found}
+use Rattle.replay.specs.declared.Lent.{Lent}
 use Rattle.pspmpeg.specs.declared.gather.Gathered.{Gathered}
 use Rattle.pspmpeg.specs.Inside.{Adds, FitsFound}
 
@@ -78,19 +79,19 @@ module _ {lengths sizes₀ sizes : List ℕ} {count more sum i : ℕ} (a : Appen
       let all : i ≡ more = omega (arith, a.within, past) in
       (a.sizes_now ∙ ap (λ (n : ℕ). put sizes₀ count (part lengths 0 n)) all, a.sum_is ∙ ap (sum_to (byte_at lengths)) all)
 
-pub append_adds : {output lengths bytes sizes bytes' sizes' : List ℕ} {more sum : ℕ} {g : Gathered} →
-    FitsFound output lengths more bytes sizes g →
-    bytes' ≡ put bytes g.bytes (part output 0 sum) →
-    (sizes' ≡ put sizes g.count (part lengths 0 more)) × (sum ≡ sum_to (byte_at lengths) more) →
-    Adds (frames_found more lengths output) bytes sizes bytes' sizes' g (record { count = g.count + more; bytes = g.bytes + sum })
-append_adds {output} {lengths} {bytes} {sizes} {bytes'} {sizes'} {more} {sum} {g} f b (s, e) =
+pub append_adds : {lent : Lent} {more sum : ℕ} {before after : Gathered} → FitsFound lent more before →
+    after.bytes.now ≡ put before.bytes.now before.total (part lent.output.now 0 sum) →
+    (after.sizes.now ≡ put before.sizes.now before.count (part lent.lengths.now 0 more)) × (sum ≡ sum_to (byte_at lent.lengths.now) more) →
+    after.count ≡ before.count + more → after.total ≡ before.total + sum →
+    Adds (frames_found more lent.lengths.now lent.output.now) before after
+append_adds {lent} {more} {sum} {before} {after} f b (s, e) n t =
+    let output = lent.output.now in
+    let lengths = lent.lengths.now in
     record {
-      bytes_then = b ∙ ap (λ (n : ℕ). put bytes g.bytes (part output 0 n)) e
-          ∙ ap (put bytes g.bytes) (sym (found-joined output lengths more f.lengths-there f.bytes-there));
-      sizes_then = s ∙ ap (put sizes g.count) (sym (found-lengths output lengths more f.lengths-there f.bytes-there));
-      counts_then =
-          ap (λ (n : ℕ). record { count = g.count + n; bytes = g.bytes + sum })
-          (sym (found_many output lengths more f.lengths-there f.bytes-there))
-          ∙ ap (λ (n : ℕ). record { count = g.count + length (frames_found more lengths output); bytes = g.bytes + n })
-          (e ∙ sym (found_long output lengths more f.lengths-there f.bytes-there));
+      bytes_then = b ∙ ap (λ (n : ℕ). put before.bytes.now before.total (part output 0 n)) e
+          ∙ ap (put before.bytes.now before.total) (sym (found-joined output lengths more f.lengths-there f.bytes-there));
+      sizes_then =
+          s ∙ ap (put before.sizes.now before.count) (sym (found-lengths output lengths more f.lengths-there f.bytes-there));
+      count_then = omega (arith, n, found_many output lengths more f.lengths-there f.bytes-there);
+      total_then = omega (arith, t, e, found_long output lengths more f.lengths-there f.bytes-there);
     }

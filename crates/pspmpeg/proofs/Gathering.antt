@@ -1,7 +1,7 @@
 -- How the frames of a session are gathered, entry by entry: after each entry the frames delivered so far stand at the front of the slices
 -- (`Gathering`, the loop's invariant).
 use Prim.Native.Nat.{ℕ, suc, ◌+◌, ◌<◌, ◌≤◌}
-use mathlib.Core.Path.{◌≡◌, refl, sym, ap, subst, ◌∙◌}
+use mathlib.Core.Path.{◌≡◌, sym, ap, subst, ◌∙◌}
 use mathlib.Core.Bool.{Bool, true, false, cond}
 use mathlib.Core.List.{List, []}
 use native.Mathlib.Numerals.{add-one}
@@ -16,6 +16,7 @@ use Rattle.card.specs.Receive.{frames_found}
 use Rattle.card.specs.History.{frames_of}
 use Rattle.capture.specs.File.{head_length, entry_length, longest_file, most_entries, entry_count, kind_at, nth_entry}
 use Rattle.capture.proofs.Checking.{is_sound}
+use Rattle.replay.specs.declared.Lent.{Lent}
 use Rattle.replay.specs.declared.Walk.{Walk}
 use Rattle.replay.specs.declared.Stepped.{Stepped}
 use Rattle.replay.specs.Run.{Running, standing, answer_at}
@@ -28,7 +29,7 @@ use Rattle.pspmpeg.proofs.Cutting.{found_many, found_long}
 use Rattle.pspmpeg.proofs.Rooms.{few_bytes, few-frames}
 
 -- One entry. What is said of it before it is run is what the definition says.
-module _ {file : List ℕ} {w : Walk} {holding output lengths : List ℕ} (s : Stands file w holding output lengths) (session : ℕ) where
+module _ {file : List ℕ} {w : Walk} {lent : Lent} (s : Stands file w lent) (session : ℕ) where
   pub chosen : (kind : ℕ) (body : List ℕ) (wanted : Bool) → kind ≡ kind_at head_length entry_length file w.index →
       body ≡ (nth_entry file w.index).body →
       wanted ≡ is_for session w.table (record { kind = kind; body = body }) →
@@ -42,45 +43,41 @@ module _ {file : List ℕ} {w : Walk} {holding output lengths : List ℕ} (s : S
       ∙ ap (λ (r : Running). is_for session r.card.table (nth_entry file w.index)) s.its_run in
       ap (λ (t : Bool). cond t (frames_of (answer_at file w.index)) []) (sym same)
 
-pub not_chosen : (found : List (List ℕ)) {frames : List (List ℕ)} {wanted : Bool} {bytes sizes : List ℕ} {g : Gathered} →
-    frames ≡ cond wanted found [] → wanted ≡ false →
-    Adds frames bytes sizes bytes sizes g g
-not_chosen found {frames} {wanted} {bytes} {sizes} {g} e n =
+pub not_chosen : (found : List (List ℕ)) {frames : List (List ℕ)} {wanted : Bool} {g : Gathered} → frames ≡ cond wanted found [] →
+    wanted ≡ false → Adds frames g g
+not_chosen found {frames} {wanted} {g} e n =
     let none : frames ≡ [] = e ∙ ap (λ (t : Bool). cond t found []) n in
     rw none
     (record {
-      bytes_then = sym (ap (put bytes g.bytes) joined-none ∙ put-nil bytes g.bytes);
-      sizes_then = sym (ap (put sizes g.count) lengths_of-none ∙ put-nil sizes g.count);
-      counts_then = same;
+      bytes_then = sym (ap (put g.bytes.now g.total) joined-none ∙ put-nil g.bytes.now g.total);
+      sizes_then = sym (ap (put g.sizes.now g.count) lengths_of-none ∙ put-nil g.sizes.now g.count);
+      count_then = omega arith;
+      total_then = omega (arith, length-joined-none);
     })
-  where
-    same : g ≡ record { count = g.count + 0; bytes = g.bytes + length (joined []) }
-    same =
-        let a : g.count ≡ g.count + 0 = omega arith in
-        let b : g.bytes ≡ g.bytes + length (joined []) = omega (arith, length-joined-none) in
-        ap (λ (n : ℕ). record { count = n; bytes = g.bytes }) a ∙ ap (λ (n : ℕ). record { count = g.count + 0; bytes = n }) b
 
 -- .. and its frames lie in the slices that the step leaves
-module _ {file : List ℕ} {w further : Walk} {s : Stepped} {holding output lengths : List ℕ}
-    (stepped : Steps file w s further holding output lengths) where
+module _ {file : List ℕ} {w further : Walk} {s : Stepped} {lent : Lent} (stepped : Steps file w s further lent) where
   abbrev more : ℕ
   more = s.answer.frames
 
-  there : Findable output lengths more
+  abbrev found : List (List ℕ)
+  found = frames_found more lent.lengths.now lent.output.now
+
+  there : Findable lent.output.now lent.lengths.now more
   there = frames_findable stepped
 
-  lengths-there : more ≤ length lengths
+  lengths-there : more ≤ length lent.lengths.now
   lengths-there = omega (arith, there.few, there.lengths_long)
 
-  bytes-there : sum_to (byte_at lengths) more ≤ length output
+  bytes-there : sum_to (byte_at lent.lengths.now) more ≤ length lent.output.now
   bytes-there = omega (arith, there.all_short, there.output_long)
 
   module _ {frames : List (List ℕ)} {wanted : Bool} (e : frames ≡ cond wanted (frames_of (answer_at file w.index)) [])
       (y : wanted ≡ true) where
-    frames_are : frames ≡ frames_found more lengths output
+    frames_are : frames ≡ found
     frames_are = e ∙ ap (λ (t : Bool). cond t (frames_of (answer_at file w.index)) []) y ∙ sym (frames_found_lem stepped)
 
-    pub fits-found : {bytes sizes : List ℕ} {g : Gathered} → Fits frames bytes sizes g → FitsFound output lengths more bytes sizes g
+    pub fits-found : {g : Gathered} → Fits frames g → FitsFound lent more g
     fits-found f =
         record {
           lengths-there = lengths-there;
@@ -90,49 +87,45 @@ module _ {file : List ℕ} {w further : Walk} {s : Stepped} {holding output leng
                 arith,
                 f.bytes_fit,
                 ap (λ (l : List (List ℕ)). length (joined l)) frames_are,
-                found_long output lengths more lengths-there bytes-there,
+                found_long lent.output.now lent.lengths.now more lengths-there bytes-there,
               );
           sizes_fit =
               omega (
                 arith,
                 f.sizes_fit,
                 ap (λ (l : List (List ℕ)). length l) frames_are,
-                found_many output lengths more lengths-there bytes-there,
+                found_many lent.output.now lent.lengths.now more lengths-there bytes-there,
               );
         }
 
-    pub adds_found : {bytes sizes bytes' sizes' : List ℕ} {g g' : Gathered} →
-        Adds (frames_found more lengths output) bytes sizes bytes' sizes' g g' →
-        Adds frames bytes sizes bytes' sizes' g g'
-    adds_found {bytes} {sizes} {bytes'} {sizes'} {g} {g'} a =
-        subst (λ (l : List (List ℕ)). Adds l bytes sizes bytes' sizes' g g') (sym frames_are) a
+    pub adds_found : {before after : Gathered} → Adds found before after → Adds frames before after
+    adds_found {before} {after} a = subst (λ (l : List (List ℕ)). Adds l before after) (sym frames_are) a
 
 -- All entries.
-pub record Gathering (session : ℕ) (file bytes₀ sizes₀ : List ℕ) (w : Walk) (gathered : Gathered)
-    (holding output lengths bytes sizes : List ℕ) : Type 0 where
-  pub stands : Stands file w holding output lengths
-  pub so_far : Gathers (delivered_before session file w.index) bytes₀ sizes₀ bytes sizes gathered
+pub record Gathering (session : ℕ) (file bytes sizes : List ℕ) (w : Walk) (lent : Lent) (gathered : Gathered) : Type 0 where
+  pub stands : Stands file w lent
+  pub so_far : Gathers (delivered_before session file w.index) bytes sizes gathered
 
-pub gather_begin : {session : ℕ} {file holding output lengths : List ℕ} {w : Walk} (bytes sizes : List ℕ) →
-    Stands file w holding output lengths → w.index ≡ 0 →
-    Gathering session file bytes sizes w (record { count = 0; bytes = 0 }) holding output lengths bytes sizes
+pub gather_begin : {session : ℕ} {file : List ℕ} {w : Walk} {lent : Lent} {gathered : Gathered} → Stands file w lent → w.index ≡ 0 →
+    gathered.count ≡ 0 → gathered.total ≡ 0 →
+    Gathering session file gathered.bytes.now gathered.sizes.now w lent gathered
 unfolding delivered_before
-gather_begin {session} {file} {holding} {output} {lengths} {w} bytes sizes s z =
+gather_begin {session} {file} {w} {lent} {gathered} s z no-frames no-bytes =
     record {
       stands = s;
       so_far =
-          subst (λ (n : ℕ). Gathers (delivered_before session file n) bytes sizes bytes sizes (record { count = 0; bytes = 0 })) (sym z)
+          subst (λ (n : ℕ). Gathers (delivered_before session file n) gathered.bytes.now gathered.sizes.now gathered) (sym z)
           (record {
-            bytes_now = sym (ap (put bytes 0) joined-none ∙ put-nil bytes 0);
-            sizes_now = sym (ap (put sizes 0) lengths_of-none ∙ put-nil sizes 0);
-            counted = refl;
-            total_is = sym length-joined-none;
+            bytes_now = sym (ap (put gathered.bytes.now 0) joined-none ∙ put-nil gathered.bytes.now 0);
+            sizes_now = sym (ap (put gathered.sizes.now 0) lengths_of-none ∙ put-nil gathered.sizes.now 0);
+            counted = no-frames;
+            total_is = no-bytes ∙ sym length-joined-none;
           });
     }
 
-module _ {session : ℕ} {file bytes₀ sizes₀ : List ℕ} {w : Walk} {gathered : Gathered} {holding output lengths bytes sizes : List ℕ}
-    (g : Gathering session file bytes₀ sizes₀ w gathered holding output lengths bytes sizes) (bytes-long : longest_file ≤ length bytes₀)
-    (sizes-long : most_gathered ≤ length sizes₀) where
+module _ {session : ℕ} {file bytes sizes : List ℕ} {w : Walk} {lent : Lent} {gathered : Gathered}
+    (g : Gathering session file bytes sizes w lent gathered) (bytes-long : longest_file ≤ length bytes)
+    (sizes-long : most_gathered ≤ length sizes) where
   abbrev before : List (List ℕ)
   before = delivered_before session file w.index
 
@@ -145,12 +138,12 @@ module _ {session : ℕ} {file bytes₀ sizes₀ : List ℕ} {w : Walk} {gathere
   many : length before ≤ most_gathered
   many = omega (arith, few-frames session file w.index, few)
 
-  pub bytes_same : length bytes ≡ length bytes₀
-  bytes_same = ap length g.so_far.bytes_now ∙ length-put bytes₀ 0 (joined before) (omega (arith, short, bytes-long))
+  pub bytes_same : length gathered.bytes.now ≡ length bytes
+  bytes_same = ap length g.so_far.bytes_now ∙ length-put bytes 0 (joined before) (omega (arith, short, bytes-long))
 
-  pub sizes-same : length sizes ≡ length sizes₀
+  pub sizes-same : length gathered.sizes.now ≡ length sizes
   sizes-same =
-      ap length g.so_far.sizes_now ∙ length-put sizes₀ 0 (lengths_of before) (omega (arith, length-lengths_of before, many, sizes-long))
+      ap length g.so_far.sizes_now ∙ length-put sizes 0 (lengths_of before) (omega (arith, length-lengths_of before, many, sizes-long))
 
   module _ (more : w.index < entry_count head_length file) where
     abbrev next : List (List ℕ)
@@ -164,7 +157,7 @@ module _ {session : ℕ} {file bytes₀ sizes₀ : List ℕ} {w : Walk} {gathere
     unfolding delivered_before
     length-next = length-append before next
 
-    pub next_fits : Fits next bytes sizes gathered
+    pub next_fits : Fits next gathered
     next_fits =
         record {
           bytes_fit =
@@ -189,44 +182,38 @@ module _ {session : ℕ} {file bytes₀ sizes₀ : List ℕ} {w : Walk} {gathere
               );
         }
 
-    pub gather_turn : {w' : Walk} {gathered' : Gathered} {holding' output' lengths' bytes' sizes' : List ℕ} →
-        GoesOn file w w' holding' output' lengths' →
-        Adds next bytes sizes bytes' sizes' gathered gathered' →
-        Gathering session file bytes₀ sizes₀ w' gathered' holding' output' lengths' bytes' sizes'
+    pub gather_turn : {w' : Walk} {lent' : Lent} {gathered' : Gathered} → GoesOn file w w' lent' → Adds next gathered gathered' →
+        Gathering session file bytes sizes w' lent' gathered'
     unfolding delivered_before
-    gather_turn {w'} {gathered'} {holding'} {output'} {lengths'} {bytes'} {sizes'} on a =
+    gather_turn {w'} {lent'} {gathered'} on a =
         let index : w'.index ≡ suc w.index = on.one_on ∙ add-one w.index in
         record {
           stands = on.stands;
           so_far =
-              subst (λ (n : ℕ). Gathers (delivered_before session file n) bytes₀ sizes₀ bytes' sizes' gathered') (sym index)
+              subst (λ (n : ℕ). Gathers (delivered_before session file n) bytes sizes gathered') (sym index)
               (record {
                 bytes_now =
-                    a.bytes_then ∙ ap (λ (l : List ℕ). put l gathered.bytes (joined next)) g.so_far.bytes_now
-                    ∙ ap (λ (n : ℕ). put (put bytes₀ 0 (joined before)) n (joined next)) g.so_far.total_is
-                    ∙ put-put_front bytes₀ (joined before) (joined next) (omega (arith, short, bytes-long))
-                    ∙ ap (put bytes₀ 0) (sym (joined-append before next));
+                    a.bytes_then ∙ ap (λ (l : List ℕ). put l gathered.total (joined next)) g.so_far.bytes_now
+                    ∙ ap (λ (n : ℕ). put (put bytes 0 (joined before)) n (joined next)) g.so_far.total_is
+                    ∙ put-put_front bytes (joined before) (joined next) (omega (arith, short, bytes-long))
+                    ∙ ap (put bytes 0) (sym (joined-append before next));
                 sizes_now =
                     a.sizes_then ∙ ap (λ (l : List ℕ). put l gathered.count (lengths_of next)) g.so_far.sizes_now
-                    ∙ ap (λ (n : ℕ). put (put sizes₀ 0 (lengths_of before)) n (lengths_of next))
+                    ∙ ap (λ (n : ℕ). put (put sizes 0 (lengths_of before)) n (lengths_of next))
                     (g.so_far.counted ∙ sym (length-lengths_of before))
-                    ∙ put-put_front sizes₀ (lengths_of before) (lengths_of next) (omega (arith, length-lengths_of before, many, sizes-long))
-                    ∙ ap (put sizes₀ 0) (sym (lengths_of-append before next));
-                counted =
-                    ap (λ (x : Gathered). x.count) a.counts_then ∙ ap (λ (n : ℕ). n + length next) g.so_far.counted
-                    ∙ sym length-next;
-                total_is =
-                    ap (λ (x : Gathered). x.bytes) a.counts_then ∙ ap (λ (n : ℕ). n + length (joined next)) g.so_far.total_is
-                    ∙ sym joined-next;
+                    ∙ put-put_front sizes (lengths_of before) (lengths_of next) (omega (arith, length-lengths_of before, many, sizes-long))
+                    ∙ ap (put sizes 0) (sym (lengths_of-append before next));
+                counted = a.count_then ∙ ap (λ (n : ℕ). n + length next) g.so_far.counted ∙ sym length-next;
+                total_is = a.total_then ∙ ap (λ (n : ℕ). n + length (joined next)) g.so_far.total_is ∙ sym joined-next;
               });
         }
 
   pub gather_end : entry_count head_length file ≤ w.index →
-      Gathers (delivered session file) bytes₀ sizes₀ bytes sizes gathered × (gathered.bytes ≤ longest_file)
+      Gathers (delivered session file) bytes sizes gathered × (gathered.total ≤ longest_file)
       × (gathered.count ≤ most_gathered)
   gather_end past =
       let all : w.index ≡ entry_count head_length file = omega (arith, g.stands.within, past) in (
-        subst (λ (n : ℕ). Gathers (delivered_before session file n) bytes₀ sizes₀ bytes sizes gathered) all g.so_far,
+        subst (λ (n : ℕ). Gathers (delivered_before session file n) bytes sizes gathered) all g.so_far,
         omega (arith, g.so_far.total_is, short),
         omega (arith, g.so_far.counted, many),
       )

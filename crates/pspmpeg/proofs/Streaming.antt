@@ -20,18 +20,18 @@ unfolding stream stream_by
 stream-refused session file zero e some = absurd (some refl)
 stream-refused session file (suc c) e some = ap (λ (n : ℕ). stream_by n session file) e
 
-pub stream-sound : (session : ℕ) (file : List ℕ) {bytes sizes bytes' sizes' text text' : List ℕ} {g : Gathered} {next : ℕ} →
+pub stream-sound : (session : ℕ) (file : List ℕ) {bytes sizes text text' : List ℕ} {g : Gathered} {next : ℕ} →
     file_refusal file ≡ 0 →
-    Gathers (delivered session file) bytes sizes bytes' sizes' g → g.bytes ≤ length bytes → g.count ≤ length sizes →
-    Wrote text text' 0 next (stream_from (take g.bytes bytes') (take g.count sizes')) → Wrote text text' 0 next (stream session file)
+    Gathers (delivered session file) bytes sizes g → g.total ≤ length bytes → g.count ≤ length sizes →
+    Wrote text text' 0 next (stream_from (take g.total g.bytes.now) (take g.count g.sizes.now)) → Wrote text text' 0 next (stream session file)
 unfolding stream stream_by
-stream-sound session file {bytes} {sizes} {bytes'} {sizes'} {text} {text'} {g} {next} z h few many w =
+stream-sound session file {bytes} {sizes} {text} {text'} {g} {next} z h few many w =
     let frames = delivered session file in
-    let front : take g.bytes bytes' ≡ joined frames = sliced_put bytes (joined frames) g.bytes h.bytes_now h.total_is few in
-    let sized : take g.count sizes' ≡ lengths_of frames =
+    let front : take g.total g.bytes.now ≡ joined frames = sliced_put bytes (joined frames) g.total h.bytes_now h.total_is few in
+    let sized : take g.count g.sizes.now ≡ lengths_of frames =
     sliced_put sizes (lengths_of frames) g.count h.sizes_now (h.counted ∙ sym (length-lengths_of frames)) many in
     wrote_as
-    (ap (λ (l : List ℕ). stream_from l (take g.count sizes')) front
+    (ap (λ (l : List ℕ). stream_from l (take g.count g.sizes.now)) front
     ∙ ap (stream_from (joined frames)) sized
     ∙ stream_is frames
     ∙ ap (λ (n : ℕ). stream_by n session file) (sym z)) w

@@ -3,23 +3,26 @@ ghost use Rattle.std.specs.Prelude.{◌≡◌, false, ◌+◌, ◌<◌, ◌≤�
 ghost use Rattle.table.specs.Broken.{broken};
 ghost use Rattle.card.specs.Receive.{frames_found};
 ghost use Rattle.capture.specs.File.{head_length, entry_count, longest_file};
-ghost use Rattle.replay.specs.Inside.{Stands, GoesOn, Unused};
+ghost use Rattle.replay.specs.Inside.{StillLent, Stands, GoesOn, Unused};
 ghost use Rattle.outputs.specs.Stream.{is_for, frames_at, delivered};
-ghost use Rattle.pspmpeg.specs.Inside.{most_gathered, Fits, FitsFound, Adds, Gathers};
+ghost use Rattle.pspmpeg.specs.Inside.{most_gathered, SameSlices, Fits, FitsFound, Adds, Gathers};
 
 use capture::{Kind, reader};
 use packet::header;
-use replay::{Walk, run};
+use replay::{Lent, Walk, run};
 use table::Table;
 
 // Room for the lengths of all frames: of each entry as many as a call delivers.
 pub const MOST_GATHERED: usize = card::MOST_FRAMES * capture::MOST_ENTRIES;
 
-// How many frames have been gathered, and how many bytes they have together.
-#[derive(Clone, Copy)]
-pub struct Gathered {
+// The frames gathered so far: their bytes, back to back, and their lengths, each at the start of a slice; how many they are, and how many
+// bytes they have together.
+#[derive(Drop)]
+pub struct Gathered<'a> {
+    pub bytes: &'a mut [u8],
+    pub sizes: &'a mut [u16],
     pub count: usize,
-    pub bytes: usize,
+    pub total: usize,
 }
 
 // Whether an entry is a packet for the session, while the session is open as PSP.
@@ -43,84 +46,68 @@ fn is_for(table: Table, kind: u8, body: &[u8], session: u32) -> bool
     }
 }
 
-// Puts the frames that a call delivered behind those gathered before.
-fn append(
-    output: &[u8],
-    lengths: &[u16],
-    more: usize,
-    bytes: &mut [u8],
-    sizes: &mut [u16],
-    before: Gathered,
-) -> Gathered
-    requires { FitsFound output.now lengths.now more bytes.old sizes.old before }
-    ensures { Adds (frames_found more lengths.now output.now)
-        bytes.old sizes.old bytes.new sizes.new before result }
-{
-    let count = before.count;
-    let total = before.bytes;
-    let mut sum: usize = 0;
-    for i in 0..more {
-        sizes[count + i] = lengths[i];
-        sum += usize::from(lengths[i]);
+impl Gathered<'_> {
+    // Puts the frames that a call delivered behind those gathered before.
+    fn append(&mut self, lent: &Lent, more: usize)
+        requires { FitsFound lent.now more self.old }
+        ensures adds { Adds (frames_found more lent.now.lengths.now lent.now.output.now) self.old self.new }
+        ensures same_slices { SameSlices self.old self.new }
+    {
+        let count = self.count;
+        let mut sum: usize = 0;
+        for i in 0..more {
+            self.sizes[count + i] = lent.lengths[i];
+            sum += usize::from(lent.lengths[i]);
+        }
+        octets::copy(self.bytes, self.total, lent.output, 0, sum);
+        self.count += more;
+        self.total += sum;
     }
-    octets::copy(bytes, total, output, 0, sum);
-    Gathered {
-        count: count + more,
-        bytes: total + sum,
-    }
-}
 
-// Runs an entry, and gathers its frames where it is for the session.
-fn gather_entry(
-    file: &[u8],
-    session: u32,
-    walk: &mut Walk,
-    holding: &mut [u8],
-    output: &mut [u8],
-    lengths: &mut [u16],
-    bytes: &mut [u8],
-    sizes: &mut [u16],
-    before: Gathered,
-) -> Gathered
-    requires stands { Stands file.now walk.old holding.old output.old lengths.old
-        × (walk.old.index < entry_count head_length file.now) }
-    requires fits { Fits (frames_at session file.now walk.old.index) bytes.old sizes.old before }
-    ensures goes_on { GoesOn file.now walk.old walk.new holding.new output.new lengths.new }
-    ensures adds { Adds (frames_at session file.now walk.old.index) bytes.old sizes.old bytes.new sizes.new before result }
-{
-    let kind = reader::kind_at(file, walk.index);
-    let body = reader::body_at(file, walk.index, walk.start);
-    let wanted = is_for(walk.table, kind, body, session);
-    let stepped = walk.step(file, holding, output, lengths);
-    if !wanted {
-        return before;
+    // Runs an entry, and gathers its frames where it is for the session.
+    fn gather_entry(&mut self, file: &[u8], session: u32, walk: &mut Walk, lent: &mut Lent)
+        requires stands { Stands file.now walk.old lent.old × (walk.old.index < entry_count head_length file.now) }
+        requires fits { Fits (frames_at session file.now walk.old.index) self.old }
+        ensures goes_on { GoesOn file.now walk.old walk.new lent.new }
+        ensures adds { Adds (frames_at session file.now walk.old.index) self.old self.new }
+        ensures still_lent { StillLent lent.old lent.new }
+        ensures same_slices { SameSlices self.old self.new }
+    {
+        let kind = reader::kind_at(file, walk.index);
+        let body = reader::body_at(file, walk.index, walk.start);
+        let wanted = is_for(walk.table, kind, body, session);
+        let stepped = walk.step(file, lent);
+        if wanted {
+            self.append(lent, stepped.answer.frames as usize);
+        }
     }
-    let more = stepped.answer.frames as usize;
-    append(output, lengths, more, bytes, sizes, before)
 }
 
 // Gathers the frames that a sound capture delivers on the session: their bytes, back to back, and their lengths.
-pub fn gather(
+pub fn gather<'a>(
     file: &[u8],
     session: u32,
-    holding: &mut [u8],
-    output: &mut [u8],
-    lengths: &mut [u16],
-    bytes: &mut [u8],
-    sizes: &mut [u16],
-) -> Gathered
-    requires unused { Unused file.now holding.old output.old lengths.old }
+    lent: &mut Lent,
+    bytes: &'a mut [u8],
+    sizes: &'a mut [u16],
+) -> Gathered<'a>
+    requires unused { Unused file.now lent.old }
     requires longest_file_in_bounds { (longest_file ≤ length bytes.old) × (most_gathered ≤ length sizes.old) }
-    ensures gathers { Gathers (delivered session file.now)
-        bytes.old sizes.old bytes.new sizes.new result }
-    ensures bytes_le_longest_file { (result.bytes ≤ longest_file) × (result.count ≤ most_gathered) }
+    ensures gathers { Gathers (delivered session file.now) bytes.old sizes.old result }
+    ensures total_le_longest_file { (result.total ≤ longest_file) × (result.count ≤ most_gathered) }
+    ensures inside { (result.total ≤ length result.bytes.now) × (result.count ≤ length result.sizes.now) }
+    ensures still_lent { StillLent lent.old lent.new }
+    ensures same_slices { (result.bytes.ghost_name ≡ bytes.entry.ghost_name) × (result.sizes.ghost_name ≡ sizes.entry.ghost_name) }
 {
     let mut walk = Walk::begin(file);
-    let mut gathered = Gathered { count: 0, bytes: 0 };
+    let mut gathered = Gathered {
+        bytes,
+        sizes,
+        count: 0,
+        total: 0,
+    };
     for _ in 0..reader::entry_count(file) {
-        gathered = gather_entry(
-            file, session, &mut walk, holding, output, lengths, bytes, sizes, gathered,
-        );
+        gathered.gather_entry(file, session, &mut walk, lent);
     }
     gathered
 }

@@ -17,6 +17,8 @@ ghost use Rattle.outputs.specs.Stream.{stream};
 ghost use Rattle.pspmpeg.specs.Inside.{stream_room};
 
 use capture::reader;
+use gather::Gathered;
+use replay::Rooms;
 use std::env::Env;
 use std::io::{Read, Write};
 use tool::number;
@@ -62,21 +64,14 @@ fn write_stream(file: &[u8], session: u32, text: &mut [u8]) -> usize
     if let Err(refusal) = reader::check(file) {
         return tool::write_refused(text, 0, u32::from(refusal));
     }
-    let mut holding = replay::holding_room();
-    let mut output = replay::output_room();
-    let mut lengths = replay::lengths_room();
+    let mut rooms = Rooms::new();
     let mut bytes = [0u8; capture::LONGEST_FILE];
     let mut sizes = [0u16; gather::MOST_GATHERED];
-    let gathered = gather::gather(
-        file,
-        session,
-        &mut holding,
-        &mut output,
-        &mut lengths,
-        &mut bytes,
-        &mut sizes,
-    );
-    let total = gathered.bytes;
-    let count = gathered.count;
+    let Gathered {
+        bytes,
+        sizes,
+        count,
+        total,
+    } = gather::gather(file, session, &mut rooms.lend(), &mut bytes, &mut sizes);
     packets::write_packets(&bytes[..total], &sizes[..count], text)
 }

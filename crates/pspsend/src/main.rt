@@ -64,7 +64,7 @@ fn sending(env: &impl Env) -> Option<Sending> {
 fn file_room() -> [u8; FILE_ROOM]
     ensures { most_bytes ≡ length result }
 {
-    tool::room()
+    tool::room(0)
 }
 
 // Reads the frames and sends them.
@@ -72,7 +72,7 @@ fn run(stdin: &mut impl Read, stdout: &mut impl Write, stderr: &mut impl Write, 
     let mut file = file_room();
     let read = tool::read_input(stdin, &mut file);
     let mut bytes = file_room();
-    let mut lengths: [u16; input::MOST] = tool::lengths_room();
+    let mut lengths: [u16; input::MOST] = tool::room(0);
     let taken = input::take_frames(&file[..read], &mut bytes, &mut lengths);
     let count = taken.count;
     let total = taken.bytes;
@@ -87,8 +87,8 @@ fn run(stdin: &mut impl Read, stdout: &mut impl Write, stderr: &mut impl Write, 
 fn send(stdout: &mut impl Write, stderr: &mut impl Write, sending: Sending, frames: Frames)
     requires { length frames.bytes.now ≤ most_bytes }
 {
-    let mut contents: [u8; series::CONTENTS_ROOM] = tool::room();
-    let mut bodies: [u8; capture::LONGEST_FILE] = tool::room();
+    let mut contents: [u8; series::CONTENTS_ROOM] = tool::room(0);
+    let mut bodies: [u8; capture::LONGEST_FILE] = tool::room(0);
     match series::make(sending, frames, &mut contents, &mut bodies) {
         Ok(made) => {
             let front = made.contents;

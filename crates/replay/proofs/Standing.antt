@@ -20,6 +20,7 @@ use Rattle.card.proofs.Keeping.{received_keeps}
 use Rattle.octets.proofs.Stretches.{cut-part-none}
 use Rattle.card.proofs.Limits.{within_limits, lengths-add_up}
 use Rattle.capture.specs.File.{Entry, open_psp, open_dmpt, closing, nth_entry}
+use Rattle.replay.specs.declared.Lent.{Lent}
 use Rattle.replay.specs.declared.Walk.{Walk}
 use Rattle.replay.specs.declared.Stepped.{Stepped}
 use Rattle.replay.specs.Run.{Running, asks, packet_of, call_of, output_after, lengths_after, answer_to, run_one, begin, standing, answer_at}
@@ -89,32 +90,30 @@ frames-short r e =
     (few.most_frames_lem, omega (arith, few.most_bytes_lem, lengths-add_up r.card.table (packet_of e) s))
 
 -- wherever a walk stands its table is whole
-pub table-whole : {file : List ℕ} {w : Walk} {holding output lengths : List ℕ} → Stands file w holding output lengths →
-    broken w.table ≡ false
+pub table-whole : {file : List ℕ} {w : Walk} {lent : Lent} → Stands file w lent → broken w.table ≡ false
 table-whole {file} {w} s = ap (λ (r : Running). broken r.card.table) s.its_run ∙ never_broken file w.index
 
 -- Behind a step: the card is the one that the run has there, and the entry's frames are those that are found in the slices.
-module _ {file : List ℕ} {w further : Walk} {s : Stepped} {holding output lengths : List ℕ}
-    (stepped : Steps file w s further holding output lengths) where
-  run_is : as_running further.table holding output lengths ≡ standing file (suc w.index)
+module _ {file : List ℕ} {w further : Walk} {s : Stepped} {lent : Lent} (stepped : Steps file w s further lent) where
+  run_is : as_running further.table lent ≡ standing file (suc w.index)
   run_is = stepped.goes_on.stands.its_run ∙ ap (standing file) (stepped.goes_on.one_on ∙ add-one w.index)
 
-  pub card_behind : record { table = further.table; holding = holding } ≡ (standing file (suc w.index)).card
+  pub card_behind : record { table = further.table; holding = lent.holding.now } ≡ (standing file (suc w.index)).card
   card_behind = ap (λ (r : Running). r.card) run_is
 
-  pub frames_found_lem : frames_found s.answer.frames lengths output ≡ frames_of (answer_at file w.index)
+  pub frames_found_lem : frames_found s.answer.frames lent.lengths.now lent.output.now ≡ frames_of (answer_at file w.index)
   frames_found_lem =
-      ap (λ (n : ℕ). frames_found n lengths output) stepped.its_counts.its_frames
+      ap (λ (n : ℕ). frames_found n lent.lengths.now lent.output.now) stepped.its_counts.its_frames
       ∙ ap (λ (r : Running). frames_found (answer_at file w.index).frames r.lengths r.output) run_is
       ∙ frames_of_entry file w.index
 
-  pub frames_findable : Findable output lengths s.answer.frames
+  pub frames_findable : Findable lent.output.now lent.lengths.now s.answer.frames
   unfolding standing answer_at
   frames_findable =
       let short : Short (answer_at file w.index).frames (standing file (suc w.index)).lengths =
       frames-short (standing file w.index) (nth_entry file w.index) in
-      let as-found : Short s.answer.frames lengths =
-      subst (λ (n : ℕ). Short n lengths) (sym stepped.its_counts.its_frames)
+      let as-found : Short s.answer.frames lent.lengths.now =
+      subst (λ (n : ℕ). Short n lent.lengths.now) (sym stepped.its_counts.its_frames)
       (subst (Short (answer_at file w.index).frames) (sym (ap (λ (r : Running). r.lengths) run_is)) short) in
       record {
         few = as-found.0;

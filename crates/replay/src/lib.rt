@@ -8,7 +8,7 @@ ghost use Rattle.std.specs.Prelude.{◌≡◌, ◌<◌, replicate};
 ghost use Rattle.join.specs.Slices.{most_bytes, most_frames};
 ghost use Rattle.card.specs.Receive.{holding_size};
 ghost use Rattle.capture.specs.File.{head_length, entry_count, file_refusal};
-ghost use Rattle.replay.specs.Inside.{Stands, Begins, Steps};
+ghost use Rattle.replay.specs.Inside.{StillLent, Stands, Begins, Steps, Zeros, AsTheyAre};
 
 use capture::reader;
 use card::Received;
@@ -22,6 +22,14 @@ pub struct Walk {
     pub table: Table,
 }
 
+// The slices that go along from entry to entry, lent to each call: the card's holding slice, and two for what comes out.
+#[derive(Drop)]
+pub struct Lent<'a> {
+    pub holding: &'a mut [u8],
+    pub output: &'a mut [u8],
+    pub lengths: &'a mut [u16],
+}
+
 // What a step answers: the entry's kind, and what its call answered.
 #[derive(Clone, Copy)]
 pub struct Stepped {
@@ -29,23 +37,41 @@ pub struct Stepped {
     pub answer: Received,
 }
 
-// The slices that a run begins with: all zeros.
-pub fn holding_room() -> [u8; card::HOLDING_SIZE]
-    ensures { result ≡ replicate holding_size 0 }
-{
-    [0; card::HOLDING_SIZE]
+// Rooms for the slices of a run.
+#[derive(Drop)]
+pub struct Rooms {
+    holding: [u8; card::HOLDING_SIZE],
+    output: [u8; card::MOST_BYTES],
+    lengths: [u16; card::MOST_FRAMES],
 }
 
-pub fn output_room() -> [u8; card::MOST_BYTES]
-    ensures { result ≡ replicate most_bytes 0 }
-{
-    [0; card::MOST_BYTES]
-}
+impl Rooms {
+    // All zeros, as a run begins with them.
+    pub fn new() -> Rooms
+        ensures { Zeros result }
+    {
+        Rooms {
+            holding: [0; card::HOLDING_SIZE],
+            output: [0; card::MOST_BYTES],
+            lengths: [0; card::MOST_FRAMES],
+        }
+    }
 
-pub fn lengths_room() -> [u16; card::MOST_FRAMES]
-    ensures { result ≡ replicate most_frames 0 }
-{
-    [0; card::MOST_FRAMES]
+    // Lends them, as they are.
+    pub fn lend(&mut self) -> Lent
+        ensures { AsTheyAre self.old result }
+    {
+        let Rooms {
+            holding,
+            output,
+            lengths,
+        } = self;
+        Lent {
+            holding,
+            output,
+            lengths,
+        }
+    }
 }
 
 impl Walk {
@@ -62,20 +88,14 @@ impl Walk {
     }
 
     // Runs the entry that the walk stands before, and goes on to the next.
-    pub fn step(
-        &mut self,
-        file: &[u8],
-        holding: &mut [u8],
-        output: &mut [u8],
-        lengths: &mut [u16],
-    ) -> Stepped
-        requires { Stands file.now self.old holding.old output.old lengths.old
-            × (self.old.index < entry_count head_length file.now) }
-        ensures { Steps file.now self.old result self.new holding.new output.new lengths.new }
+    pub fn step(&mut self, file: &[u8], lent: &mut Lent) -> Stepped
+        requires { Stands file.now self.old lent.old × (self.old.index < entry_count head_length file.now) }
+        ensures steps { Steps file.now self.old result self.new lent.new }
+        ensures still_lent { StillLent lent.old lent.new }
     {
         let kind = reader::kind_at(file, self.index);
         let body = reader::body_at(file, self.index, self.start);
-        let answer = run::run_entry(self.table, holding, output, lengths, kind, body);
+        let answer = run::run_entry(self.table, lent, kind, body);
         self.index += 1;
         self.start += body.len();
         self.table = answer.table;

@@ -3,8 +3,9 @@ ghost use Rattle.std.specs.Prelude.{◌≡◌, true, length};
 ghost use Rattle.table.specs.Calls.{asking, opened, closed};
 ghost use Rattle.capture.specs.File.{body_in, kinds, takes_length};
 ghost use Rattle.replay.specs.Run.{transport_of};
-ghost use Rattle.replay.specs.Inside.{as_running, answered, RunsTo};
+ghost use Rattle.replay.specs.Inside.{as_running, answered, RunsTo, StillLent};
 
+use super::Lent;
 use capture::Kind;
 use card::Received;
 use packet::header;
@@ -52,17 +53,10 @@ pub fn transport_of(kind: u8) -> u32
 }
 
 // Carries out one entry.
-pub fn run_entry(
-    table: Table,
-    holding: &mut [u8],
-    output: &mut [u8],
-    lengths: &mut [u16],
-    kind: u8,
-    body: &[u8],
-) -> Received
+pub fn run_entry(table: Table, lent: &mut Lent, kind: u8, body: &[u8]) -> Received
     requires { takes_length (body_in kinds kind) (length body.now) ≡ true }
-    ensures { RunsTo (as_running table holding.old output.old lengths.old)
-        (record { kind = kind; body = body.now }) result holding.new output.new lengths.new }
+    ensures runs { RunsTo (as_running table lent.old) (record { kind = kind; body = body.now }) result lent.new }
+    ensures still_lent { StillLent lent.old lent.new }
 {
     match Kind::try_from(kind) {
         Ok(Kind::OpenPsp) => open(table, octets::read_u32(body, 0), table::Kind::Psp),
@@ -70,7 +64,14 @@ pub fn run_entry(
         Ok(Kind::Close) => close(table, octets::read_u32(body, 0)),
         _ => {
             let transport = transport_of(kind);
-            card::receive(table, transport, holding, body, output, lengths)
+            card::receive(
+                table,
+                transport,
+                lent.holding,
+                body,
+                lent.output,
+                lent.lengths,
+            )
         }
     }
 }

@@ -56,23 +56,17 @@ pub fn argument_count(env: &impl Env) -> usize {
     usize::MAX
 }
 
-// Rooms of zeros, of any size. The contracts say how long they are, so that a proof need not count the zeros of a large one.
-pub fn room<const N: usize>() -> [u8; N]
+// A room of any size, the same all over. The contract says how long it is, so that a proof need not count the zeros of a large one.
+pub fn room<T: Copy, const N: usize>(all: T) -> [T; N]
     ensures { N ≡ length result }
 {
-    [0; N]
-}
-
-pub fn lengths_room<const N: usize>() -> [u16; N]
-    ensures { N ≡ length result }
-{
-    [0; N]
+    [all; N]
 }
 
 pub fn capture_room() -> [u8; CAPTURE_ROOM]
     ensures { longest_file + 1 ≡ length result }
 {
-    room()
+    room(0)
 }
 
 // Reads an input into a room until there is no more room, the input ends or a read fails, and answers how many bytes it read.

@@ -13,6 +13,6 @@ returns-in-Err c =
 
 pub returns : goal.returns
 returns c =
-    let few = c.gather-gathered.ensures.bytes_le_longest_file in
-    stream-sound c.args.session c.args.file.now (search rules) c.gather-gathered.ensures.gathers
+    let few = c.gather-bytes.ensures.total_le_longest_file in
+    stream-sound c.args.session c.args.file.now (search rules) c.gather-bytes.ensures.gathers
     (omega (arith, few.0)) (omega (arith, few.1)) c.write_packets.ensures

@@ -11,10 +11,10 @@ returns-then-back-ne-NONE c =
     record {
       packets = c.args.packets.now;
       output = c.room-output.result;
-      lengths = c.lengths_room-lengths.result;
+      lengths = c.room-lengths.result;
       short = c.requires.0;
       output_long = sym c.room-output.ensures;
-      lengths_long = sym c.lengths_room-lengths.ensures;
+      lengths_long = sym c.room-lengths.ensures;
       answer = c.read-back.result;
       output-left = c.read-back.new.output;
       lengths-left = c.read-back.new.lengths;
@@ -28,10 +28,10 @@ slice_bounds-output-end c =
     record {
       packets = c.args.packets.now;
       output = c.room-output.result;
-      lengths = c.lengths_room-lengths.result;
+      lengths = c.room-lengths.result;
       short = c.requires.0;
       output_long = sym c.room-output.ensures;
-      lengths_long = sym c.lengths_room-lengths.ensures;
+      lengths_long = sym c.room-lengths.ensures;
       answer = c.read-back.result;
       output-left = c.read-back.new.output;
       lengths-left = c.read-back.new.lengths;
@@ -45,10 +45,10 @@ slice_bounds-pack-end c =
     record {
       packets = c.args.packets.now;
       output = c.room-output.result;
-      lengths = c.lengths_room-lengths.result;
+      lengths = c.room-lengths.result;
       short = c.requires.0;
       output_long = sym c.room-output.ensures;
-      lengths_long = sym c.lengths_room-lengths.ensures;
+      lengths_long = sym c.room-lengths.ensures;
       answer = c.read-back.result;
       output-left = c.read-back.new.output;
       lengths-left = c.read-back.new.lengths;
@@ -62,16 +62,16 @@ slice_bounds-lengths-end c =
     record {
       packets = c.args.packets.now;
       output = c.room-output.result;
-      lengths = c.lengths_room-lengths.result;
+      lengths = c.room-lengths.result;
       short = c.requires.0;
       output_long = sym c.room-output.ensures;
-      lengths_long = sym c.lengths_room-lengths.ensures;
+      lengths_long = sym c.room-lengths.ensures;
       answer = c.read-back.result;
       output-left = c.read-back.new.output;
       lengths-left = c.read-back.new.lengths;
       outcome = c.read-back.ensures;
     } in
-    omega (arith, frames-inside call c.if-back-ne-NONE.false, c.read-back.auto.lengths, c.lengths_room-lengths.ensures)
+    omega (arith, frames-inside call c.if-back-ne-NONE.false, c.read-back.auto.lengths, c.room-lengths.ensures)
 
 pub slice_bounds-pack-end-2 : goal.slice_bounds-pack-end-2
 slice_bounds-pack-end-2 c =
@@ -79,16 +79,16 @@ slice_bounds-pack-end-2 c =
     record {
       packets = c.args.packets.now;
       output = c.room-output.result;
-      lengths = c.lengths_room-lengths.result;
+      lengths = c.room-lengths.result;
       short = c.requires.0;
       output_long = sym c.room-output.ensures;
-      lengths_long = sym c.lengths_room-lengths.ensures;
+      lengths_long = sym c.room-lengths.ensures;
       answer = c.read-back.result;
       output-left = c.read-back.new.output;
       lengths-left = c.read-back.new.lengths;
       outcome = c.read-back.ensures;
     } in
-    length_sliced _ _ (omega (arith, frames-inside call c.if-back-ne-NONE.false, c.read-back.auto.lengths, c.lengths_room-lengths.ensures))
+    length_sliced _ _ (omega (arith, frames-inside call c.if-back-ne-NONE.false, c.read-back.auto.lengths, c.room-lengths.ensures))
 
 pub pack-requires : goal.pack-requires
 pack-requires c =
@@ -96,10 +96,10 @@ pack-requires c =
     record {
       packets = c.args.packets.now;
       output = c.room-output.result;
-      lengths = c.lengths_room-lengths.result;
+      lengths = c.room-lengths.result;
       short = c.requires.0;
       output_long = sym c.room-output.ensures;
-      lengths_long = sym c.lengths_room-lengths.ensures;
+      lengths_long = sym c.room-lengths.ensures;
       answer = c.read-back.result;
       output-left = c.read-back.new.output;
       lengths-left = c.read-back.new.lengths;
@@ -113,10 +113,10 @@ returns c =
     record {
       packets = c.args.packets.now;
       output = c.room-output.result;
-      lengths = c.lengths_room-lengths.result;
+      lengths = c.room-lengths.result;
       short = c.requires.0;
       output_long = sym c.room-output.ensures;
-      lengths_long = sym c.lengths_room-lengths.ensures;
+      lengths_long = sym c.room-lengths.ensures;
       answer = c.read-back.result;
       output-left = c.read-back.new.output;
       lengths-left = c.read-back.new.lengths;

@@ -20,9 +20,9 @@ overflow_add-self-2 c =
           c.body_at-body.ensures.its_bytes,
     )
 
-pub returns : goal.returns
-returns c =
+pub returns-clause-steps : goal.returns-clause-steps
+returns-clause-steps c =
     let run = c.run_entry-answer in
     steps c.requires.0 c.requires.1 c.kind_at-kind.result c.body_at-body.result.now c.kind_at-kind.ensures
     c.body_at-body.ensures.its_bytes
-    run.result _ _ _ run.ensures run.auto.holding run.auto.output run.auto.lengths
+    run.result _ run.ensures.runs run.ensures.still_lent
