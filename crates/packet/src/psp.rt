@@ -8,7 +8,7 @@ ghost use Rattle.octets.specs.Count.{any, sum_to};
 ghost use Rattle.packet.specs.Segments.{length_values, entry_at, begins_in, ends_in, length_in, length_at, body_at};
 ghost use Rattle.packet.specs.Psp.{bad_entry, bad_at, segment_refusals, psp_refusals};
 
-use crate::header;
+use crate::header::{self, Sub};
 use flow::Flow;
 use refusal::Refusal;
 
@@ -23,11 +23,11 @@ pub const E_BIT: u16 = 16384;
 const LENGTH_VALUES: u16 = 16384;
 
 // Entry k, as the number in its first two bytes.
-pub fn entry(sub: &[u8], width: usize, k: usize) -> u16
-    requires { header_length + width * k + 1 < length sub.now }
-    ensures { result ≡ entry_at width sub.now k }
+pub fn entry(sub: Sub, width: usize, k: usize) -> u16
+    requires { header_length + width * k + 1 < length sub.bytes.now }
+    ensures { result ≡ entry_at width sub.entry.bytes.now k }
 {
-    octets::read_u16(sub, header::HEADER_LENGTH + width * k)
+    octets::read_u16(sub.bytes, header::HEADER_LENGTH + width * k)
 }
 
 pub fn begins(entry: u16) -> bool
@@ -57,9 +57,9 @@ pub fn bad_entry(count: usize, k: usize, entry: u16) -> bool
 }
 
 // How long the segments of the first n entries are together.
-fn total_length(sub: &[u8], width: usize, n: usize) -> usize
-    requires { (2 ≤ width) × (n ≤ segment_count sub.now) × (header_length + width * n ≤ length sub.now) }
-    ensures { (result ≡ sum_to (length_at width sub.now) n) × (result ≤ length_values * n) }
+fn total_length(sub: Sub, width: usize, n: usize) -> usize
+    requires { (2 ≤ width) × (n ≤ segment_count sub.bytes.now) × (header_length + width * n ≤ length sub.bytes.now) }
+    ensures { (result ≡ sum_to (length_at width sub.entry.bytes.now) n) × (result ≤ length_values * n) }
 {
     let mut total: usize = 0;
     for k in 0..n {
@@ -79,10 +79,10 @@ pub struct Surveyed {
 // Surveys the table of a packet that has segments. Of an entry between the first and the last one comparison tells whether it is bad: a
 // good one has B, E and a length, so it is above what B and E are worth together. The loop asks nothing else and adds up in 32 bits, so
 // that the compiler can take several entries at a time.
-fn survey(sub: &[u8], width: usize, count: usize) -> Surveyed
-    requires { (2 ≤ width) × (1 ≤ count) × (count ≡ segment_count sub.now) × (header_length + width * count ≤ length sub.now) }
-    ensures total_value { result.total ≡ sum_to (length_at width sub.now) count }
-    ensures bad_value { result.bad ≡ any (bad_at width sub.now) count }
+fn survey(sub: Sub, width: usize, count: usize) -> Surveyed
+    requires { (2 ≤ width) × (1 ≤ count) × (count ≡ segment_count sub.bytes.now) × (header_length + width * count ≤ length sub.bytes.now) }
+    ensures total_value { result.total ≡ sum_to (length_at width sub.entry.bytes.now) count }
+    ensures bad_value { result.bad ≡ any (bad_at width sub.entry.bytes.now) count }
     ensures total_in_bounds { result.total ≤ length_values * count }
 {
     let first = entry(sub, width, 0);
@@ -111,32 +111,32 @@ fn survey(sub: &[u8], width: usize, count: usize) -> Surveyed
 
 // Where the body of segment k starts.
 #[tactic(auto, unfolding(crate::specs::Segments::body_at))]
-pub fn body_place(sub: &[u8], width: usize, k: usize) -> usize
-    requires le_width { (2 ≤ width) × (width ≤ 4) × (k ≤ segment_count sub.now) }
-    requires sub_in_bounds { header_length + width * segment_count sub.now ≤ length sub.now }
-    ensures { result ≡ body_at width sub.now k }
+pub fn body_place(sub: Sub, width: usize, k: usize) -> usize
+    requires le_width { (2 ≤ width) × (width ≤ 4) × (k ≤ segment_count sub.bytes.now) }
+    requires sub_in_bounds { header_length + width * segment_count sub.bytes.now ≤ length sub.bytes.now }
+    ensures { result ≡ body_at width sub.entry.bytes.now k }
 {
-    let count = header::segment_count(sub);
+    let count = sub.segment_count();
     let before = total_length(sub, width, k);
     header::HEADER_LENGTH + width * count + before
 }
 
 // Refusals 9 to 11, of the segments.
 #[tactic(auto, unfolding(crate::specs::Psp::wanted, crate::specs::Segments::body_at))]
-fn refuse_segments(sub: &[u8], width: usize) -> Result<(), Refusal>
-    requires { (2 ≤ width) × (width ≤ 4) × (header_length ≤ length sub.now) }
-    ensures { code_of result ≡ first (segment_refusals width sub.now) }
+fn refuse_segments(sub: Sub, width: usize) -> Result<(), Refusal>
+    requires { (2 ≤ width) × (width ≤ 4) }
+    ensures { code_of result ≡ first (segment_refusals width sub.entry.bytes.now) }
 {
-    let count = header::segment_count(sub);
+    let count = sub.segment_count();
     if count == 0 {
         return Err(Refusal::NothingCarried);
     }
     let bodies = header::HEADER_LENGTH + width * count;
-    if sub.len() < bodies {
+    if sub.bytes.len() < bodies {
         return Err(Refusal::LengthsDisagree); // the segment table itself is cut
     }
     let surveyed = survey(sub, width, count);
-    if bodies + surveyed.total != sub.len() {
+    if bodies + surveyed.total != sub.bytes.len() {
         return Err(Refusal::LengthsDisagree);
     }
     if surveyed.bad {
@@ -146,14 +146,14 @@ fn refuse_segments(sub: &[u8], width: usize) -> Result<(), Refusal>
 }
 
 // Refusals 6, 7 and 9 to 11 of a PSP packet. Whether it has a number is not asked here (document 02, W2).
-pub fn refuse(sub: &[u8], width: usize) -> Result<(), Refusal>
-    requires { (2 ≤ width) × (width ≤ 4) × (header_length ≤ length sub.now) }
-    ensures { code_of result ≡ first (psp_refusals width sub.now) }
+pub fn refuse(sub: Sub, width: usize) -> Result<(), Refusal>
+    requires { (2 ≤ width) × (width ≤ 4) }
+    ensures { code_of result ≡ first (psp_refusals width sub.entry.bytes.now) }
 {
-    if header::not_plain(sub) {
+    if sub.not_plain() {
         return Err(Refusal::HeaderNotPlain);
     }
-    if Flow::TOP < header::flow_id(sub) {
+    if Flow::TOP < sub.flow_id() {
         return Err(Refusal::FlowOutside);
     }
     refuse_segments(sub, width)

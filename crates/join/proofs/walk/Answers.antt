@@ -70,15 +70,10 @@ module _ {t : Task} (is : Ready t) {s : Slices} {tally : Tally} {from k : ℕ} (
           room_all : (r.bytes + bytes ≤ length s'.output) × (from + size + bytes ≤ length t.sub)
           room_all = run_room t is placed_one (omega arith) few ran
 
-pub segment_count-count-requires : goal.segment_count-count-requires
-segment_count-count-requires c =
-    let a = c.args in
-    omega (arith, entries-inside a.width a.sub.now (segments-passed a.width a.sub.now c.requires.le_width.5))
-
 pub loop-k-init : goal.loop-k-init
 loop-k-init c =
     let a = c.args in
-    let is = ready a.most a.width a.gap a.held a.place a.sub.now (with_output a.holding.now a.output.now)
+    let is = ready a.most a.width a.gap a.held a.place a.sub.bytes.now (with_output a.holding.now a.output.now)
     c.requires.roomy c.requires.le_width in
     let n = c.segment_count-count.ensures.0 in
     record {
@@ -92,8 +87,8 @@ pub entry-entry-requires : goal.entry-entry-requires
 entry-entry-requires c =
     let a = c.args in
     let i = c.loop-k.invariant in
-    entry_within a.width c.loop-k.k (segment_count a.sub.now) _ c.requires.le_width.0 (omega (arith, i.counted))
-    (entries-inside a.width a.sub.now i.ready.passed)
+    entry_within a.width c.loop-k.k (segment_count a.sub.bytes.now) _ c.requires.le_width.0 (omega (arith, i.counted))
+    (entries-inside a.width a.sub.bytes.now i.ready.passed)
 
 pub overflow_add-behind : goal.overflow_add-behind
 overflow_add-behind c =
@@ -119,7 +114,7 @@ pub write_lengths-run-requires-clause-le_width : goal.write_lengths-run-requires
 write_lengths-run-requires-clause-le_width c =
     let a = c.args in
     let i = c.loop-k.invariant in
-    (c.requires.le_width.0, rw i.counted (entries-inside a.width a.sub.now i.ready.passed))
+    (c.requires.le_width.0, rw i.counted (entries-inside a.width a.sub.bytes.now i.ready.passed))
 
 pub write_lengths-run-requires-clause-most_le_longest : goal.write_lengths-run-requires-clause-most_le_longest
 write_lengths-run-requires-clause-most_le_longest c =

@@ -6,7 +6,7 @@ use Rattle.join.proofs.write_lengths.Goals as goal
 pub loop-frames-init : goal.loop-frames-init
 loop-frames-init c =
     let a = c.args in
-    run-begin a.most a.width a.sub.now a.k a.count a.at a.lengths.now c.requires.most_le_longest.1
+    run-begin a.most a.width a.sub.bytes.now a.k a.count a.at a.lengths.now c.requires.most_le_longest.1
 
 pub entry-requires : goal.entry-requires
 entry-requires c =

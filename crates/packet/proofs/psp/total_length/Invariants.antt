@@ -3,4 +3,4 @@ use Rattle.packet.proofs.Entries.{Summing}
 use Rattle.packet.proofs.psp.total_length.Given as goal
 
 abbrev pub invariant-loop-k : goal.invariant-loop-k
-invariant-loop-k l = Summing l.width l.sub l.n l.total l.k
+invariant-loop-k l = Summing l.width l.sub.bytes.now l.n l.total l.k
