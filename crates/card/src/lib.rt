@@ -23,8 +23,9 @@ ghost use Rattle.card.specs.Inside.{Ready, answered, Hearable, Hears};
 
 use flow::{Accepted, FLOWS, Flow};
 use join::{Output, Tally};
+use packet::dmpt;
 use packet::header::{self, DataPacket, Sub};
-use packet::{dmpt, psp};
+use packet::psp::{self, SegmentTable};
 use pass::{mpegs, unnumbered};
 use refusal::Refusal;
 use table::{Kind, ROWS, Row, Table, Terms};
@@ -253,7 +254,10 @@ fn refuse_packet(terms: Terms, sub: Sub) -> Result<(), Refusal>
     ensures { code_of result ≡ first (packet_refusals terms sub.entry.bytes.now) }
 {
     match terms.kind {
-        Kind::Psp => psp::refuse(sub, psp::ENTRY_WIDTH),
+        Kind::Psp => {
+            let width = psp::ENTRY_WIDTH;
+            SegmentTable { sub, width }.refuse()
+        }
         Kind::Dmpt => dmpt::refuse(sub),
     }
 }
@@ -296,20 +300,13 @@ fn place_packet(
     match terms.kind {
         Kind::Dmpt => mpegs::walk(output, sub),
         Kind::Psp => {
+            let width = psp::ENTRY_WIDTH;
+            let table = SegmentTable { sub, width };
             let numbered = sub.s_set();
             if !numbered {
-                return unnumbered::walk(output, sub, psp::ENTRY_WIDTH, terms.longest, held);
+                return unnumbered::walk(output, table, terms.longest, held);
             }
-            join::walk(
-                holding,
-                place,
-                output,
-                sub,
-                psp::ENTRY_WIDTH,
-                terms.longest,
-                gap,
-                held,
-            )
+            join::walk(holding, place, output, table, terms.longest, gap, held)
         }
     }
 }

@@ -16,6 +16,7 @@ ghost use Rattle.packet.specs.Reading.{number_of, refused_by};
 ghost use Rattle.packet.specs.Check.{PermitsCheck, PermitsSegmentCause, FindsSegment, PermitsSegment};
 
 use header::DataPacket;
+use psp::SegmentTable;
 use refusal::Refusal;
 
 // The kinds of session as the host program numbers them: C gives any number, and 24 for another is the first line of both orders. They stay
@@ -35,7 +36,9 @@ fn checked<'a>(kind: u32, transport: u32, packet: &'a [u8]) -> Result<DataPacket
     }
     let packet = header::refuse_before_session(packet, transport)?;
     if kind == KIND_PSP {
-        psp::refuse(packet.sub(), psp::ENTRY_WIDTH)?;
+        let sub = packet.sub();
+        let width = psp::ENTRY_WIDTH;
+        SegmentTable { sub, width }.refuse()?;
     } else {
         dmpt::refuse(packet.sub())?;
     }
@@ -94,9 +97,11 @@ pub fn segment_extent(kind: u32, transport: u32, packet: &[u8], k: usize) -> Res
 {
     let packet = asked_for(kind, transport, packet, k)?;
     let sub = packet.sub();
+    let width = psp::ENTRY_WIDTH;
+    let table = SegmentTable { sub, width };
     let before = packet.transport.lead() + header::ID_LENGTH;
-    let start = before + psp::body_place(sub, psp::ENTRY_WIDTH, k);
-    let size = psp::length_of(psp::entry(sub, psp::ENTRY_WIDTH, k));
+    let start = before + table.body_place(k);
+    let size = psp::length_of(table.entry(k));
     Ok(Extent { start, size })
 }
 

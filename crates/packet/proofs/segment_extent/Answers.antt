@@ -5,13 +5,13 @@ use Rattle.packet.specs.Segments.{length_in}
 use Rattle.packet.proofs.Asked.{given_facts, extent_found}
 use Rattle.packet.proofs.segment_extent.Goals as goal
 
-pub body_place-requires-clause-le_width : goal.body_place-requires-clause-le_width
-body_place-requires-clause-le_width c =
+pub body_place-requires-clause-among : goal.body_place-requires-clause-among
+body_place-requires-clause-among c =
     let same = c.in_ok-packet.ensures.same_packet in
     let cut = rw (same.0, same.1) at c.sub-sub.ensures.its_bytes in
     let p = packet_by c.args.transport c.args.packet.now in
     let facts = given_facts c.args.kind p _ c.args.k (sym c.in_ok-packet.ensures.its_number) cut in
-    (omega arith, omega arith, omega (arith, facts.among))
+    omega (arith, facts.among)
 
 pub body_place-requires-clause-sub_in_bounds : goal.body_place-requires-clause-sub_in_bounds
 body_place-requires-clause-sub_in_bounds c =
