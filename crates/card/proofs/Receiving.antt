@@ -10,7 +10,7 @@ use lib.Seq.{set-get_or}
 use Rattle.refusal.specs.Refusal.{Refusal, ◌when◌, first}
 use Rattle.refusal.proofs.Laws.{first-passed, first_stopped, none-applies, none_first, none_apart}
 use Rattle.packet.specs.Header.{Packet, sub, session_id, before_session}
-use Rattle.packet.proofs.Passing.{sub-length, sub-whole}
+use Rattle.packet.proofs.Passing.{sub-length}
 use Rattle.table.specs.declared.Row.{Row}
 use Rattle.table.specs.declared.Table.{Table}
 use Rattle.table.specs.Rows.{rows, no_row, row_at, find, with_row}
@@ -92,8 +92,6 @@ ready t p s found seeks z =
     record {
       large = order.0;
       sound = rows-sound t over.whole found.row seeks.in_table;
-      named = omega (arith, over.passed.not_short);
-      header = sub-whole p over.passed.not_short;
       short = omega (arith, sub-length p over.passed.not_short, over.passed.not_long);
     }
 

@@ -80,7 +80,6 @@ row_gives row k p s given m terms asked after behind passed =
       most = rw asked (omega arith);
       fits = rw asked (row_fits row k given.sound m);
       bare = λ d. row_bare row k given.sound m (sym (ap (λ (x : Terms). is_dmpt x.kind) asked) ∙ d);
-      header = rw behind given.header;
       short = rw behind given.short;
       passed = passed;
     }

@@ -7,7 +7,7 @@ use Rattle.refusal.specs.Number.{number_of}
 use Rattle.octets.specs.Stretch.{part, joined}
 use Rattle.flow.specs.declared.Flow.{Flow}
 use Rattle.flow.specs.Flow.{longest, Judged, judged_as, too_late}
-use Rattle.packet.specs.Header.{Packet, lead, sub, session_id, id_length, header_length, longest_packet}
+use Rattle.packet.specs.Header.{Packet, sub, session_id, id_length, longest_packet}
 use Rattle.table.specs.declared.Row.{Row}
 use Rattle.table.specs.declared.Table.{Table}
 use Rattle.table.specs.declared.Terms.{Terms}
@@ -17,6 +17,7 @@ use Rattle.table.specs.Calls.{is_open}
 use Rattle.join.specs.declared.Tally.{Tally}
 use Rattle.join.specs.Slices.{Slices, most_frames, most_bytes}
 use Rattle.join.specs.Inside.{nothing_yet, Placed, Within}
+use Rattle.card.specs.declared.Sought.{Sought}
 use Rattle.card.specs.declared.Hearing.{Hearing}
 use Rattle.card.specs.declared.Taken.{Taken}
 use Rattle.card.specs.Hear.{judged_of, fate_of, Heard, record_after}
@@ -41,8 +42,8 @@ abbrev pub not_found : ℕ → Found
 not_found number = record { code = number; row = 0 }
 
 -- .. as the code says it
-abbrev pub found_by : Result ℕ error.Refusal → Found
-found_by (Ok row) = record { code = 0; row = row }
+abbrev pub found_by : Result Sought error.Refusal → Found
+found_by (Ok sought) = record { code = 0; row = sought.at }
 found_by (Err refusal) = not_found (number_of refusal)
 
 pub record Seeks (t : Table) (p : Packet) (small : Bool) (found : Found) : Type 0 where
@@ -117,12 +118,10 @@ accepted_answer t r taken =
       table = with_row t r taken.row;
     }
 
--- what a row is given: all that can be refused without it has passed
+-- what a row is given: all that can be refused without it has passed (that there is a whole header says the packet's type, `DataPacket`)
 pub record Ready (row : Row) (p : Packet) (s : Slices) : Type 0 where
   pub large : too_small s ≡ false
   pub sound : row_broken row ≡ false
-  pub named : lead p + id_length ≤ length p.bytes
-  pub header : header_length ≤ length (sub p)
   pub short : id_length + length (sub p) ≤ longest_packet
 
 -- the answer that shows the counts, for flow k and the number as judged
@@ -142,7 +141,6 @@ pub record Hearable (terms : Terms) (held : ℕ) (sub : List ℕ) : Type 0 where
   pub most : terms.longest ≤ longest
   pub fits : held ≤ terms.longest
   pub bare : is_dmpt terms.kind ≡ true → held ≡ 0
-  pub header : header_length ≤ length sub
   pub short : id_length + length sub ≤ longest_packet
   pub passed : first (packet_refusals terms sub) ≡ 0
 

@@ -6,12 +6,13 @@
 // made, and the call keeps nothing from one packet to the next but what stands in the table and in the holding slice.
 #![tactic(auto)]
 
-ghost use Rattle.std.specs.Prelude.{◌≡◌, ◌<◌, ◌≤◌, length};
+ghost use Rattle.std.specs.Prelude.{◌≡◌, ◌<◌, IfOk};
 ghost use Rattle.refusal.specs.Refusal.{first};
 ghost use Rattle.refusal.specs.Number.{number_of, code_of};
 ghost use Rattle.octets.specs.Stretch.{part};
 ghost use Rattle.flow.specs.Flow.{flows, judged_as, told};
-ghost use Rattle.packet.specs.Header.{packet_by, header_length};
+ghost use Rattle.packet.specs.Header.{packet_by};
+ghost use Rattle.packet.specs.Reading.{number_of as transport_number};
 ghost use Rattle.table.specs.Rows.{rows};
 ghost use Rattle.join.specs.Slices.{as_slices, with_output, SameSlices};
 ghost use Rattle.join.specs.Inside.{nothing_yet, Placed, Roomy, Within};
@@ -22,10 +23,12 @@ ghost use Rattle.card.specs.Inside.{Ready, answered, Hearable, Hears};
 
 use flow::{Accepted, FLOWS, Flow};
 use join::{Output, Tally};
-use packet::{dmpt, header, psp};
+use packet::dmpt;
+use packet::header::{self, DataPacket, Sub};
+use packet::psp::{self, SegmentTable};
 use pass::{mpegs, unnumbered};
 use refusal::Refusal;
-use table::{ROWS, Row, Table, Terms};
+use table::{Kind, ROWS, Row, Table, Terms};
 
 // A place for each flow of each row.
 pub const HOLDING_SIZE: usize = ROWS * FLOWS * Flow::LONGEST as usize;
@@ -62,7 +65,7 @@ pub fn receive(
         (record { answer = result; slices = as_slices holding.new output.new lengths.new }) }
 {
     let holds = holding.len();
-    let at = match seek(
+    let sought = match seek(
         &table,
         packet,
         transport,
@@ -70,15 +73,16 @@ pub fn receive(
         output.len(),
         lengths.len(),
     ) {
-        Ok(at) => at,
+        Ok(sought) => sought,
         Err(refusal) => return refused(refusal, &table),
     };
+    let at = sought.at;
     let row = table.rows[at];
     let mut output = Output {
         bytes: output,
         lengths,
     };
-    match take(row, at, holding, packet, transport, &mut output) {
+    match take(row, at, holding, sought.packet, &mut output) {
         Ok(taken) => delivered(taken, at, &table),
         Err(refusal) => refused(refusal, &table),
     }
@@ -115,16 +119,24 @@ fn delivered(taken: Taken, at: usize, table: &Table) -> Received
     }
 }
 
+// Where a packet's session stands, and the packet.
+#[derive(Clone, Copy)]
+struct Sought<'a> {
+    at: usize,
+    packet: DataPacket<'a>,
+}
+
 // The session's row; or refusals 1, 13, 24 for the transport, 2, 3, 15, 4 and 5, in this order.
-fn seek(
+fn seek<'a>(
     table: &Table,
-    packet: &[u8],
+    packet: &'a [u8],
     transport: u32,
     holding: usize,
     output: usize,
     lengths: usize,
-) -> Result<usize, Refusal>
-    ensures { Seeks table.now (packet_by transport packet.now) (small_by holding output lengths) (found_by result) }
+) -> Result<Sought<'a>, Refusal>
+    ensures seeks { Seeks table.now (packet_by transport packet.now) (small_by holding output lengths) (found_by result) }
+    ensures same_packet { IfOk result (λ s. (s.packet.bytes.now ≡ packet.now) × (transport_number s.packet.transport ≡ transport)) }
 {
     if too_small(holding, output, lengths) {
         return Err(Refusal::SliceTooSmall);
@@ -132,10 +144,11 @@ fn seek(
     if table.is_broken() {
         return Err(Refusal::TableBroken);
     }
-    header::refuse_before_session(packet, transport)?;
-    table
-        .find_row(header::session_id(packet, transport))
-        .ok_or(Refusal::SessionNotOpen)
+    let packet = header::refuse_before_session(packet, transport)?;
+    let at = table
+        .find_row(packet.session_id())
+        .ok_or(Refusal::SessionNotOpen)?;
+    Ok(Sought { at, packet })
 }
 
 // Refusal 1, from the lengths of the slices.
@@ -160,21 +173,21 @@ fn take(
     row: Row,
     at: usize,
     holding: &mut [u8],
-    packet: &[u8],
-    transport: u32,
+    packet: DataPacket,
     output: &mut Output,
 ) -> Result<Taken, Refusal>
     requires at_lt_rows { at < rows }
-    requires ready { Ready row (packet_by transport packet.now) (with_output holding.old output.old) }
+    requires ready { Ready row (packet_by (transport_number packet.transport) packet.bytes.now) (with_output holding.old output.old) }
     ensures outcome { ◌≡◌ {A = TakenOutcome}
         (record { taken = row_answer row result; slices = with_output holding.new output.new })
-        (takes at row (packet_by transport packet.now) (with_output holding.old output.old)) }
+        (takes at row (packet_by (transport_number packet.entry.transport) packet.entry.bytes.now)
+        (with_output holding.old output.old)) }
     ensures same_slices { SameSlices output.old output.new }
 {
-    let sub = header::sub_of(packet, transport);
+    let sub = packet.sub();
     let terms = table::terms_of(row);
     refuse_packet(terms, sub)?;
-    let k = header::flow_id(sub);
+    let k = sub.flow_id();
     let flow = row.flows[k];
     let heard = hear(terms, flow, holding, place_of(at, k), output, sub)?;
     Ok(answer(row, k, heard))
@@ -218,11 +231,11 @@ fn hear(
     holding: &mut [u8],
     place: usize,
     output: &mut Output,
-    sub: &[u8],
+    sub: Sub,
 ) -> Result<Hearing, Refusal>
     requires roomy { Roomy place (with_output holding.old output.old) }
-    requires hearable { Hearable terms flow.held sub.now }
-    ensures hears { Hears terms flow place sub.now
+    requires hearable { Hearable terms flow.held sub.bytes.now }
+    ensures hears { Hears terms flow place sub.entry.bytes.now
         (with_output holding.old output.old) result (with_output holding.new output.new) }
     ensures same_slices { SameSlices output.old output.new }
 {
@@ -237,24 +250,24 @@ fn hear(
 }
 
 // Refusals 6, 7 and 9 to 11, by the kind of the session.
-fn refuse_packet(terms: Terms, sub: &[u8]) -> Result<(), Refusal>
-    requires { header_length ≤ length sub.now }
-    ensures { code_of result ≡ first (packet_refusals terms sub.now) }
+fn refuse_packet(terms: Terms, sub: Sub) -> Result<(), Refusal>
+    ensures { code_of result ≡ first (packet_refusals terms sub.entry.bytes.now) }
 {
-    let kind = terms.kind;
-    if table::is_dmpt(kind) {
-        return dmpt::refuse(sub);
+    match terms.kind {
+        Kind::Psp => {
+            let width = psp::ENTRY_WIDTH;
+            SegmentTable { sub, width }.refuse()
+        }
+        Kind::Dmpt => dmpt::refuse(sub),
     }
-    psp::refuse(sub, psp::ENTRY_WIDTH)
 }
 
 // Judges the packet's number, where it has one.
-fn judge_packet(flow: Flow, sub: &[u8]) -> Option<Accepted>
-    requires { header_length ≤ length sub.now }
-    ensures { told flow result ≡ judged_of flow sub.now }
+fn judge_packet(flow: Flow, sub: Sub) -> Option<Accepted>
+    ensures { told flow result ≡ judged_of flow sub.entry.bytes.now }
 {
-    if header::s_set(sub) {
-        return flow.judge(header::number_in(sub));
+    if sub.s_set() {
+        return flow.judge(sub.number());
     }
     Some(Accepted { flow, gap: 0 }) // there is no number to judge
 }
@@ -273,33 +286,27 @@ fn place_packet(
     holding: &mut [u8],
     place: usize,
     output: &mut Output,
-    sub: &[u8],
+    sub: Sub,
     gap: u16,
     held: usize,
 ) -> Tally
     requires roomy { Roomy place (with_output holding.old output.old) }
-    requires hearable { Hearable terms held sub.now }
-    ensures placed { Placed (fate_of terms gap (part holding.old place held) sub.now)
+    requires hearable { Hearable terms held sub.bytes.now }
+    ensures placed { Placed (fate_of terms gap (part holding.old place held) sub.entry.bytes.now)
         place nothing_yet (with_output holding.old output.old) result (with_output holding.new output.new) }
     ensures within { Within result }
     ensures same_slices { SameSlices output.old output.new }
 {
-    let kind = terms.kind;
-    if table::is_dmpt(kind) {
-        return mpegs::walk(output, sub);
+    match terms.kind {
+        Kind::Dmpt => mpegs::walk(output, sub),
+        Kind::Psp => {
+            let width = psp::ENTRY_WIDTH;
+            let table = SegmentTable { sub, width };
+            let numbered = sub.s_set();
+            if !numbered {
+                return unnumbered::walk(output, table, terms.longest, held);
+            }
+            join::walk(holding, place, output, table, terms.longest, gap, held)
+        }
     }
-    let numbered = header::s_set(sub);
-    if !numbered {
-        return unnumbered::walk(output, sub, psp::ENTRY_WIDTH, terms.longest, held);
-    }
-    join::walk(
-        holding,
-        place,
-        output,
-        sub,
-        psp::ENTRY_WIDTH,
-        terms.longest,
-        gap,
-        held,
-    )
 }

@@ -16,7 +16,8 @@ ghost use Rattle.join.specs.Join.{settled, fate, psp_fate};
 ghost use Rattle.join.specs.Slices.{with_output, SameSlices, most_frames, most_bytes};
 ghost use Rattle.join.specs.Inside.{nothing_yet, begun, Placed, Roomy, Fits, Within, Ran};
 
-use packet::{header, psp};
+use packet::header;
+use packet::psp::{self, SegmentTable};
 
 // What the entry of a whole frame of no bytes would be.
 const B_AND_E: u16 = psp::B_BIT + psp::E_BIT;
@@ -168,20 +169,19 @@ struct Run {
 fn write_lengths(
     lengths: &mut [u16],
     at: usize,
-    sub: &[u8],
-    width: usize,
+    table: SegmentTable,
     k: usize,
     count: usize,
     most: u16,
 ) -> Run
-    requires le_width { (2 ≤ width) × (header_length + width * count ≤ length sub.now) }
+    requires entries { header_length + table.width * count ≤ length table.sub.bytes.now }
     requires most_le_longest { (most ≤ longest) × (k ≤ count) × (count ≤ most_frames) × (at + count ≤ length lengths.old + k) }
-    ensures ran { Ran most width sub.now k at lengths.old lengths.new result.frames result.bytes }
+    ensures ran { Ran most table.entry.width table.entry.sub.bytes.now k at lengths.old lengths.new result.frames result.bytes }
     ensures frames_bound { k + result.frames ≤ count }
 {
     let mut bytes: usize = 0;
     for frames in 0..count - k {
-        let size = whole_length(psp::entry(sub, width, k + frames));
+        let size = whole_length(table.entry(k + frames));
         if most < size {
             return Run { frames, bytes };
         }
@@ -200,33 +200,38 @@ pub fn walk(
     holding: &mut [u8],
     place: usize,
     output: &mut Output,
-    sub: &[u8],
-    width: usize,
+    table: SegmentTable,
     most: u16,
     gap: u16,
     held: usize,
 ) -> Tally
     requires roomy { Roomy place (with_output holding.old output.old) }
-    requires le_width { (2 ≤ width) × (width ≤ 4) × (held ≤ most) × (most ≤ longest)
-        × (id_length + length sub.now ≤ longest_packet) × (first (segment_refusals width sub.now) ≡ 0) }
-    ensures placed { Placed (psp_fate most gap (part holding.old place held) (segments width sub.now))
+    requires small { (held ≤ most) × (most ≤ longest) × (id_length + length table.sub.bytes.now ≤ longest_packet) }
+    requires passed { first (segment_refusals table.width table.sub.bytes.now) ≡ 0 }
+    ensures placed { Placed (psp_fate most gap (part holding.old place held) (segments table.entry.width table.entry.sub.bytes.now))
         place nothing_yet (with_output holding.old output.old) result (with_output holding.new output.new) }
     ensures within { Within result }
     ensures same_slices { SameSlices output.old output.new }
 {
-    let count = header::segment_count(sub);
+    let count = table.sub.segment_count();
     let mut tally = begin(gap, held);
-    let mut from = header::HEADER_LENGTH + width * count;
+    let mut from = header::HEADER_LENGTH + table.width * count;
     let mut k: usize = 0;
     // No `for`: a turn goes on behind the whole frames that it has placed together.
     while k < count {
-        let entry = psp::entry(sub, width, k);
+        let entry = table.entry(k);
         let behind = from + psp::length_of(entry);
-        let body = &sub[from..behind];
+        let body = &table.sub.bytes[from..behind];
         let joined = place_segment(holding, place, output, body, entry, most, tally);
         let next = k + 1;
-        let run = write_lengths(output.lengths, joined.frames, sub, width, next, count, most);
-        octets::copy(output.bytes, joined.bytes, sub, behind, run.bytes);
+        let run = write_lengths(output.lengths, joined.frames, table, next, count, most);
+        octets::copy(
+            output.bytes,
+            joined.bytes,
+            table.sub.bytes,
+            behind,
+            run.bytes,
+        );
         tally = Tally {
             frames: joined.frames + run.frames,
             bytes: joined.bytes + run.bytes,

@@ -1,31 +1,17 @@
--- What `?` hands on in the packet check and in a segment request: the number of the part that refused is that of the whole order, since no
--- refusal has the number 0.
+-- What `?` hands on in a segment request: the number of the part that refused is that of the whole order, since no refusal has the number 0.
 use Prim.Native.Nat.{ℕ}
 use mathlib.Core.Path.{◌≡◌, sym, ap, ◌∙◌}
-use mathlib.Core.Bool.{false, cond}
 use mathlib.Core.List.{[], ◌∷◌}
-use lib.Dec.{eqb, leb}
+use lib.Dec.{leb}
 use Rattle.refusal.specs.declared.Refusal as error
 use Rattle.refusal.specs.Refusal.{◌when◌, first}
 use Rattle.refusal.specs.Number.{number_of}
 use Rattle.refusal.proofs.Laws.{first_stopped}
 use Rattle.refusal.proofs.Numbers.{number_some}
-use Rattle.packet.specs.Header.{Packet, before_session, segment_count, sub}
-use Rattle.packet.specs.Segments.{entry_width}
-use Rattle.packet.specs.Psp.{psp_refusals}
-use Rattle.packet.specs.Dmpt.{dmpt_refusals}
-use Rattle.packet.specs.Check.{kind_psp, kind_unknown, check_refusals, check, cause_refusals, segment_cause}
+use Rattle.packet.specs.Header.{Packet, segment_count, sub}
+use Rattle.packet.specs.Check.{kind_psp, check_refusals, check, cause_refusals, segment_cause}
 
 module _ (kind : ℕ) (p : Packet) (refusal : error.Refusal) where
-  pub check_handed_on : kind_unknown kind ≡ false → number_of refusal ≡ first (before_session p) → number_of refusal ≡ check kind p
-  unfolding check check_refusals
-  check_handed_on known early =
-      simp known
-      (early
-      ∙ sym (first_stopped (before_session p)
-      (cond (eqb kind kind_psp) (psp_refusals entry_width (sub p)) (dmpt_refusals (sub p)))
-      (λ z. number_some refusal (early ∙ z))))
-
   pub cause_handed_on : (k : ℕ) → kind ≡ kind_psp → number_of refusal ≡ check kind p → number_of refusal ≡ segment_cause kind p k
   unfolding check segment_cause cause_refusals
   cause_handed_on k psp judged =

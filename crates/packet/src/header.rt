@@ -1,10 +1,11 @@
 // The fixed part of a packet: over UDP four bytes of L2TP (RFC 3931, section 4.1.2.1), then the session ID, then the sub-layer header (DEPI
-// I05, sections 8.1.3, 8.2 and 8.3). Which transport a packet came by is a number that its caller gives.
-ghost use Rattle.std.specs.Prelude.{◌≡◌, ◌+◌, ◌<◌, ◌≤◌, length, OnOk};
+// I05, sections 8.1.3, 8.2 and 8.3). Which transport a packet came by is a number that its caller gives. `refuse_before_session` alone asks
+// what it is, and whether there is a whole header: behind it a packet is a `DataPacket`, and what stands behind its session ID a `Sub`.
+ghost use Rattle.std.specs.Prelude.{◌≡◌, ◌+◌, ◌<◌, ◌≤◌, length, IfOk};
 ghost use Rattle.refusal.specs.Refusal.{first};
-ghost use Rattle.refusal.specs.Number.{code_of};
 ghost use Rattle.packet.specs.Header.{packet_by, udp_lead, lead_of, not_version3, id_length, session_id, sub, header_length, v_set, s_set};
 ghost use Rattle.packet.specs.Header.{h_bits, flow_values, flow_id, count_values, segment_count, number, not_plain, before_session};
+ghost use Rattle.packet.specs.Reading.{number_of, Reads, refused_by};
 
 use refusal::Refusal;
 
@@ -48,110 +49,144 @@ const SHORTEST_PACKET: usize = 8;
 
 const LONGEST_PACKET: usize = 4100;
 
-// How many bytes stand before the session ID.
-pub fn lead_of(transport: u32) -> usize
-    ensures { (result ≡ lead_of transport) × (result ≤ udp_lead) }
-{
-    if transport == UDP {
-        return UDP_LEAD;
+// The transport that a packet came by.
+#[derive(Clone, Copy)]
+pub enum Transport {
+    Ip,
+    Udp,
+}
+
+// Here alone the number of a transport becomes a `Transport`.
+impl TryFrom<u32> for Transport {
+    type Error = Refusal;
+
+    ghost try_from_gives = { Reads };
+
+    fn try_from(number: u32) -> Result<Self, Refusal> {
+        match number {
+            IP => Ok(Transport::Ip),
+            UDP => Ok(Transport::Udp),
+            _ => Err(Refusal::NumberUnknown),
+        }
     }
-    0
 }
 
-// The session ID; 0 marks a control message.
-pub fn session_id(packet: &[u8], transport: u32) -> u32
-    requires { lead_of transport + id_length ≤ length packet.now }
-    ensures { result ≡ session_id (packet_by transport packet.now) }
-{
-    octets::read_u32(packet, lead_of(transport))
+impl Transport {
+    // How many bytes stand before the session ID.
+    pub fn lead(self) -> usize
+        ensures { (result ≡ lead_of (number_of self)) × (result ≤ udp_lead) }
+    {
+        match self {
+            Transport::Ip => 0,
+            Transport::Udp => UDP_LEAD,
+        }
+    }
 }
 
-// What follows the session ID.
-#[tactic(auto, using(octets::proofs::Stretches::sliced_rest))]
-pub fn sub_of(packet: &[u8], transport: u32) -> &[u8]
-    requires { lead_of transport + id_length ≤ length packet.now }
-    ensures its_bytes { result.now ≡ sub (packet_by transport packet.now) }
-    ensures its_length { lead_of transport + id_length + length result.now ≡ length packet.now }
-{
-    let from = lead_of(transport) + ID_LENGTH;
-    &packet[from..]
+// A packet that 24, 2, 3, 15 and 4 do not refuse, with the transport that it came by: it has a whole header.
+#[derive(Clone, Copy)]
+pub struct DataPacket<'a> {
+    pub bytes: &'a [u8],
+    pub transport: Transport,
+    pub ghost whole_header: { lead_of (number_of transport) + id_length + header_length ≤ length bytes.now },
 }
 
-pub fn v_set(sub: &[u8]) -> bool
-    requires { header_length ≤ length sub.now }
-    ensures { result ≡ v_set sub.now }
-{
-    sub[0] / V_BIT % 2 == 1
+impl<'a> DataPacket<'a> {
+    // The session ID.
+    pub fn session_id(self) -> u32
+        ensures { result ≡ session_id (packet_by (number_of self.entry.transport) self.entry.bytes.now) }
+    {
+        octets::read_u32(self.bytes, self.transport.lead())
+    }
+
+    // What follows the session ID.
+    #[tactic(auto, using(octets::proofs::Stretches::sliced_rest))]
+    pub fn sub(self) -> Sub<'a>
+        ensures its_bytes { result.bytes.now ≡ sub (packet_by (number_of self.entry.transport) self.entry.bytes.now) }
+        ensures its_length { lead_of (number_of self.entry.transport) + id_length + length result.bytes.now ≡ length self.entry.bytes.now }
+    {
+        let from = self.transport.lead() + ID_LENGTH;
+        Sub {
+            bytes: &self.bytes[from..],
+        }
+    }
 }
 
-// Whether the sequence number is valid.
-pub fn s_set(sub: &[u8]) -> bool
-    requires { header_length ≤ length sub.now }
-    ensures { result ≡ s_set sub.now }
-{
-    sub[0] / S_BIT % 2 == 1
+// What stands behind the session ID: a whole sub-layer header, and all that follows it.
+#[derive(Clone, Copy)]
+pub struct Sub<'a> {
+    pub bytes: &'a [u8],
+    pub ghost whole_header: { header_length ≤ length bytes.now },
 }
 
-pub fn h_bits(sub: &[u8]) -> u8
-    requires { header_length ≤ length sub.now }
-    ensures { result ≡ h_bits sub.now }
-{
-    sub[0] / H_BIT % H_VALUES
-}
+impl<'a> Sub<'a> {
+    pub fn v_set(self) -> bool
+        ensures { result ≡ v_set self.entry.bytes.now }
+    {
+        self.bytes[0] / V_BIT % 2 == 1
+    }
 
-pub fn flow_id(sub: &[u8]) -> usize
-    requires { header_length ≤ length sub.now }
-    ensures { (result ≡ flow_id sub.now) × (result < flow_values) }
-{
-    usize::from(sub[0] % FLOW_VALUES)
-}
+    // Whether the sequence number is valid.
+    pub fn s_set(self) -> bool
+        ensures { result ≡ s_set self.entry.bytes.now }
+    {
+        self.bytes[0] / S_BIT % 2 == 1
+    }
 
-pub fn segment_count(sub: &[u8]) -> usize
-    requires { header_length ≤ length sub.now }
-    ensures { (result ≡ segment_count sub.now) × (result < count_values) }
-{
-    usize::from(sub[1] % COUNT_VALUES)
-}
+    pub fn h_bits(self) -> u8
+        ensures { result ≡ h_bits self.entry.bytes.now }
+    {
+        self.bytes[0] / H_BIT % H_VALUES
+    }
 
-// The sequence number.
-pub fn number_in(sub: &[u8]) -> u16
-    requires { header_length ≤ length sub.now }
-    ensures { result ≡ number sub.now }
-{
-    octets::read_u16(sub, 2)
-}
+    pub fn flow_id(self) -> usize
+        ensures { (result ≡ flow_id self.entry.bytes.now) × (result < flow_values) }
+    {
+        usize::from(self.bytes[0] % FLOW_VALUES)
+    }
 
-// Refusal 6: V set, or H not 00.
-pub fn not_plain(sub: &[u8]) -> bool
-    requires { header_length ≤ length sub.now }
-    ensures { result ≡ not_plain sub.now }
-{
-    v_set(sub) | (h_bits(sub) != 0)
+    pub fn segment_count(self) -> usize
+        ensures { (result ≡ segment_count self.entry.bytes.now) × (result < count_values) }
+    {
+        usize::from(self.bytes[1] % COUNT_VALUES)
+    }
+
+    // The sequence number.
+    pub fn number(self) -> u16
+        ensures { result ≡ number self.entry.bytes.now }
+    {
+        octets::read_u16(self.bytes, 2)
+    }
+
+    // Refusal 6: V set, or H not 00.
+    pub fn not_plain(self) -> bool
+        ensures { result ≡ not_plain self.entry.bytes.now }
+    {
+        self.v_set() | (self.h_bits() != 0)
+    }
 }
 
 // Refusal 15, over UDP alone: T set, which marks a control message, or another version than 3.
-fn not_version_3(packet: &[u8], transport: u32) -> bool
+fn not_version_3(packet: &[u8], transport: Transport) -> bool
     requires { udp_lead ≤ length packet.now }
-    ensures { result ≡ not_version3 (packet_by transport packet.now) }
+    ensures { result ≡ not_version3 (packet_by (number_of transport) packet.now) }
 {
-    if transport != UDP {
-        return false;
+    match transport {
+        Transport::Ip => false,
+        Transport::Udp => (packet[0] / T_BIT % 2 == 1) | (packet[1] % VERSION_VALUES != VERSION),
     }
-    (packet[0] / T_BIT % 2 == 1) | (packet[1] % VERSION_VALUES != VERSION)
 }
 
-// Refusals 24, 2, 3, 15 and 4, which need no session; or none, and then the packet has a whole header.
-pub fn refuse_before_session(packet: &[u8], transport: u32) -> Result<(), Refusal>
-    ensures its_number { code_of result ≡ first (before_session (packet_by transport packet.now)) }
-    ensures whole_header { OnOk result (lead_of transport + id_length + header_length ≤ length packet.now) }
+// Refusals 24, 2, 3, 15 and 4, which need no session; or the packet, which then has a whole header, with its transport.
+pub fn refuse_before_session<'a>(
+    packet: &'a [u8],
+    transport: u32,
+) -> Result<DataPacket<'a>, Refusal>
+    ensures its_number { refused_by result ≡ first (before_session (packet_by transport packet.now)) }
+    ensures same_packet { IfOk result (λ p. (p.bytes.now ≡ packet.now) × (number_of p.transport ≡ transport)) }
 {
-    // one question inside the other, so that over IP a single comparison settles all that is asked of the transport
-    if transport != IP {
-        if transport != UDP {
-            return Err(Refusal::NumberUnknown);
-        }
-    }
-    let lead = lead_of(transport);
+    let transport = Transport::try_from(transport)?;
+    let lead = transport.lead();
     if packet.len() < lead + SHORTEST_PACKET {
         return Err(Refusal::PacketTooShort);
     }
@@ -161,8 +196,12 @@ pub fn refuse_before_session(packet: &[u8], transport: u32) -> Result<(), Refusa
     if not_version_3(packet, transport) {
         return Err(Refusal::NotVersion3);
     }
-    if session_id(packet, transport) == 0 {
+    let packet = DataPacket {
+        bytes: packet,
+        transport,
+    };
+    if packet.session_id() == 0 {
         return Err(Refusal::ControlMessage);
     }
-    Ok(())
+    Ok(packet)
 }

@@ -9,13 +9,14 @@ ghost use Rattle.join.specs.Inside.{nothing_yet, Placed, Within};
 ghost use Rattle.pass.specs.Pass.{dmpt_fate};
 
 use join::{Output, Tally};
-use packet::{dmpt, header};
+use packet::dmpt;
+use packet::header::{self, Sub};
 
 // All MPEG packets of a packet that passed the check, in order. The flow holds nothing.
-pub fn walk(output: &mut Output, sub: &[u8]) -> Tally
+pub fn walk(output: &mut Output, sub: Sub) -> Tally
     requires room { (most_bytes ≤ length output.old.bytes.now) × (most_frames ≤ length output.old.lengths.now) }
-    requires sub_bound { (id_length + length sub.now ≤ longest_packet) × (first (dmpt_refusals sub.now) ≡ 0) }
-    ensures placed { Placed (dmpt_fate [] (mpegs sub.now))
+    requires sub_bound { (id_length + length sub.bytes.now ≤ longest_packet) × (first (dmpt_refusals sub.bytes.now) ≡ 0) }
+    ensures placed { Placed (dmpt_fate [] (mpegs sub.entry.bytes.now))
         0 nothing_yet (with_output [] output.old) result (with_output [] output.new) }
     ensures within { Within result }
     ensures same_slices { SameSlices output.old output.new }
@@ -24,7 +25,7 @@ pub fn walk(output: &mut Output, sub: &[u8]) -> Tally
     for k in 0..dmpt::mpeg_count(sub) {
         let from = header::HEADER_LENGTH + ts::MPEG_LENGTH * k;
         let goes = dmpt::pid_of(sub, k) != ts::NULL_PID;
-        let mpeg = &sub[from..from + ts::MPEG_LENGTH];
+        let mpeg = &sub.bytes[from..from + ts::MPEG_LENGTH];
         tally = crate::pass_on(output, mpeg, goes, tally);
     }
     tally

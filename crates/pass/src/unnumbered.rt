@@ -11,25 +11,26 @@ ghost use Rattle.join.specs.Inside.{nothing_yet, Placed, Within};
 ghost use Rattle.pass.specs.Pass.{unnumbered_fate};
 
 use join::{Output, Tally};
-use packet::{header, psp};
+use packet::header;
+use packet::psp::{self, SegmentTable};
 
 // All segments of a packet that 9 to 11 do not refuse, in order, on a flow that holds so many bytes, whatever they are.
-pub fn walk(output: &mut Output, sub: &[u8], width: usize, most: u16, held: usize) -> Tally
+pub fn walk(output: &mut Output, table: SegmentTable, most: u16, held: usize) -> Tally
     requires room { (most_bytes ≤ length output.old.bytes.now) × (most_frames ≤ length output.old.lengths.now) }
-    requires le_width { (2 ≤ width) × (width ≤ 4) × (held ≤ longest)
-        × (id_length + length sub.now ≤ longest_packet) × (first (segment_refusals width sub.now) ≡ 0) }
-    ensures by_index { (bytes : List ℕ) → length bytes ≡ held → Placed (unnumbered_fate most bytes (segments width sub.now))
+    requires small { (held ≤ longest) × (id_length + length table.sub.bytes.now ≤ longest_packet) }
+    requires passed { first (segment_refusals table.width table.sub.bytes.now) ≡ 0 }
+    ensures by_index { (bytes : List ℕ) → length bytes ≡ held → Placed (unnumbered_fate most bytes (segments table.entry.width table.entry.sub.bytes.now))
         0 nothing_yet (with_output [] output.old) result (with_output [] output.new) }
     ensures within { Within result }
     ensures same_slices { SameSlices output.old output.new }
 {
-    let count = header::segment_count(sub);
+    let count = table.sub.segment_count();
     let mut tally = Tally::default().dropping(held);
-    let mut from = header::HEADER_LENGTH + width * count;
+    let mut from = header::HEADER_LENGTH + table.width * count;
     for k in 0..count {
-        let entry = psp::entry(sub, width, k);
+        let entry = table.entry(k);
         let behind = from + psp::length_of(entry);
-        let body = &sub[from..behind];
+        let body = &table.sub.bytes[from..behind];
         let goes = psp::begins(entry) & psp::ends(entry) & (body.len() <= most as usize);
         tally = crate::pass_on(output, body, goes, tally);
         from = behind;

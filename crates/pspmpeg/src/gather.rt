@@ -34,14 +34,14 @@ fn is_for(table: Table, kind: u8, body: &[u8], session: u32) -> bool
         return false;
     };
     let transport = run::transport_of(kind);
-    if header::refuse_before_session(body, transport).is_err() {
+    let Ok(packet) = header::refuse_before_session(body, transport) else {
         return false;
-    }
-    if header::session_id(body, transport) != session {
+    };
+    if packet.session_id() != session {
         return false;
     }
     match table.find_row(session) {
-        Some(at) => !table::is_dmpt(table::terms_of(table.rows[at]).kind),
+        Some(at) => table::terms_of(table.rows[at]).kind == table::Kind::Psp,
         None => false,
     }
 }

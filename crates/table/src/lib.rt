@@ -5,7 +5,7 @@
 
 ghost use Rattle.std.specs.Prelude.{◌≡◌, false, ◌<◌};
 ghost use Rattle.octets.specs.Count.{any};
-ghost use Rattle.table.specs.Rows.{PermitsEmpty, rows, closed_row, is_closed, number_of, is_dmpt, terms_of};
+ghost use Rattle.table.specs.Rows.{PermitsEmpty, rows, closed_row, is_closed, number_of, terms_of};
 ghost use Rattle.table.specs.Rows.{find, lowest_free, held_in};
 ghost use Rattle.table.specs.Broken.{row_broken, broken};
 ghost use Rattle.table.specs.Calls.{open_refusals, fresh_row, PermitsOpen, PermitsOpenByNumber, close_refusals, PermitsClose};
@@ -190,12 +190,6 @@ pub fn is_closed(number: u32) -> bool
     ensures { result ≡ is_closed number }
 {
     number == CLOSED
-}
-
-pub fn is_dmpt(kind: Kind) -> bool
-    ensures { result ≡ is_dmpt kind }
-{
-    kind == Kind::Dmpt
 }
 
 // The terms of a row's session: its kind, and the one longest frame that every session has so far. Of a row that is no session's they say

@@ -19,25 +19,29 @@ found_there is o l = rw (o, l) (permits is)
 pub take-requires-clause-ready : goal.take-requires-clause-ready
 take-requires-clause-ready c =
     let a = c.args in
-    ready a.table (packet_by a.transport a.packet.now) (as_slices a.holding.now a.output.now a.lengths.now) _ c.in-Ok.ensures refl
+    let same = c.in-Ok.ensures.same_packet in
+    rw (same.0, same.1)
+    (ready a.table (packet_by a.transport a.packet.now) (as_slices a.holding.now a.output.now a.lengths.now) _ c.in-Ok.ensures.seeks refl)
 
 pub returns-in-Ok-take : goal.returns-in-Ok-take
 returns-in-Ok-take c =
     let a = c.args in
+    let same = c.in-Ok.ensures.same_packet in
     found_there {out = c.take.new.output.bytes.now} {lengths = c.take.new.output.lengths.now}
     (rw c.delivered.ensures
     (receive_there a.table (packet_by a.transport a.packet.now) (as_slices a.holding.now a.output.now a.lengths.now)
-    c.in-Ok.at c.in-Ok.ensures _ c.in-Ok-take.ensures.outcome))
+    c.in-Ok.sought.at c.in-Ok.ensures.seeks _ (rw (same.0, same.1) at c.in-Ok-take.ensures.outcome)))
     (search rules) (search rules)
 
 pub returns-in-Err-take : goal.returns-in-Err-take
 unfolding refused
 returns-in-Err-take c =
     let a = c.args in
+    let same = c.in-Ok.ensures.same_packet in
     found_there {out = c.take.new.output.bytes.now} {lengths = c.take.new.output.lengths.now}
     (rw c.refused-in-Err-take.ensures
     (receive_refused a.table (packet_by a.transport a.packet.now) (as_slices a.holding.now a.output.now a.lengths.now)
-    c.in-Ok.at c.in-Ok.ensures _ _ c.in-Err-take.ensures.outcome))
+    c.in-Ok.sought.at c.in-Ok.ensures.seeks _ _ (rw (same.0, same.1) at c.in-Err-take.ensures.outcome)))
     (search rules) (search rules)
 
 pub returns-in-Err : goal.returns-in-Err
@@ -47,4 +51,4 @@ returns-in-Err c =
     permits
     (rw c.refused.ensures
     (receive_nowhere a.table (packet_by a.transport a.packet.now) (as_slices a.holding.now a.output.now a.lengths.now)
-    _ (number_some c.in-Err.refusal) c.in-Err.ensures))
+    _ (number_some c.in-Err.refusal) c.in-Err.ensures.seeks))

@@ -18,14 +18,13 @@ use Rattle.join.proofs.Walking.{walk_frames, walk_run, run_room, walk_within, wa
 use Rattle.join.proofs.walk.Goals as goal
 
 ready : (most width gap held place : ℕ) (sub : List ℕ) (lent : Slices) → Roomy place lent →
-    (2 ≤ width) × (width ≤ 4) × (held ≤ most) × (most ≤ longest) × (id_length + length sub ≤ longest_packet)
-    × (first (segment_refusals width sub) ≡ 0) → Ready (task most width gap held place sub lent)
-ready most width gap held place sub lent roomy asked =
+    (held ≤ most) × (most ≤ longest) × (id_length + length sub ≤ longest_packet) → first (segment_refusals width sub) ≡ 0 → Ready (task most width gap held place sub lent)
+ready most width gap held place sub lent roomy small none =
     record {
-      passed = segments-passed width sub asked.5;
-      few = asked.2;
-      small = asked.3;
-      short = asked.4;
+      passed = segments-passed width sub none;
+      few = small.0;
+      small = small.1;
+      short = small.2;
       roomy = roomy;
     }
 
@@ -70,16 +69,11 @@ module _ {t : Task} (is : Ready t) {s : Slices} {tally : Tally} {from k : ℕ} (
           room_all : (r.bytes + bytes ≤ length s'.output) × (from + size + bytes ≤ length t.sub)
           room_all = run_room t is placed_one (omega arith) few ran
 
-pub segment_count-count-requires : goal.segment_count-count-requires
-segment_count-count-requires c =
-    let a = c.args in
-    omega (arith, entries-inside a.width a.sub.now (segments-passed a.width a.sub.now c.requires.le_width.5))
-
 pub loop-k-init : goal.loop-k-init
 loop-k-init c =
     let a = c.args in
-    let is = ready a.most a.width a.gap a.held a.place a.sub.now (with_output a.holding.now a.output.now)
-    c.requires.roomy c.requires.le_width in
+    let is = ready a.most a.table.width a.gap a.held a.place a.table.sub.bytes.now (with_output a.holding.now a.output.now)
+    c.requires.roomy c.requires.small c.requires.passed in
     let n = c.segment_count-count.ensures.0 in
     record {
       counted = n;
@@ -92,8 +86,8 @@ pub entry-entry-requires : goal.entry-entry-requires
 entry-entry-requires c =
     let a = c.args in
     let i = c.loop-k.invariant in
-    entry_within a.width c.loop-k.k (segment_count a.sub.now) _ c.requires.le_width.0 (omega (arith, i.counted))
-    (entries-inside a.width a.sub.now i.ready.passed)
+    entry_within a.table.width c.loop-k.k (segment_count a.table.sub.bytes.now) _ c.args.table.at_least (omega (arith, i.counted))
+    (entries-inside a.table.width a.table.sub.bytes.now i.ready.passed)
 
 pub overflow_add-behind : goal.overflow_add-behind
 overflow_add-behind c =
@@ -115,11 +109,11 @@ place_segment-joined-requires-clause-fits c =
     let i = c.loop-k.invariant in
     (i.ready.small, fits i.ready i.walking (omega (arith, i.counted)) c.entry-entry.ensures c.length_of.ensures.0)
 
-pub write_lengths-run-requires-clause-le_width : goal.write_lengths-run-requires-clause-le_width
-write_lengths-run-requires-clause-le_width c =
+pub write_lengths-run-requires-clause-entries : goal.write_lengths-run-requires-clause-entries
+write_lengths-run-requires-clause-entries c =
     let a = c.args in
     let i = c.loop-k.invariant in
-    (c.requires.le_width.0, rw i.counted (entries-inside a.width a.sub.now i.ready.passed))
+    rw i.counted (entries-inside a.table.width a.table.sub.bytes.now i.ready.passed)
 
 pub write_lengths-run-requires-clause-most_le_longest : goal.write_lengths-run-requires-clause-most_le_longest
 write_lengths-run-requires-clause-most_le_longest c =

@@ -8,11 +8,11 @@ use Rattle.join.proofs.walk.Given as goal
 abbrev pub invariant-loop-k : goal.invariant-loop-k
 invariant-loop-k l =
     record {
-      counted : l.count ≡ segment_count l.sub;
+      counted : l.count ≡ segment_count l.table.sub.bytes.now;
       same_slices : SameSlices l.fn.output l.output;
-      ready : Ready (task l.most l.width l.gap l.held l.place l.sub (with_output l.fn.holding l.fn.output));
+      ready : Ready (task l.most l.table.width l.gap l.held l.place l.table.sub.bytes.now (with_output l.fn.holding l.fn.output));
       walking :
-          Walking (task l.most l.width l.gap l.held l.place l.sub (with_output l.fn.holding l.fn.output))
+          Walking (task l.most l.table.width l.gap l.held l.place l.table.sub.bytes.now (with_output l.fn.holding l.fn.output))
           (with_output l.holding l.output) l.tally l.from l.k;
     }
 

@@ -6,11 +6,11 @@ use Rattle.join.proofs.write_lengths.Goals as goal
 pub loop-frames-init : goal.loop-frames-init
 loop-frames-init c =
     let a = c.args in
-    run-begin a.most a.width a.sub.now a.k a.count a.at a.lengths.now c.requires.most_le_longest.1
+    run-begin a.most a.table.width a.table.sub.bytes.now a.k a.count a.at a.lengths.now c.requires.most_le_longest.1
 
 pub entry-requires : goal.entry-requires
 entry-requires c =
-    entry_within c.args.width _ c.args.count _ c.requires.le_width.0 (omega arith) c.requires.le_width.1
+    entry_within c.args.table.width _ c.args.count _ c.args.table.at_least (omega arith) c.requires.entries
 
 pub loop-frames-preserved : goal.loop-frames-preserved
 loop-frames-preserved c =

@@ -7,4 +7,4 @@ use Rattle.packet.specs.Dmpt.{mpeg_at}
 use Rattle.packet.proofs.dmpt.any_unsynced.Given as goal
 
 abbrev pub invariant-loop-k : goal.invariant-loop-k
-invariant-loop-k l = Gathered false (λ i. not (eqb (byte_at (mpeg_at l.sub i) 0) sync_byte)) l.n l.unsynced l.k
+invariant-loop-k l = Gathered false (λ i. not (eqb (byte_at (mpeg_at l.sub.bytes.now i) 0) sync_byte)) l.n l.unsynced l.k

@@ -10,4 +10,4 @@ pub returns : goal.returns
 unfolding mpeg_at
 returns c =
     let at = header_length + mpeg_length * c.args.k in
-    c.pid.ensures ∙ ap pid (sliced_part c.args.sub.now at (at + mpeg_length) mpeg_length (omega arith))
+    c.pid.ensures ∙ ap pid (sliced_part c.args.sub.bytes.now at (at + mpeg_length) mpeg_length (omega arith))

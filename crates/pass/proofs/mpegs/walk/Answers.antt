@@ -6,7 +6,7 @@ use Rattle.packet.specs.Dmpt.{mpeg_count, mpeg_at, mpegs}
 use Rattle.packet.proofs.Passing.{mpeg_inside}
 use Rattle.pass.specs.Pass.{dmpt_fate}
 use Rattle.pass.proofs.Carrying.{carry_begin, carry_room, carry_fits, carry_turn, carry_within, carry_end}
-use Rattle.pass.proofs.Loads.{mpeg_load, mpegs_fit, mpeg_length_lem, dmpt_header}
+use Rattle.pass.proofs.Loads.{mpeg_load, mpegs_fit, mpeg_length_lem}
 use Rattle.pass.proofs.mpegs.walk.Goals as goal
 
 -- an MPEG packet as the code has cut it out
@@ -22,20 +22,20 @@ loop-k-init c =
     let a = c.args in
     record {
       same_slices = (refl, refl);
-      carrying = carry_begin (mpeg_load a.sub.now) a.output.now.bytes.now a.output.now.lengths.now c.default-tally.result (search rules);
+      carrying = carry_begin (mpeg_load a.sub.bytes.now) a.output.now.bytes.now a.output.now.lengths.now c.default-tally.result (search rules);
     }
 
 pub pass_on-tally-requires-clause-room : goal.pass_on-tally-requires-clause-room
 pass_on-tally-requires-clause-room c =
-    let sub = c.args.sub.now in
-    let fitting = mpegs_fit sub (dmpt_header sub c.requires.sub_bound.1) c.requires.sub_bound.0 in
+    let sub = c.args.sub.bytes.now in
+    let fitting = mpegs_fit sub c.args.sub.whole_header c.requires.sub_bound.0 in
     carry_room (mpeg_load sub) fitting c.requires.room.0 c.requires.room.1 c.loop-k.invariant.carrying
 
 pub pass_on-tally-requires-clause-fits : goal.pass_on-tally-requires-clause-fits
 pass_on-tally-requires-clause-fits c =
-    let sub = c.args.sub.now in
+    let sub = c.args.sub.bytes.now in
     let k = c.loop-k.k in
-    let whole = dmpt_header sub c.requires.sub_bound.1 in
+    let whole = c.args.sub.whole_header in
     let there : k < mpeg_count sub = omega (arith, c.mpeg_count-k-end.ensures) in
     rw (cut sub k, mpeg_length_lem sub k (mpeg_inside sub k whole there))
     (carry_fits (mpeg_load sub) (mpegs_fit sub whole c.requires.sub_bound.0) c.requires.room.0 c.requires.room.1
@@ -43,8 +43,8 @@ pass_on-tally-requires-clause-fits c =
 
 pub loop-k-preserved : goal.loop-k-preserved
 loop-k-preserved c =
-    let sub = c.args.sub.now in
-    let fitting = mpegs_fit sub (dmpt_header sub c.requires.sub_bound.1) c.requires.sub_bound.0 in
+    let sub = c.args.sub.bytes.now in
+    let fitting = mpegs_fit sub c.args.sub.whole_header c.requires.sub_bound.0 in
     let there : c.loop-k.k < mpeg_count sub = omega (arith, c.mpeg_count-k-end.ensures) in
     let i = c.loop-k.invariant in
     let passed = c.pass_on-tally.ensures in
@@ -58,13 +58,13 @@ loop-k-preserved c =
 pub returns-clause-placed : goal.returns-clause-placed
 unfolding dmpt_fate mpegs
 returns-clause-placed c =
-    let sub = c.args.sub.now in
-    let fitting = mpegs_fit sub (dmpt_header sub c.requires.sub_bound.1) c.requires.sub_bound.0 in
+    let sub = c.args.sub.bytes.now in
+    let fitting = mpegs_fit sub c.args.sub.whole_header c.requires.sub_bound.0 in
     carry_end (mpeg_load sub) fitting c.requires.room.0 c.requires.room.1 c.loop-k.invariant.carrying
     (omega (arith, c.mpeg_count-k-end.ensures))
 
 pub returns-clause-within : goal.returns-clause-within
 returns-clause-within c =
-    let sub = c.args.sub.now in
-    let fitting = mpegs_fit sub (dmpt_header sub c.requires.sub_bound.1) c.requires.sub_bound.0 in
+    let sub = c.args.sub.bytes.now in
+    let fitting = mpegs_fit sub c.args.sub.whole_header c.requires.sub_bound.0 in
     carry_within (mpeg_load sub) fitting c.requires.room.0 c.requires.room.1 c.loop-k.invariant.carrying

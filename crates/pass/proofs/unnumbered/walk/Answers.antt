@@ -16,15 +16,10 @@ use Rattle.pass.proofs.Loads.{segment_load, segments_fit, segment_read, body-nex
 use Rattle.pass.proofs.unnumbered.walk.Goals as goal
 
 -- what is known of the packet, and of what is carried, whatever bytes were held
-passed : (width held : ℕ) (sub : List ℕ) → (2 ≤ width) × (width ≤ 4) × (held ≤ longest) × (id_length + length sub ≤ longest_packet)
-    × (first (segment_refusals width sub) ≡ 0) → SegmentsPassed width sub
-passed width held sub asked = segments-passed width sub asked.4
-
-fitting : (most width held : ℕ) (sub bytes : List ℕ) → (2 ≤ width) × (width ≤ 4) × (held ≤ longest)
-    × (id_length + length sub ≤ longest_packet) × (first (segment_refusals width sub) ≡ 0) → length bytes ≡ held →
-    Fitting (segment_load most width bytes sub)
-fitting most width held sub bytes asked e =
-    segments_fit most width bytes sub (passed width held sub asked) (omega (arith, asked.2)) asked.3
+fitting : (most width held : ℕ) (sub bytes : List ℕ) → (held ≤ longest) × (id_length + length sub ≤ longest_packet) →
+    first (segment_refusals width sub) ≡ 0 → length bytes ≡ held → Fitting (segment_load most width bytes sub)
+fitting most width held sub bytes small none e =
+    segments_fit most width bytes sub (segments-passed width sub none) (omega (arith, small.0)) small.1
 
 -- some bytes, where it does not matter which
 as_many : (n : ℕ) → length {A = ℕ} (replicate n 0) ≡ n
@@ -45,21 +40,16 @@ module _ {width k from entry size : ℕ} {sub : List ℕ} (whole : SegmentsPasse
   cut-length : length (take (from + size - from) (drop from sub)) ≡ size
   cut-length = rw cut (length_part sub from size inside)
 
-pub segment_count-count-requires : goal.segment_count-count-requires
-segment_count-count-requires c =
-    let a = c.args in
-    omega (arith, entries-inside a.width a.sub.now (passed a.width a.held a.sub.now c.requires.le_width))
-
 pub loop-k-init : goal.loop-k-init
 unfolding body_at
 loop-k-init c =
     let a = c.args in
     record {
       same_slices = (refl, refl);
-      at = rw (c.segment_count-count.ensures.0, sum-none (length_at a.width a.sub.now)) (omega arith);
+      at = rw (c.segment_count-count.ensures.0, sum-none (length_at a.table.width a.table.sub.bytes.now)) (omega arith);
       carrying =
           λ bytes e.
-          carry_begin (segment_load a.most a.width bytes a.sub.now) a.output.now.bytes.now a.output.now.lengths.now
+          carry_begin (segment_load a.most a.table.width bytes a.table.sub.bytes.now) a.output.now.bytes.now a.output.now.lengths.now
           c.dropping-tally.result (rw e (search rules));
     }
 
@@ -67,63 +57,63 @@ pub entry-entry-requires : goal.entry-entry-requires
 entry-entry-requires c =
     let a = c.args in
     let count = c.segment_count-count.ensures.0 in
-    entry_within a.width c.loop-k.k (segment_count a.sub.now) _ c.requires.le_width.0 (omega (arith, count))
-    (entries-inside a.width a.sub.now (passed a.width a.held a.sub.now c.requires.le_width))
+    entry_within a.table.width c.loop-k.k (segment_count a.table.sub.bytes.now) _ c.args.table.at_least (omega (arith, count))
+    (entries-inside a.table.width a.table.sub.bytes.now (segments-passed a.table.width a.table.sub.bytes.now c.requires.passed))
 
 pub overflow_add-behind : goal.overflow_add-behind
 overflow_add-behind c =
     let a = c.args in
     let count = c.segment_count-count.ensures.0 in
-    let ends = inside (passed a.width a.held a.sub.now c.requires.le_width) (omega (arith, count)) c.loop-k.invariant.at
+    let ends = inside (segments-passed a.table.width a.table.sub.bytes.now c.requires.passed) (omega (arith, count)) c.loop-k.invariant.at
     c.entry-entry.ensures c.length_of.ensures.0 in
-    omega (arith, ends, c.requires.le_width.3)
+    omega (arith, ends, c.requires.small.1)
 
 pub slice_bounds-body-end : goal.slice_bounds-body-end
 slice_bounds-body-end c =
     let a = c.args in
     let count = c.segment_count-count.ensures.0 in
-    inside (passed a.width a.held a.sub.now c.requires.le_width) (omega (arith, count)) c.loop-k.invariant.at
+    inside (segments-passed a.table.width a.table.sub.bytes.now c.requires.passed) (omega (arith, count)) c.loop-k.invariant.at
     c.entry-entry.ensures c.length_of.ensures.0
 
 pub pass_on-tally-requires-clause-room : goal.pass_on-tally-requires-clause-room
 pass_on-tally-requires-clause-room c =
     let a = c.args in
     let some : List ℕ = replicate a.held 0 in
-    carry_room (segment_load a.most a.width some a.sub.now)
-    (fitting a.most a.width a.held a.sub.now some c.requires.le_width (as_many a.held)) c.requires.room.0 c.requires.room.1
+    carry_room (segment_load a.most a.table.width some a.table.sub.bytes.now)
+    (fitting a.most a.table.width a.held a.table.sub.bytes.now some c.requires.small c.requires.passed (as_many a.held)) c.requires.room.0 c.requires.room.1
     (c.loop-k.invariant.carrying some (as_many a.held))
 
 pub pass_on-tally-requires-clause-fits : goal.pass_on-tally-requires-clause-fits
 pass_on-tally-requires-clause-fits c =
     let a = c.args in
     let some : List ℕ = replicate a.held 0 in
-    let there : c.loop-k.k < segment_count a.sub.now = omega (arith, c.segment_count-count.ensures.0) in
-    let whole = passed a.width a.held a.sub.now c.requires.le_width in
+    let there : c.loop-k.k < segment_count a.table.sub.bytes.now = omega (arith, c.segment_count-count.ensures.0) in
+    let whole = segments-passed a.table.width a.table.sub.bytes.now c.requires.passed in
     let i = c.loop-k.invariant in
     let read = c.entry-entry.ensures in
     let sized = c.length_of.ensures.0 in
     rw (cut-length whole there i.at read sized, is-size whole there i.at read sized)
-    (carry_fits (segment_load a.most a.width some a.sub.now)
-    (fitting a.most a.width a.held a.sub.now some c.requires.le_width (as_many a.held)) c.requires.room.0 c.requires.room.1
+    (carry_fits (segment_load a.most a.table.width some a.table.sub.bytes.now)
+    (fitting a.most a.table.width a.held a.table.sub.bytes.now some c.requires.small c.requires.passed (as_many a.held)) c.requires.room.0 c.requires.room.1
     (i.carrying some (as_many a.held)) there)
 
 pub loop-k-preserved : goal.loop-k-preserved
 loop-k-preserved c =
     let a = c.args in
-    let there : c.loop-k.k < segment_count a.sub.now = omega (arith, c.segment_count-count.ensures.0) in
-    let whole = passed a.width a.held a.sub.now c.requires.le_width in
+    let there : c.loop-k.k < segment_count a.table.sub.bytes.now = omega (arith, c.segment_count-count.ensures.0) in
+    let whole = segments-passed a.table.width a.table.sub.bytes.now c.requires.passed in
     let i = c.loop-k.invariant in
     let read = c.entry-entry.ensures in
     let sized = c.length_of.ensures.0 in
-    let same = segment_read a.most a.width a.sub.now whole c.loop-k.k there _ _ _ _ _ i.at read sized c.begins.ensures c.ends.ensures in
+    let same = segment_read a.most a.table.width a.table.sub.bytes.now whole c.loop-k.k there _ _ _ _ _ i.at read sized c.begins.ensures c.ends.ensures in
     let on = c.pass_on-tally.ensures in
     record {
       same_slices = (on.same_slices.0 ∙ i.same_slices.0, on.same_slices.1 ∙ i.same_slices.1);
-      at = body-next a.width a.sub.now c.loop-k.k _ _ i.at (is-size whole there i.at read sized);
+      at = body-next a.table.width a.table.sub.bytes.now c.loop-k.k _ _ i.at (is-size whole there i.at read sized);
       carrying =
           λ bytes e.
-          carry_turn (segment_load a.most a.width bytes a.sub.now)
-          (fitting a.most a.width a.held a.sub.now bytes c.requires.le_width e) c.requires.room.0 c.requires.room.1
+          carry_turn (segment_load a.most a.table.width bytes a.table.sub.bytes.now)
+          (fitting a.most a.table.width a.held a.table.sub.bytes.now bytes c.requires.small c.requires.passed e) c.requires.room.0 c.requires.room.1
           (i.carrying bytes e) there _ _ _
           (rw (← same) (rw (cut-length whole there i.at read sized, cut whole there i.at read sized) at on.placed));
     }
@@ -132,14 +122,14 @@ pub returns-clause-by_index : goal.returns-clause-by_index
 unfolding unnumbered_fate segments
 returns-clause-by_index c bytes e =
     let a = c.args in
-    carry_end (segment_load a.most a.width bytes a.sub.now)
-    (fitting a.most a.width a.held a.sub.now bytes c.requires.le_width e) c.requires.room.0 c.requires.room.1
+    carry_end (segment_load a.most a.table.width bytes a.table.sub.bytes.now)
+    (fitting a.most a.table.width a.held a.table.sub.bytes.now bytes c.requires.small c.requires.passed e) c.requires.room.0 c.requires.room.1
     (c.loop-k.invariant.carrying bytes e) (omega (arith, c.segment_count-count.ensures.0))
 
 pub returns-clause-within : goal.returns-clause-within
 returns-clause-within c =
     let a = c.args in
     let some : List ℕ = replicate a.held 0 in
-    carry_within (segment_load a.most a.width some a.sub.now)
-    (fitting a.most a.width a.held a.sub.now some c.requires.le_width (as_many a.held)) c.requires.room.0 c.requires.room.1
+    carry_within (segment_load a.most a.table.width some a.table.sub.bytes.now)
+    (fitting a.most a.table.width a.held a.table.sub.bytes.now some c.requires.small c.requires.passed (as_many a.held)) c.requires.room.0 c.requires.room.1
     (c.loop-k.invariant.carrying some (as_many a.held))

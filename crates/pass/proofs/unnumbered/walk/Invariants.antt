@@ -11,9 +11,9 @@ abbrev pub invariant-loop-k : goal.invariant-loop-k
 invariant-loop-k l =
     record {
       same_slices : SameSlices l.fn.output l.output;
-      at : l.from ≡ body_at l.width l.sub l.k;
+      at : l.from ≡ body_at l.table.width l.table.sub.bytes.now l.k;
       carrying :
           (bytes : List ℕ) → length bytes ≡ l.held →
-          Carrying (segment_load l.most l.width bytes l.sub) l.fn.output.bytes.now l.fn.output.lengths.now
+          Carrying (segment_load l.most l.table.width bytes l.table.sub.bytes.now) l.fn.output.bytes.now l.fn.output.lengths.now
           l.output.bytes.now l.output.lengths.now l.tally l.k;
     }

@@ -1,5 +1,5 @@
 use Rattle.packet.proofs.Entries.{sum-begin, sum_turn}
-use Rattle.packet.proofs.psp.total_length.Goals as goal
+use Rattle.packet.proofs.psp.SegmentTable.total_length.Goals as goal
 
 pub loop-k-init : goal.loop-k-init
 loop-k-init c = sum-begin _ _ _

@@ -1,6 +1,0 @@
--- The first k entries have been surveyed.
-use Rattle.packet.proofs.Entries.{Surveying}
-use Rattle.packet.proofs.psp.survey.Given as goal
-
-abbrev pub invariant-loop-k : goal.invariant-loop-k
-invariant-loop-k l = Surveying l.width l.sub l.count l.total l.bad l.k

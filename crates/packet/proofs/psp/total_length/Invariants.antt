@@ -1,6 +1,0 @@
--- The first k lengths have been added up.
-use Rattle.packet.proofs.Entries.{Summing}
-use Rattle.packet.proofs.psp.total_length.Given as goal
-
-abbrev pub invariant-loop-k : goal.invariant-loop-k
-invariant-loop-k l = Summing l.width l.sub l.n l.total l.k
