@@ -19,6 +19,7 @@ ghost use Rattle.pspmpeg.specs.Inside.{stream_room};
 use capture::reader;
 use std::env::Env;
 use std::io::{Read, Write};
+use text::Text;
 use tool::number;
 
 fn usage(stderr: &mut impl Write) {
@@ -60,7 +61,9 @@ fn write_stream(file: &[u8], session: u32, text: &mut [u8]) -> usize
     ensures { Wrote text.old text.new 0 result (stream session file.now) }
 {
     if let Err(refusal) = reader::check(file) {
-        return tool::write_refused(text, 0, u32::from(refusal));
+        let mut text = Text::new(text);
+        tool::write_refused(&mut text, u32::from(refusal));
+        return text.length;
     }
     let mut holding = replay::holding_room();
     let mut output = replay::output_room();
