@@ -10,8 +10,10 @@ ghost use Rattle.replay.specs.Inside.{Unused};
 ghost use Rattle.trace.specs.Inside.{entry_room};
 
 use capture::reader;
+use listing::line;
 use replay::Walk;
 use std::io::Write;
+use text::Text;
 
 fn main(rt: HostRuntime) {
     let mut file = tool::capture_room();
@@ -21,20 +23,21 @@ fn main(rt: HostRuntime) {
 }
 
 // Traces a capture; or says that it is refused.
-fn trace(stdout: &mut impl Write, file: &[u8], text: &mut [u8])
-    requires { entry_room ≤ length text.old }
+fn trace(stdout: &mut impl Write, file: &[u8], room: &mut [u8])
+    requires { entry_room ≤ length room.old }
 {
+    let mut text = Text::new(room);
     if let Err(refusal) = reader::check(file) {
-        let length = tool::write_refused(text, 0, u32::from(refusal));
-        tool::write_output(stdout, &text[..length]);
+        tool::write_refused(&mut text, u32::from(refusal));
+        tool::write_output(stdout, text.written());
         return;
     }
-    let length = listing::line::write_heading(text, 0);
-    tool::write_output(stdout, &text[..length]);
+    line::write_heading(&mut text);
+    tool::write_output(stdout, text.written());
     let mut holding = replay::holding_room();
     let mut output = replay::output_room();
     let mut lengths = replay::lengths_room();
-    trace_entries(stdout, file, &mut holding, &mut output, &mut lengths, text);
+    trace_entries(stdout, file, &mut holding, &mut output, &mut lengths, room);
 }
 
 // Traces the entries of a sound file, one after another.

@@ -14,6 +14,7 @@ ghost use Rattle.trace.specs.Inside.{entry_room};
 
 use listing::line;
 use replay::Walk;
+use text::Text;
 
 // Room for the trace of any entry: its line, the lines of its frames, and all rows with all flows holding all they can.
 pub const ENTRY_ROOM: usize = listing::LINE_ROOM + frames::FRAMES_ROOM + rows::ROWS_ROOM;
@@ -34,11 +35,12 @@ pub fn trace_entry(
     ensures wrote { Wrote text.old text.new 0 result (traced_at file.now walk.old.index) }
     ensures goes_on { GoesOn file.now walk.old walk.new holding.new output.new lengths.new }
 {
+    let mut text = Text::new(text);
     let index = walk.index as u32;
     let stepped = walk.step(file, holding, output, lengths);
     let answer = stepped.answer;
-    let behind_line = line::write_line(text, 0, index, stepped.kind, answer);
-    let count = answer.frames as usize;
-    let behind_frames = frames::write_frames(text, behind_line, output, lengths, count);
-    rows::write_rows(text, behind_frames, walk.table, holding)
+    line::write_line(&mut text, index, stepped.kind, answer);
+    frames::write_frames(&mut text, output, lengths, answer.frames as usize);
+    rows::write_rows(&mut text, walk.table, holding);
+    text.length
 }
