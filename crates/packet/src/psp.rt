@@ -89,7 +89,9 @@ impl<'a> SegmentTable<'a> {
 
     // Surveys the table of a packet that has segments. Of an entry between the first and the last one comparison tells whether it is bad: a
     // good one has B, E and a length, so it is above what B and E are worth together. The loop asks nothing else and adds up in 32 bits, so
-    // that the compiler can take several entries at a time.
+    // that the compiler can take several entries at a time. For that it has to know the width too: a caller's is a constant, and the hints
+    // here and below put the loop where it stands.
+    #[inline(always)]
     fn survey(self, count: usize) -> Surveyed
         requires { (1 ≤ count) × (count ≡ segment_count self.sub.bytes.now) × (header_length + self.width * count ≤ length self.sub.bytes.now) }
         ensures total_value { result.total ≡ sum_to (length_at self.entry.width self.entry.sub.bytes.now) count }
@@ -133,6 +135,7 @@ impl<'a> SegmentTable<'a> {
     }
 
     // Refusals 9 to 11, of the segments.
+    #[inline(always)]
     #[tactic(auto, unfolding(crate::specs::Psp::wanted, crate::specs::Segments::body_at))]
     fn refuse_segments(self) -> Result<(), Refusal>
         ensures { code_of result ≡ first (segment_refusals self.entry.width self.entry.sub.bytes.now) }
@@ -156,6 +159,7 @@ impl<'a> SegmentTable<'a> {
     }
 
     // Refusals 6, 7 and 9 to 11 of a PSP packet. Whether it has a number is not asked here (document 02, W2).
+    #[inline(always)]
     pub fn refuse(self) -> Result<(), Refusal>
         ensures { code_of result ≡ first (psp_refusals self.entry.width self.entry.sub.bytes.now) }
     {
