@@ -23,7 +23,8 @@ use Rattle.pass.specs.Pass.{pass_all, dmpt_fate}
 use Rattle.card.specs.Hear.{hear}
 use Rattle.card.specs.Receive.{carried_out, refused, received_by, received}
 use Rattle.card.specs.History.{Card, Call, opens, closes, answer, after, after_all, empty_card, hands}
-use Rattle.promises.specs.Account.{Lent, card_for, table_after_all, counted_by, bytes_taken, bytes_delivered, bytes_dropped, held_in_all, taken_by}
+use Rattle.promises.specs.Account.{Lent, card_for, table_after_all, counted_by, bytes_taken, bytes_delivered, bytes_dropped, held_in_all}
+use Rattle.promises.specs.Account.{taken_by}
 use Rattle.promises.specs.Account.{delivered_by, dropped_by, gathered, times, bytes_held, ByteAccount, EachByte}
 use Rattle.promises.specs.Limits.{NeverBroken}
 use Rattle.promises.specs.Marked.{A, B, single, whole3, hand}
@@ -53,8 +54,9 @@ byte_account_instance : (counted_by bytes_taken empty slices_change ≡ 18)
     × (counted_by bytes_delivered empty slices_change ≡ 15)
     × (counted_by bytes_dropped empty slices_change ≡ 0)
     × (held_in_all (table_after_all empty slices_change) ≡ 3)
-unfolding part rest put joined lengths_of cut_by any least sum_to up_to ahead next body_at segment_at segments wanted broken opened settled_by
-    settled fate_by fate at_gap in_order psp_fate hear carried_out refused received_by received answer after counted_by table_after_all
+unfolding part rest put joined lengths_of cut_by any least sum_to up_to ahead next body_at segment_at segments wanted broken opened
+    settled_by settled fate_by fate at_gap in_order psp_fate hear carried_out refused received_by received answer after counted_by
+    table_after_all
 byte_account_instance = (refl, refl, refl, refl)
 
 -- the slice that is a byte short was refused by 1
@@ -65,8 +67,8 @@ abbrev before_it : List Lent
 before_it = with_slice [] (opens (asking kind.Psp 0x101)) ∷ with_slice (replicate 49152 0) (hand-udp A) ∷ []
 
 refused_by_1 : (answer (card_for (table_after_all empty before_it) short_slice) (hand B)).code ≡ 1
-unfolding part rest put joined lengths_of cut_by any least sum_to up_to ahead next body_at segment_at segments wanted broken opened settled_by
-    settled fate_by fate at_gap in_order psp_fate hear carried_out refused received_by received answer after table_after_all
+unfolding part rest put joined lengths_of cut_by any least sum_to up_to ahead next body_at segment_at segments wanted broken opened
+    settled_by settled fate_by fate at_gap in_order psp_fate hear carried_out refused received_by received answer after table_after_all
 refused_by_1 = refl
 
 -- then a D-MPT session with a packet over UDP, of two MPEG packets, one of which carries nothing, and the close of the other session, which
@@ -87,14 +89,14 @@ closes-counted : (counted_by bytes_taken empty and-closes ≡ 394)
     × (counted_by bytes_delivered empty and-closes ≡ 203)
     × (counted_by bytes_dropped empty and-closes ≡ 191)
     × (held_in_all (table_after_all empty and-closes) ≡ 0)
-unfolding part rest put joined lengths_of cut_by any least sum_to up_to ahead next body_at segment_at segments wanted mpeg_at mpegs broken opened
-    closed settled_by settled fate_by fate at_gap in_order psp_fate pass_all dmpt_fate hear carried_out refused received_by received answer after
-    counted_by table_after_all
+unfolding part rest put joined lengths_of cut_by any least sum_to up_to ahead next body_at segment_at segments wanted mpeg_at mpegs broken
+    opened closed settled_by settled fate_by fate at_gap in_order psp_fate pass_all dmpt_fate hear carried_out refused received_by
+    received answer after counted_by table_after_all
 closes-counted = (refl, refl, refl, refl)
 
 never_broken_instance : (broken (table_after_all empty slices_change) ≡ false) × (length (table_after_all empty slices_change).rows ≡ 6)
-unfolding part rest put joined lengths_of cut_by any least sum_to up_to ahead next body_at segment_at segments wanted broken opened settled_by
-    settled fate_by fate at_gap in_order psp_fate hear carried_out refused received_by received answer after table_after_all
+unfolding part rest put joined lengths_of cut_by any least sum_to up_to ahead next body_at segment_at segments wanted broken opened
+    settled_by settled fate_by fate at_gap in_order psp_fate hear carried_out refused received_by received answer after table_after_all
 never_broken_instance = (refl, refl)
 
 -- one slice through all calls, and the close: which bytes come in, are delivered, are dropped, and that none is held at the end
@@ -127,9 +129,9 @@ before_close_told : counted_by bytes_delivered empty before_close
     + counted_by bytes_dropped empty before_close
     + held_in_all (table_after_all empty before_close)
     ≡ 203 + 188 + 3
-unfolding part rest put joined lengths_of cut_by any least sum_to up_to ahead next body_at segment_at segments wanted mpeg_at mpegs broken opened
-    settled_by settled fate_by fate at_gap in_order psp_fate pass_all dmpt_fate hear carried_out refused received_by received answer after counted_by
-    table_after_all
+unfolding part rest put joined lengths_of cut_by any least sum_to up_to ahead next body_at segment_at segments wanted mpeg_at mpegs broken
+    opened settled_by settled fate_by fate at_gap in_order psp_fate pass_all dmpt_fate hear carried_out refused received_by received
+    answer after counted_by table_after_all
 before_close_told = refl
 
 -- And with one slice through all calls: A leaves 2 bytes held; then comes a frame of 3 behind a gap, and they are dropped.
@@ -140,13 +142,13 @@ abbrev at_gap_lem : Card
 at_gap_lem = after_all (empty_card (replicate 49152 0)) before-gap
 
 says_2_held : held_in_all at_gap_lem.table ≡ 2
-unfolding part rest put joined lengths_of any least sum_to up_to ahead next body_at segment_at segments wanted broken opened settled_by settled
-    fate_by fate at_gap in_order psp_fate hear carried_out refused received_by received after after_all
+unfolding part rest put joined lengths_of any least sum_to up_to ahead next body_at segment_at segments wanted broken opened settled_by
+    settled fate_by fate at_gap in_order psp_fate hear carried_out refused received_by received after after_all
 says_2_held = refl
 
 finds_3_drops_2 : (length (delivered_by at_gap_lem (hand (whole3 1))) ≡ 3) × (length (dropped_by at_gap_lem (hand (whole3 1))) ≡ 2)
-unfolding part rest put joined lengths_of cut_by any least sum_to up_to ahead next body_at segment_at segments wanted broken opened settled_by
-    settled fate_by fate at_gap in_order psp_fate hear carried_out refused received_by received answer after after_all
+unfolding part rest put joined lengths_of cut_by any least sum_to up_to ahead next body_at segment_at segments wanted broken opened
+    settled_by settled fate_by fate at_gap in_order psp_fate hear carried_out refused received_by received answer after after_all
 finds_3_drops_2 = (refl, refl)
 
 abbrev pub ByteAccountHere : Type 0
@@ -177,8 +179,9 @@ fates_of_77 : times 0x77 (gathered delivered_by (empty_card (replicate 49152 0))
     + times 0x77 (gathered dropped_by (empty_card (replicate 49152 0)) all_fates)
     + times 0x77 (bytes_held (after_all (empty_card (replicate 49152 0)) all_fates))
     ≡ 3 + 2 + 1
-unfolding part rest put joined lengths_of cut_by any least sum_to up_to ahead next body_at segment_at segments wanted broken opened settled_by
-    settled fate_by fate at_gap in_order psp_fate hear carried_out refused received_by received answer after after_all gathered times
+unfolding part rest put joined lengths_of cut_by any least sum_to up_to ahead next body_at segment_at segments wanted broken opened
+    settled_by settled fate_by fate at_gap in_order psp_fate hear carried_out refused received_by received answer after after_all gathered
+    times
 fates_of_77 = refl
 
 abbrev pub EachByteHere : Type 0

@@ -136,8 +136,8 @@ abbrev pub before : List Call
 before = opens (asking kind.Psp 0x102) ∷ hand (in_udp others-half) ∷ []
 
 pub opens_101 : (answer (after_all (empty_card (replicate 49152 0)) before) (opens (asking kind.Psp 0x101))).code ≡ 0
-unfolding part rest put joined lengths_of any least sum_to up_to ahead next body_at segment_at segments wanted broken opened settled_by settled
-    fate_by fate at_gap in_order psp_fate hear carried_out refused received_by received answer after after_all
+unfolding part rest put joined lengths_of any least sum_to up_to ahead next body_at segment_at segments wanted broken opened settled_by
+    settled fate_by fate at_gap in_order psp_fate hear carried_out refused received_by received answer after after_all
 opens_101 = refl
 
 pub overtaken_long : LongEnough kind.Psp 0x101 1 (replicate 49152 0) overtaken_calls
@@ -289,7 +289,8 @@ overtaken_verdicts =
 
 pub gaps_instance : verdicts_out kind.Psp 0x101 1 (opened_card sending overtaken) overtaken_calls ≡ overtaken_verdicts
 unfolding part rest put joined lengths_of cut_by any least sum_to up_to ahead next body_at segment_at segments wanted broken opened closed
-    settled_by settled fate_by fate at_gap in_order psp_fate hear carried_out refused received_by received answer after after_all verdicts_out
+    settled_by settled fate_by fate at_gap in_order psp_fate hear carried_out refused received_by received answer after after_all
+    verdicts_out
 gaps_instance = refl
 
 pub gaps_expected : verdicts_of overtaken.arrivals ≡ overtaken_verdicts

@@ -64,8 +64,8 @@ dmpt_told =
 
 -- The packet is for a D-MPT session ..
 pub dmpt_goes : (dmpt_card ≡ dmpt_told) × (is_dmpt (terms_at dmpt_card.table (row_of dmpt_card.table (ip dmpt_packet))).kind ≡ true)
-unfolding part rest put joined lengths_of any least sum_to up_to ahead next body_at segment_at segments wanted broken opened settled_by settled
-    fate_by fate at_gap in_order psp_fate hear carried_out refused received_by received after after_all
+unfolding part rest put joined lengths_of any least sum_to up_to ahead next body_at segment_at segments wanted broken opened settled_by
+    settled fate_by fate at_gap in_order psp_fate hear carried_out refused received_by received after after_all
 dmpt_goes = (refl, refl)
 
 -- .. and accepted: the first MPEG packet is found, the second is dropped, and the card is as it was; over UDP too.
@@ -79,8 +79,9 @@ pub dmpt_instance : ((answer dmpt_card (hand dmpt_packet)).code ≡ 0)
     × (after dmpt_card (hand dmpt_packet) ≡ dmpt_told)
     × (frames_of (answer dmpt_card (hand-udp dmpt_packet)) ≡ mpeg_some ∷ [])
     × (after dmpt_card (hand-udp dmpt_packet) ≡ dmpt_told)
-unfolding part rest put joined lengths_of cut_by any least sum_to up_to ahead next body_at segment_at segments wanted mpeg_at mpegs broken opened
-    settled_by settled fate_by fate at_gap in_order psp_fate pass_all dmpt_fate hear carried_out refused received_by received answer after after_all
+unfolding part rest put joined lengths_of cut_by any least sum_to up_to ahead next body_at segment_at segments wanted mpeg_at mpegs broken
+    opened settled_by settled fate_by fate at_gap in_order psp_fate pass_all dmpt_fate hear carried_out refused received_by received
+    answer after after_all
 dmpt_instance = (refl, refl, refl, refl, refl, refl, refl)
 
 pub dmpt_carries : (carrying (mpegs (sub (ip dmpt_packet))) ≡ mpeg_some ∷ []) × (nulls (mpegs (sub (ip dmpt_packet))) ≡ mpeg_null ∷ [])
@@ -96,8 +97,8 @@ unfolding any least
 told_dmpt = refl
 
 told-accepts : (answer dmpt_told (hands two_come)).code ≡ 0
-unfolding part rest put joined lengths_of any least sum_to up_to mpeg_at mpegs broken pass_all dmpt_fate hear carried_out refused received_by
-    received answer
+unfolding part rest put joined lengths_of any least sum_to up_to mpeg_at mpegs broken pass_all dmpt_fate hear carried_out refused
+    received_by received answer
 told-accepts = refl
 
 without_number : s_set (sub (ip dmpt_packet)) ≡ false

@@ -54,8 +54,8 @@ fresh_101 = after (card_after (replicate 49152 0) []) (opens (asking kind.Psp 0x
 
 -- A, and then number 4: four are missing before it, and what A left is dropped.
 gap_is_told : told 0x101 fresh_101 (hand A ∷ hand (whole3 4) ∷ []) ≡ one_frame 6 0 0 of6 ∷ one_frame 3 2 4 of3 ∷ []
-unfolding part rest put joined lengths_of any least sum_to up_to ahead next body_at segment_at segments wanted broken opened settled_by settled
-    fate_by fate at_gap in_order psp_fate hear carried_out refused received_by received answer after after_all told
+unfolding part rest put joined lengths_of any least sum_to up_to ahead next body_at segment_at segments wanted broken opened settled_by
+    settled fate_by fate at_gap in_order psp_fate hear carried_out refused received_by received answer after after_all told
 gap_is_told = refl
 
 -- Packets over UDP and over IP on one flow: the session is told the same.
@@ -67,8 +67,8 @@ late = record { code = 12; frames = 0; bytes = 0; dropped = 0; gap = 0; output =
 
 two-transports : told 0x101 fresh_101 (hand_by (in_udp A) ∷ hand B ∷ hand_by (in_udp B) ∷ [])
     ≡ one_frame 6 0 0 of6 ∷ one_frame 9 0 0 of9 ∷ late ∷ []
-unfolding part rest put joined lengths_of any least sum_to up_to ahead next body_at segment_at segments wanted broken opened settled_by settled
-    fate_by fate at_gap in_order psp_fate hear carried_out refused received_by received answer after after_all told
+unfolding part rest put joined lengths_of any least sum_to up_to ahead next body_at segment_at segments wanted broken opened settled_by
+    settled fate_by fate at_gap in_order psp_fate hear carried_out refused received_by received answer after after_all told
 two-transports = refl
 
 -- Between A and B come packets of which there is no telling where a session ID stands: B with T set, B by another version, B by a transport
@@ -82,8 +82,8 @@ version_2 packet = udp (0x00 ∷ 0x02 ∷ 0x00 ∷ 0x00 ∷ packet)
 nobodys : told 0x101 fresh_101
     (hand A ∷ hand_by (with_t B) ∷ hand_by (version_2 B) ∷ hand_by (packet_by 3 B) ∷ hand_by (in_udp (take 7 B)) ∷ hand_by (in_udp B) ∷ [])
     ≡ one_frame 6 0 0 of6 ∷ one_frame 9 0 0 of9 ∷ []
-unfolding part rest put joined lengths_of any least sum_to up_to ahead next body_at segment_at segments wanted broken opened settled_by settled
-    fate_by fate at_gap in_order psp_fate hear carried_out refused received_by received answer after after_all told
+unfolding part rest put joined lengths_of any least sum_to up_to ahead next body_at segment_at segments wanted broken opened settled_by
+    settled fate_by fate at_gap in_order psp_fate hear carried_out refused received_by received answer after after_all told
 nobodys = refl
 
 -- A packet that is too long has its ID where it should be: it is the session's, which is told 3.
@@ -92,8 +92,8 @@ too_long = record { code = 3; frames = 0; bytes = 0; dropped = 0; gap = 0; outpu
 
 too_long_is_told : told 0x101 fresh_101 (hand (B ++ replicate 4084 0) ∷ hand_by (in_udp (B ++ replicate 4084 0)) ∷ [])
     ≡ too_long ∷ too_long ∷ []
-unfolding part rest put joined lengths_of any least sum_to up_to ahead next body_at segment_at segments wanted broken opened settled_by settled
-    fate_by fate at_gap in_order psp_fate hear carried_out refused received_by received answer after after_all told
+unfolding part rest put joined lengths_of any least sum_to up_to ahead next body_at segment_at segments wanted broken opened settled_by
+    settled fate_by fate at_gap in_order psp_fate hear carried_out refused received_by received answer after after_all told
 too_long_is_told = refl
 
 -- Between A and B another session is closed, and a packet with number 3 is refused, whose last byte is cut: B finds what A left, and the
@@ -105,8 +105,8 @@ abbrev cut_short : Told
 cut_short = record { code = 10; frames = 0; bytes = 0; dropped = 0; gap = 0; output = []; lengths = [] }
 
 half_is_kept : told 0x101 fresh_101 half-there ≡ one_frame 6 0 0 of6 ∷ cut_short ∷ one_frame 9 0 0 of9 ∷ []
-unfolding part rest put joined lengths_of any least sum_to up_to ahead next body_at segment_at segments wanted broken opened closed settled_by
-    settled fate_by fate at_gap in_order psp_fate hear carried_out refused received_by received answer after after_all told
+unfolding part rest put joined lengths_of any least sum_to up_to ahead next body_at segment_at segments wanted broken opened closed
+    settled_by settled fate_by fate at_gap in_order psp_fate hear carried_out refused received_by received answer after after_all told
 half_is_kept = refl
 
 -- A gap of 2 forbids the join, as a gap of 1 does: the 2 bytes held and the 7 that came are dropped. What flow 3 holds is dropped by the
@@ -115,13 +115,13 @@ abbrev no_frame : ℕ → ℕ → Told
 no_frame dropped gap = record { code = 0; frames = 0; bytes = 0; dropped = dropped; gap = gap; output = []; lengths = [] }
 
 gap_of_2 : told 0x101 fresh_101 (hand A ∷ hand (set B 7 2) ∷ []) ≡ one_frame 6 0 0 of6 ∷ no_frame 9 2 ∷ []
-unfolding part rest put joined lengths_of any least sum_to up_to ahead next body_at segment_at segments wanted broken opened settled_by settled
-    fate_by fate at_gap in_order psp_fate hear carried_out refused received_by received answer after after_all told
+unfolding part rest put joined lengths_of any least sum_to up_to ahead next body_at segment_at segments wanted broken opened settled_by
+    settled fate_by fate at_gap in_order psp_fate hear carried_out refused received_by received answer after after_all told
 gap_of_2 = refl
 
 flow_3_dropped : told 0x101 fresh_101 (hand (set A 4 0x43) ∷ closes 0x101 ∷ []) ≡ one_frame 6 0 0 of6 ∷ no_frame 2 0 ∷ []
-unfolding part rest put joined lengths_of any least sum_to up_to ahead next body_at segment_at segments wanted broken opened closed settled_by
-    settled fate_by fate at_gap in_order psp_fate hear carried_out refused received_by received answer after after_all told
+unfolding part rest put joined lengths_of any least sum_to up_to ahead next body_at segment_at segments wanted broken opened closed
+    settled_by settled fate_by fate at_gap in_order psp_fate hear carried_out refused received_by received answer after after_all told
 flow_3_dropped = refl
 
 -- Rows 0 to 5 are taken and row 1 comes free: the next session opens there. A packet of the session that was closed is refused by 5.
@@ -134,8 +134,8 @@ six_then_one =
 free_row : ((answer six_then_one (opens (asking kind.Psp 7))).code ≡ 0)
     × (find (after six_then_one (opens (asking kind.Psp 7))).table 7 ≡ 1)
     × ((answer six_then_one (hand A)).code ≡ 5)
-unfolding part rest put joined lengths_of any least sum_to up_to ahead next body_at segment_at segments wanted broken opened closed settled_by
-    settled fate_by fate at_gap in_order psp_fate hear carried_out refused received_by received answer after after_all
+unfolding part rest put joined lengths_of any least sum_to up_to ahead next body_at segment_at segments wanted broken opened closed
+    settled_by settled fate_by fate at_gap in_order psp_fate hear carried_out refused received_by received answer after after_all
 free_row = (refl, refl, refl)
 
 -- D-MPT with S set: the first number is taken as it is, the second lies 4 ahead of the one expected, and the same again is late.
@@ -151,8 +151,8 @@ too_late = record { code = 12; frames = 0; bytes = 0; dropped = 0; gap = 0; outp
 dmpt_numbered : told 0x103 (after (card_after (replicate 49152 0) []) (opens (asking kind.Dmpt 0x103)))
     (hand (numbered 0x34) ∷ hand (numbered 0x39) ∷ hand (numbered 0x39) ∷ [])
     ≡ one_frame 188 0 0 mpeg ∷ one_frame 188 0 4 mpeg ∷ too_late ∷ []
-unfolding part rest put joined lengths_of any least sum_to up_to ahead next mpeg_at mpegs broken opened in_order pass_all dmpt_fate hear carried_out
-    refused received_by received answer after after_all told
+unfolding part rest put joined lengths_of any least sum_to up_to ahead next mpeg_at mpegs broken opened in_order pass_all dmpt_fate hear
+    carried_out refused received_by received answer after after_all told
 dmpt_numbered = refl
 
 -- A frame of 25 bytes with the limit 16, for a session whose ID has four unlike bytes: 10, 10 and 5 bytes, B on the first and E on the

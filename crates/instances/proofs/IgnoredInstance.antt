@@ -74,9 +74,9 @@ pub without_x : (told (received table (ip A) slices) ≡ 0 ∷ 1 ∷ 6 ∷ 0 ∷
     × (check 1 (ip A) ≡ 0) × (check 2 (dmpt_with 0x40 0x00) ≡ 0)
     × (segment_cause 1 (ip A) 2 ≡ 14) × (segment_extent 1 (ip A) 1 ≡ record { start = 18; size = 2 })
     × (segment_given 1 (ip A) 1 ≡ 0x21 ∷ 0x22 ∷ [])
-unfolding part rest put joined lengths_of any least sum_to up_to body_at segment_at segments wanted mpeg_at mpegs check check_refusals segment_cause
-    cause_refusals segment_extent segment_given broken settled_by settled fate_by fate at_gap in_order psp_fate pass_all dmpt_fate hear carried_out
-    refused received_by received
+unfolding part rest put joined lengths_of any least sum_to up_to body_at segment_at segments wanted mpeg_at mpegs check check_refusals
+    segment_cause cause_refusals segment_extent segment_given broken settled_by settled fate_by fate at_gap in_order psp_fate pass_all
+    dmpt_fate hear carried_out refused received_by received
 without_x = (refl, refl, refl, refl, refl, refl, refl)
 
 -- so with X: `ignored_bits`, applied

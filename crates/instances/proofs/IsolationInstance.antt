@@ -68,8 +68,8 @@ same-own = refl
 
 opens_both : ((answer (card_after (replicate 49152 0) one_before) (opens (asking kind.Psp 0x101))).code ≡ 0)
     × ((answer (card_after (replicate 49152 5) others-first) (opens (asking kind.Psp 0x101))).code ≡ 0)
-unfolding part rest put joined lengths_of any least sum_to up_to ahead next body_at segment_at segments wanted broken opened closed settled_by
-    settled fate_by fate at_gap in_order psp_fate hear carried_out refused received_by received answer after after_all
+unfolding part rest put joined lengths_of any least sum_to up_to ahead next body_at segment_at segments wanted broken opened closed
+    settled_by settled fate_by fate at_gap in_order psp_fate hear carried_out refused received_by received answer after after_all
 opens_both = (refl, refl)
 
 abbrev answered : List Told
@@ -82,8 +82,8 @@ answered =
 
 isolation_instance : (told 0x101 (after (card_after (replicate 49152 0) one_before) (opens (asking kind.Psp 0x101))) alone_calls ≡ answered)
     × (told 0x101 (after (card_after (replicate 49152 5) others-first) (opens (asking kind.Psp 0x101))) among-others ≡ answered)
-unfolding part rest put joined lengths_of any least sum_to up_to ahead next body_at segment_at segments wanted broken opened closed settled_by
-    settled fate_by fate at_gap in_order psp_fate hear carried_out refused received_by received answer after after_all told
+unfolding part rest put joined lengths_of any least sum_to up_to ahead next body_at segment_at segments wanted broken opened closed
+    settled_by settled fate_by fate at_gap in_order psp_fate hear carried_out refused received_by received answer after after_all told
 isolation_instance = (refl, refl)
 
 -- `isolation`, applied

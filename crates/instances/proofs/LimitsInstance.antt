@@ -54,8 +54,8 @@ within_limits_instance : ((answer opened_card (hand as_many)).frames ≡ 127)
     × ((answer (handed-card opened_card (beginning 2047 ∷ [])) (hand as_long)).frames ≡ 3)
     × ((answer (handed-card opened_card (beginning 2047 ∷ [])) (hand as_long)).bytes ≡ 6133)
     × ((answer (handed-card opened_card (beginning 2047 ∷ [])) (lent (in_udp as_long))).bytes ≡ 6133)
-unfolding part rest put joined lengths_of cut_by any least sum_to up_to ahead next body_at segment_at segments wanted broken opened settled_by
-    settled fate_by fate at_gap in_order psp_fate hear carried_out refused received_by received answer after handed-card
+unfolding part rest put joined lengths_of cut_by any least sum_to up_to ahead next body_at segment_at segments wanted broken opened
+    settled_by settled fate_by fate at_gap in_order psp_fate hear carried_out refused received_by received answer after handed-card
 within_limits_instance = (refl, refl, refl, refl, refl)
 
 -- a packet that comes again; one over UDP with T set, and one by a transport that there is not; an open of an open session, a close of a
@@ -135,8 +135,8 @@ sized_excludes = ((λ each. not-empty each.0), (λ each. not_2049 each.1.0))
 limits_reached : ((answer just_open (hand as_many)).frames ≡ 127)
     × ((answer holds_2047 (hand as_long)).bytes ≡ 6133)
     × ((answer holds_2 (hand (whole3 0x7FFF))).gap ≡ 32767)
-unfolding part rest put joined lengths_of any least sum_to up_to ahead next body_at segment_at segments wanted broken settled_by settled fate_by
-    fate at_gap in_order psp_fate hear carried_out refused received_by received answer
+unfolding part rest put joined lengths_of any least sum_to up_to ahead next body_at segment_at segments wanted broken settled_by settled
+    fate_by fate at_gap in_order psp_fate hear carried_out refused received_by received answer
 limits_reached = (refl, refl, refl)
 
 -- `refusals_change_nothing`, applied: a packet that is late (12), an open of the session that is open (22), a close of one that is not

@@ -18,12 +18,12 @@ use Rattle.sender.specs.Series.{series_packets}
 use Rattle.promises.specs.Marked.{handed-card, Marked, BesidesMarked}
 
 pub marked : Marked
-unfolding part rest put joined lengths_of cut_by any least sum_to up_to ahead next body_at segment_at segments wanted broken opened settled_by
-    settled fate_by fate at_gap in_order psp_fate hear carried_out refused received_by received answer after handed-card series_packets frame_start
-    cut packet_of sender.cut_for sender.written sender.refused sender.sent_by sender.sent
+unfolding part rest put joined lengths_of cut_by any least sum_to up_to ahead next body_at segment_at segments wanted broken opened
+    settled_by settled fate_by fate at_gap in_order psp_fate hear carried_out refused received_by received answer after handed-card
+    series_packets frame_start cut packet_of sender.cut_for sender.written sender.refused sender.sent_by sender.sent
 marked = (refl, (refl, (refl, (refl, (refl, (refl, (refl, (refl, (refl, (refl, (refl, (refl, tt))))))))))))
 
 pub besides_marked : BesidesMarked
-unfolding part rest put joined lengths_of cut_by any least sum_to up_to ahead next body_at segment_at segments wanted broken opened settled_by
-    settled fate_by fate at_gap in_order psp_fate hear carried_out refused received_by received answer after handed-card
+unfolding part rest put joined lengths_of cut_by any least sum_to up_to ahead next body_at segment_at segments wanted broken opened
+    settled_by settled fate_by fate at_gap in_order psp_fate hear carried_out refused received_by received answer after handed-card
 besides_marked = (refl, (refl, (refl, (refl, (refl, (refl, tt))))))

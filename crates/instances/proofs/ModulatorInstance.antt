@@ -229,7 +229,8 @@ comes_out = refl
 
 pub comes_out_on_1 : flow_frames sending run ≡ six ∷ seven ∷ []
 unfolding part rest put joined lengths_of cut_by any least sum_to up_to ahead next body_at segment_at segments wanted broken opened closed
-    settled_by settled fate_by fate at_gap in_order psp_fate hear carried_out refused received_by received answer after after_all deliveries chosen
+    settled_by settled fate_by fate at_gap in_order psp_fate hear carried_out refused received_by received answer after after_all
+    deliveries chosen
 comes_out_on_1 = refl
 
 -- What comes out of the first call is added before the first packet, what comes out of the others before the third; the second and the
@@ -282,8 +283,8 @@ may_travel = subst (λ (out : List (List ℕ)). Each Good out) comes_out (six_go
 -- The modem gets all three.
 pub core_to_modulator_instance : ((reading (leaves (session_frames kind.Psp 0x101 card calls) modulation)).sound ≡ true)
     × ((reading (leaves (session_frames kind.Psp 0x101 card calls) modulation)).frames ≡ six ∷ ten ∷ seven ∷ [])
-unfolding part rest joined lengths_of up_to null_packet same all_fill good may_begin left_at packet_of carried count_after none found without_flag
-    with_flag read_packet read_from packets_in reading packet_next after_next run_packets
+unfolding part rest joined lengths_of up_to null_packet same all_fill good may_begin left_at packet_of carried count_after none found
+    without_flag with_flag read_packet read_from packets_in reading packet_next after_next run_packets
 core_to_modulator_instance = (refl, refl)
 
 -- `core_to_modulator`, applied
@@ -393,11 +394,13 @@ pub no_run-gives : ((reading (flagged 0 (0x00 ∷ fill 183))).sound ≡ false)
     × ((reading (flagged 0 (0x00 ∷ front) ++ null_packet ++ flagged 1 (0x11 ∷ replicate 17 0x11 ++ fill 166))).sound ≡ false)
     × ((reading (flagged 0 (0x00 ∷ six ++ fill 177) ++ flagged 2 (0x00 ∷ six ++ fill 177))).sound ≡ false)
     × ((reading (0x47 ∷ 0x1F ∷ 0xFE ∷ 0x10 ∷ replicate 184 0x11)).sound ≡ false)
-unfolding part rest joined up_to null_packet same all_fill good may_begin none found without_flag with_flag read_packet read_from packets_in reading
+unfolding part rest joined up_to null_packet same all_fill good may_begin none found without_flag with_flag read_packet read_from
+    packets_in reading
 no_run-gives = (refl, refl, refl, refl, refl)
 
 -- .. and beside them bytes that one does give: the same frame of 200 bytes without the null packet, and both counts in order
 pub a_run-gives : ((reading (flagged 0 (0x00 ∷ front) ++ flagged 1 (0x11 ∷ replicate 17 0x11 ++ fill 166))).sound ≡ true)
     × ((reading (flagged 0 (0x00 ∷ six ++ fill 177) ++ flagged 1 (0x00 ∷ six ++ fill 177))).sound ≡ true)
-unfolding part rest joined up_to null_packet same all_fill good may_begin none found without_flag with_flag read_packet read_from packets_in reading
+unfolding part rest joined up_to null_packet same all_fill good may_begin none found without_flag with_flag read_packet read_from
+    packets_in reading
 a_run-gives = (refl, refl)

@@ -84,8 +84,8 @@ back_instance :
       answer = record { code = 0; length = 19; packets = 3; foreign = 0; misfits = 0; fragments = 0; others = 0 };
       output = data_alone ++ (7 ∷ []);
     }
-unfolding part put joined those sum_to is_little wrong_fields bad_header whole start size after bytes_at records_from place_from first_place records
-    last_place skip_of entry_of entries_of skipped all_entries file_of imported_by imported
+unfolding part put joined those sum_to is_little wrong_fields bad_header whole start size after bytes_at records_from place_from
+    first_place records last_place skip_of entry_of entries_of skipped all_entries file_of imported_by imported
 back_instance = refl
 
 -- What came from a site: most significant byte first, with numbers in zone, accuracy, snap length, times and lengths on the wire.
@@ -169,8 +169,8 @@ import_instance :
     × ((imported (0x101 ∷ 0 ∷ []) site (replicate 28 7)).answer.code ≡ 64)
     × ((imported [] (take 450 site) (replicate 31 7)).answer.code ≡ 62)
     × ((imported [] (set site 23 2) (replicate 31 7)).answer.code ≡ 61)
-unfolding part put joined those sum_to is_little wrong_fields bad_header whole start size after bytes_at records_from place_from first_place records
-    last_place skip_of entry_of entries_of skipped all_entries file_of imported_by imported
+unfolding part put joined those sum_to is_little wrong_fields bad_header whole start size after bytes_at records_from place_from
+    first_place records last_place skip_of entry_of entries_of skipped all_entries file_of imported_by imported
 import_instance = (refl, refl, refl, refl)
 
 -- A thousand sessions may be named, of a file without records, and no more; nor may a file be longer than a capture is. (63 is 41 or 43 of
@@ -182,8 +182,8 @@ too_large_instance :
     ((imported (replicate 1001 1) no_records []).answer.code ≡ 63)
     × ((imported (replicate 1000 1) no_records []).answer.code ≡ 64)
     × ((imported (replicate 1001 1) (take 25 site) []).answer.code ≡ 62)
-unfolding part put joined those sum_to is_little wrong_fields bad_header whole start size after bytes_at records_from place_from first_place records
-    last_place skip_of entry_of entries_of skipped all_entries file_of imported_by imported
+unfolding part put joined those sum_to is_little wrong_fields bad_header whole start size after bytes_at records_from place_from
+    first_place records last_place skip_of entry_of entries_of skipped all_entries file_of imported_by imported
 too_large_instance = (refl, refl, refl)
 
 -- `pcap_comes_back`, applied: the capture exported, and what was written imported into an output with a byte more than is needed
@@ -260,8 +260,8 @@ abbrev site_room : List ℕ
 site_room = replicate 31 7
 
 comes_in : (imported (0x101 ∷ 0 ∷ []) site site_room).answer.code ≡ 0
-unfolding part put joined those sum_to is_little wrong_fields bad_header whole start size after bytes_at records_from place_from first_place records
-    last_place skip_of entry_of entries_of skipped all_entries file_of imported_by imported
+unfolding part put joined those sum_to is_little wrong_fields bad_header whole start size after bytes_at records_from place_from
+    first_place records last_place skip_of entry_of entries_of skipped all_entries file_of imported_by imported
 comes_in = refl
 
 abbrev came : ImportOutcome

@@ -102,13 +102,13 @@ capture =
     ∷ 0x00 ∷ 0x00 ∷ 0x01 ∷ 0x01 ∷ 0x41 ∷ 0x01 ∷ 0x00 ∷ 0x00 ∷ 0x40 ∷ 0x05 ∷ 0x00 ∷ 0x01 ∷ 0xC1 ∷ 0xFF ∷ 0xC3 ∷ [])
 
 pub is_made : capture_for (job_for 0x101 1 frames_file_lem) 16 0xFFFF ≡ capture
-unfolding part rest put joined lengths_of any sum_to next whole_frames series_packets frame_start cut packet_of sender.cut_for sender.written
-    sender.refused sender.sent_by sender.sent packets_for entries_for file_of
+unfolding part rest put joined lengths_of any sum_to next whole_frames series_packets frame_start cut packet_of sender.cut_for
+    sender.written sender.refused sender.sent_by sender.sent packets_for entries_for file_of
 is_made = refl
 
 pub not-refused : make_refusal (job_for 0x101 1 frames_file_lem) 16 0xFFFF ≡ 0
-unfolding part rest put joined lengths_of any sum_to next whole_frames series_packets frame_start cut packet_of sender.cut_for sender.written
-    sender.refused sender.sent_by sender.sent packets_for entries_for file_of make_refusal
+unfolding part rest put joined lengths_of any sum_to next whole_frames series_packets frame_start cut packet_of sender.cut_for
+    sender.written sender.refused sender.sent_by sender.sent packets_for entries_for file_of make_refusal
 not-refused = refl
 
 -- The capture is sound, and delivers both frames.
@@ -117,9 +117,9 @@ unfolding any sum_to body_start file_refusal
 capture_sound = refl
 
 pub both_delivered : delivered 0x101 capture ≡ six ∷ seven ∷ []
-unfolding part rest put joined lengths_of cut_by any least sum_to up_to ahead next body_at segment_at segments wanted broken opened settled_by
-    settled fate_by fate at_gap in_order psp_fate hear carried_out refused received_by received answer after body_start nth_entry run_one begin
-    standing answer_at frames_at delivered_before
+unfolding part rest put joined lengths_of cut_by any least sum_to up_to ahead next body_at segment_at segments wanted broken opened
+    settled_by settled fate_by fate at_gap in_order psp_fate hear carried_out refused received_by received answer after body_start
+    nth_entry run_one begin standing answer_at frames_at delivered_before
 both_delivered = refl
 
 pub delivered-good : Each Good (delivered 0x101 capture)
@@ -136,20 +136,20 @@ unfolding part rest joined lengths_of good write.left_at write.packet_of write.c
 one_packet = rw (capture_sound, both_delivered) refl
 
 pub stream_comes_back_instance : got_back (stream 0x101 capture) ≡ frames_file_lem
-unfolding part rest put joined lengths_of cut_by any least sum_to up_to ahead next body_at segment_at segments wanted broken opened settled_by
-    settled fate_by fate at_gap in_order psp_fate hear carried_out refused received_by received answer after body_start file_refusal nth_entry run_one
-    begin standing answer_at frames_at delivered_before good write.left_at write.packet_of write.carried write.count_after none packet_next
-    after_next drain all_good stream_by stream null_packet same all_fill may_begin found without_flag with_flag read_packet read_from packets_in
-    reading frames_file got_back
+unfolding part rest put joined lengths_of cut_by any least sum_to up_to ahead next body_at segment_at segments wanted broken opened
+    settled_by settled fate_by fate at_gap in_order psp_fate hear carried_out refused received_by received answer after body_start
+    file_refusal nth_entry run_one begin standing answer_at frames_at delivered_before good write.left_at write.packet_of write.carried
+    write.count_after none packet_next after_next drain all_good stream_by stream null_packet same all_fill may_begin found without_flag
+    with_flag read_packet read_from packets_in reading frames_file got_back
 stream_comes_back_instance = refl
 
 pub programs_in_a_row_instance : got_back (stream 0x101 (capture_for (job_for 0x101 1 frames_file_lem) 16 0xFFFF)) ≡ frames_file_lem
-unfolding part rest put joined lengths_of cut_by any least sum_to up_to ahead next body_at segment_at segments wanted broken opened settled_by
-    settled fate_by fate at_gap in_order psp_fate hear carried_out refused received_by received answer after body_start file_refusal nth_entry run_one
-    begin standing answer_at frames_at delivered_before good write.left_at write.packet_of write.carried write.count_after none packet_next
-    after_next drain all_good stream_by stream null_packet same all_fill may_begin found without_flag with_flag read_packet read_from packets_in
-    reading frames_file got_back whole_frames series_packets frame_start cut packet_of sender.cut_for sender.written sender.refused sender.sent_by
-    sender.sent packets_for entries_for file_of
+unfolding part rest put joined lengths_of cut_by any least sum_to up_to ahead next body_at segment_at segments wanted broken opened
+    settled_by settled fate_by fate at_gap in_order psp_fate hear carried_out refused received_by received answer after body_start
+    file_refusal nth_entry run_one begin standing answer_at frames_at delivered_before good write.left_at write.packet_of write.carried
+    write.count_after none packet_next after_next drain all_good stream_by stream null_packet same all_fill may_begin found without_flag
+    with_flag read_packet read_from packets_in reading frames_file got_back whole_frames series_packets frame_start cut packet_of
+    sender.cut_for sender.written sender.refused sender.sent_by sender.sent packets_for entries_for file_of
 programs_in_a_row_instance = refl
 
 -- `stream_comes_back`, applied

@@ -98,8 +98,9 @@ pub round_trip_instance :
     (after (after_all (empty_card in_order-m12.holding) in_order-m12.before) (opens (asking kind.Psp 0x101))) in_order-m12.calls
     ≡ of6 ∷ of9 ∷ [])
     × (frames_given given_m12 ≡ of6 ∷ of9 ∷ [])
-unfolding part rest put joined lengths_of cut_by any least sum_to up_to ahead next body_at segment_at segments wanted broken opened settled_by
-    settled fate_by fate at_gap in_order psp_fate hear carried_out refused received_by received answer after after_all frames_out
+unfolding part rest put joined lengths_of cut_by any least sum_to up_to ahead next body_at segment_at segments wanted broken opened
+    settled_by settled fate_by fate at_gap in_order psp_fate hear carried_out refused received_by received answer after after_all
+    frames_out
 round_trip_instance = (refl, refl)
 
 -- What the rules say of A and B, whatever the frames are that they carry.

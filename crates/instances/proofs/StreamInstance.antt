@@ -128,7 +128,8 @@ two-small : AllBytes (p1 ++ p2)
 two-small = all_small (p1 ++ p2) refl
 
 two-sound : (reading (p1 ++ p2)).sound ≡ true
-unfolding part rest joined up_to null_packet same all_fill good may_begin none found without_flag with_flag read_packet read_from packets_in reading
+unfolding part rest joined up_to null_packet same all_fill good may_begin none found without_flag with_flag read_packet read_from
+    packets_in reading
 two-sound = refl
 
 abbrev pub ReadIsRunHere : Type 0
@@ -329,15 +330,18 @@ has_one : (left : ℕ) → 188 < 188 → left ≡ 0
 has_one left l = absurd (omega arith)
 
 turns-between : NullsBetweenFrames (idle 14) turns
-unfolding NullsBetweenFrames after_turn behind_first packet_next after_next packet_of carried count_after left_at part rest joined lengths_of
+unfolding NullsBetweenFrames after_turn behind_first packet_next after_next packet_of carried count_after left_at part rest joined
+    lengths_of
 turns-between = (has_one 17, (has_one 0, (λ l. refl, (has_one 24, tt))))
 
 queued_between : NullsBetweenFrames (idle 14) one_queued
-unfolding NullsBetweenFrames after_turn behind_first packet_next after_next packet_of carried count_after left_at part rest joined lengths_of
+unfolding NullsBetweenFrames after_turn behind_first packet_next after_next packet_of carried count_after left_at part rest joined
+    lengths_of
 queued_between = (has_one 17, (has_one 0, (λ l. refl, (has_one 24, tt))))
 
 out_between : NullsBetweenFrames (idle 14) all_out
-unfolding NullsBetweenFrames after_turn behind_first packet_next after_next packet_of carried count_after left_at part rest joined lengths_of
+unfolding NullsBetweenFrames after_turn behind_first packet_next after_next packet_of carried count_after left_at part rest joined
+    lengths_of
 out_between = (has_one 17, (has_one 0, (λ l. refl, (has_one 24, (has_one 0, tt)))))
 
 turns-queue : (channel_end (idle 14) turns).queue ≡ []
@@ -375,8 +379,8 @@ channel_is_read_applied theorem = (
 
 -- .. and by computation: the channel sends these packets
 pub channel_sends_lem : channel_sends (idle 14) turns ≡ p1 ∷ p2 ∷ null ∷ p4 ∷ []
-unfolding channel_sends handed_out null_packet after_turn behind_first packet_next after_next packet_of carried count_after left_at part rest joined
-    lengths_of
+unfolding channel_sends handed_out null_packet after_turn behind_first packet_next after_next packet_of carried count_after left_at part
+    rest joined lengths_of
 channel_sends_lem = refl
 
 -- A null packet handed out while a frame has begun: the condition is not met, and the reader refuses what was handed out. Without that turn
@@ -390,8 +394,9 @@ not-inside = writes (long ∷ []) ∷ hands_out ∷ writes [] ∷ hands_out ∷ 
 pub null_inside : (NullsBetweenFrames (idle 14) inside → ⊥)
     × ((reading (joined (channel_sends (idle 14) inside))).sound ≡ false)
     × ((reading (joined (channel_sends (idle 14) not-inside))).sound ≡ true)
-unfolding NullsBetweenFrames channel_sends handed_out null_packet after_turn behind_first packet_next after_next packet_of carried count_after left_at
-    part rest joined lengths_of up_to same all_fill good may_begin none found without_flag with_flag read_packet read_from packets_in reading
+unfolding NullsBetweenFrames channel_sends handed_out null_packet after_turn behind_first packet_next after_next packet_of carried
+    count_after left_at part rest joined lengths_of up_to same all_fill good may_begin none found without_flag with_flag read_packet
+    read_from packets_in reading
 null_inside = (λ between. not_none 17 (between.1.0 (omega arith)) (omega arith), refl, refl)
   where
     not_none : (left : ℕ) → left ≡ 0 → 0 < left → ⊥
@@ -419,8 +424,8 @@ read_six =
     record { answer = record { code = 0; frames = 1; bytes = 6 }; output = six ++ (0 ∷ 0 ∷ []); lengths = 6 ∷ 9 ∷ [] }
 
 reads_six : PermitsRead asked_read read_six
-unfolding part rest put joined lengths_of up_to null_packet same all_fill good may_begin none found without_flag with_flag read_packet read_from
-    packets_in reading got_back read_by read
+unfolding part rest put joined lengths_of up_to null_packet same all_fill good may_begin none found without_flag with_flag read_packet
+    read_from packets_in reading got_back read_by read
 reads_six = refl
 
 hands-first : PermitsHandOut queue (at 8 null) (at 7 p1)

@@ -94,8 +94,8 @@ version_3 : not_version3 (all_set A) ≡ false
 version_3 = refl
 
 over_ip : received before (ip A) lent ≡ comes_to
-unfolding part rest put joined lengths_of any least sum_to up_to ahead next body_at segment_at segments wanted broken settled_by settled fate_by
-    fate at_gap in_order psp_fate hear carried_out refused received_by received
+unfolding part rest put joined lengths_of any least sum_to up_to ahead next body_at segment_at segments wanted broken settled_by settled
+    fate_by fate at_gap in_order psp_fate hear carried_out refused received_by received
 over_ip = refl
 
 segment_1_there : segment_cause 1 (ip A) 1 ≡ 0

@@ -153,8 +153,8 @@ hearing =
     }
 
 hears_so : PermitsReceive before (ip B) lent hearing
-unfolding part rest put joined lengths_of any least sum_to up_to ahead next body_at segment_at segments wanted broken settled_by settled fate_by
-    fate at_gap in_order psp_fate hear carried_out refused received_by received
+unfolding part rest put joined lengths_of any least sum_to up_to ahead next body_at segment_at segments wanted broken settled_by settled
+    fate_by fate at_gap in_order psp_fate hear carried_out refused received_by received
 hears_so =
     record {
       its_number = refl;
@@ -227,8 +227,8 @@ abbrev extent : Extent
 extent = record { start = 22; size = 2 }
 
 segment_so : packet.PermitsSegment 1 2 a_lies 1 segment_lies
-unfolding packet.check_refusals packet.cause_refusals packet.segment_cause packet.segment_extent packet.segment_given part rest any sum_to body_at
-    wanted
+unfolding packet.check_refusals packet.cause_refusals packet.segment_cause packet.segment_extent packet.segment_given part rest any sum_to
+    body_at wanted
 segment_so = record { in_the_packet = refl; at_its_place = refl; its_bytes = refl }
 
 cause_so : packet.PermitsSegmentCause 1 (udp a_lies.now) 1 0
@@ -244,8 +244,8 @@ abbrev copied : packet.CopyOutcome
 copied = record { answer = 2; output = 0x21 ∷ 0x22 ∷ 0x63 ∷ [] }
 
 copied_so : packet.PermitsSegmentCopy 1 (udp a_lies.now) 1 (0x61 ∷ 0x62 ∷ 0x63 ∷ []) copied
-unfolding packet.check_refusals packet.cause_refusals packet.segment_cause packet.segment_extent packet.segment_given packet.segment_copied part
-    rest put any sum_to body_at wanted
+unfolding packet.check_refusals packet.cause_refusals packet.segment_cause packet.segment_extent packet.segment_given
+    packet.segment_copied part rest put any sum_to body_at wanted
 copied_so = refl
 
 abbrev pub UniqueSegmentHere : Type 0

@@ -56,16 +56,18 @@ pub nothing_joined : (told (card (hand A ∷ [])) (hand (clear B)) ≡ 0 ∷ 0 �
     × (told (card (hand A ∷ [])) (hand (saying 0x80 0x00 (clear B))) ≡ 0 ∷ 0 ∷ 0 ∷ 9 ∷ 0 ∷ [])
     × (told (card (hand A ∷ hand (clear B) ∷ [])) (hand B) ≡ 0 ∷ 0 ∷ 0 ∷ 7 ∷ 0 ∷ [])
     × (told (card (hand A ∷ hand (clear B) ∷ [])) (hand (clear B)) ≡ 0 ∷ 0 ∷ 0 ∷ 7 ∷ 0 ∷ [])
-unfolding part rest put joined lengths_of any least sum_to up_to ahead next body_at segment_at segments wanted broken opened settled_by settled
-    fate_by fate at_gap in_order psp_fate pass_all unnumbered_fate hear carried_out refused received_by received answer after after_all
+unfolding part rest put joined lengths_of any least sum_to up_to ahead next body_at segment_at segments wanted broken opened settled_by
+    settled fate_by fate at_gap in_order psp_fate pass_all unnumbered_fate hear carried_out refused received_by received answer after
+    after_all
 nothing_joined = (refl, refl, refl, refl, refl)
 
 -- So demand 3 asks that no packet without a number comes on the flow: A, a whole frame of 3 without a number, then B. Both packets of the
 -- frame of 9 arrived, before any packet sent after them, and it does not come out.
 pub premise_needed : (told (card (hand A ∷ [])) (hand (clear (whole3 0))) ≡ 0 ∷ 1 ∷ 3 ∷ 2 ∷ 0 ∷ [])
     × (told (card (hand A ∷ hand (clear (whole3 0)) ∷ [])) (hand B) ≡ 0 ∷ 0 ∷ 0 ∷ 7 ∷ 0 ∷ [])
-unfolding part rest put joined lengths_of any least sum_to up_to ahead next body_at segment_at segments wanted broken opened settled_by settled
-    fate_by fate at_gap in_order psp_fate pass_all unnumbered_fate hear carried_out refused received_by received answer after after_all
+unfolding part rest put joined lengths_of any least sum_to up_to ahead next body_at segment_at segments wanted broken opened settled_by
+    settled fate_by fate at_gap in_order psp_fate pass_all unnumbered_fate hear carried_out refused received_by received answer after
+    after_all
 premise_needed = (refl, refl)
 
 -- On a fresh flow A without its number gives its frame of 6, and the 2 bytes behind it are dropped. The flow stays fresh: the card is as it
@@ -74,15 +76,17 @@ pub stays_fresh : (frames_of (answer (card []) (hand (clear A))) ≡ (0x11 ∷ 0
     × (told (card []) (hand (clear A)) ≡ 0 ∷ 1 ∷ 6 ∷ 2 ∷ 0 ∷ [])
     × (card (hand (clear A) ∷ hand-udp (clear A) ∷ []) ≡ card [])
     × (told (card (hand (clear A) ∷ [])) (hand (saying 0x90 0x00 B)) ≡ 0 ∷ 0 ∷ 0 ∷ 7 ∷ 0 ∷ [])
-unfolding part rest put joined lengths_of cut_by any least sum_to up_to ahead next body_at segment_at segments wanted broken opened settled_by
-    settled fate_by fate at_gap in_order psp_fate pass_all unnumbered_fate hear carried_out refused received_by received answer after after_all
+unfolding part rest put joined lengths_of cut_by any least sum_to up_to ahead next body_at segment_at segments wanted broken opened
+    settled_by settled fate_by fate at_gap in_order psp_fate pass_all unnumbered_fate hear carried_out refused received_by received answer
+    after after_all
 stays_fresh = (refl, refl, refl, refl)
 
 -- One on flow 2 leaves what flow 1 holds: B gives its frame of 9.
 pub another_flow : (told (card (hand A ∷ [])) (hand (set A 4 0x02)) ≡ 0 ∷ 1 ∷ 6 ∷ 2 ∷ 0 ∷ [])
     × (told (card (hand A ∷ hand (set A 4 0x02) ∷ [])) (hand B) ≡ 0 ∷ 1 ∷ 9 ∷ 0 ∷ 0 ∷ [])
-unfolding part rest put joined lengths_of any least sum_to up_to ahead next body_at segment_at segments wanted broken opened settled_by settled
-    fate_by fate at_gap in_order psp_fate pass_all unnumbered_fate hear carried_out refused received_by received answer after after_all
+unfolding part rest put joined lengths_of any least sum_to up_to ahead next body_at segment_at segments wanted broken opened settled_by
+    settled fate_by fate at_gap in_order psp_fate pass_all unnumbered_fate hear carried_out refused received_by received answer after
+    after_all
 another_flow = (refl, refl)
 
 -- A whole frame of 2,048 bytes, one of 2,049; two whole frames between pieces: they come out in order, and nothing is held.
@@ -102,9 +106,9 @@ pub whole_ones_lem : (told (card []) (hand (one 0xC8 0x00 2048)) ≡ 0 ∷ 1 ∷
     × (s_set (sub (ip four)) ≡ false)
     × (whole_ones (segments entry_width (sub (ip four))) ≡ (0x41 ∷ 0x42 ∷ []) ∷ (0x51 ∷ []) ∷ [])
     × (others (segments entry_width (sub (ip four))) ≡ (0x31 ∷ []) ∷ (0x61 ∷ 0x62 ∷ 0x63 ∷ []) ∷ [])
-unfolding part rest put joined lengths_of cut_by any least sum_to up_to ahead next body_at segment_at segments wanted broken opened settled_by
-    settled fate_by fate at_gap in_order psp_fate pass_all unnumbered_fate hear carried_out refused received_by received answer after after_all
-    chosen
+unfolding part rest put joined lengths_of cut_by any least sum_to up_to ahead next body_at segment_at segments wanted broken opened
+    settled_by settled fate_by fate at_gap in_order psp_fate pass_all unnumbered_fate hear carried_out refused received_by received answer
+    after after_all chosen
 whole_ones_lem = (refl, refl, refl, refl, refl, refl, refl, refl)
 
 -- 8 is given neither by the check nor by the request for a segment.
@@ -124,9 +128,9 @@ pub account_without : (counted_by bytes_taken empty lent ≡ 15)
     × (counted_by bytes_dropped empty lent ≡ 6)
     × (held_in_all (table_after_all empty lent) ≡ 0)
     × (gathered dropped_by (empty_card (replicate 49152 0)) calls ≡ 0x21 ∷ 0x22 ∷ 0x31 ∷ 0x61 ∷ 0x62 ∷ 0x63 ∷ [])
-unfolding part rest put joined lengths_of cut_by any least sum_to up_to ahead next body_at segment_at segments wanted broken opened settled_by
-    settled fate_by fate at_gap in_order psp_fate pass_all unnumbered_fate hear carried_out refused received_by received answer after counted_by
-    table_after_all gathered
+unfolding part rest put joined lengths_of cut_by any least sum_to up_to ahead next body_at segment_at segments wanted broken opened
+    settled_by settled fate_by fate at_gap in_order psp_fate pass_all unnumbered_fate hear carried_out refused received_by received answer
+    after counted_by table_after_all gathered
 account_without = (refl, refl, refl, refl, refl)
 
 -- `unnumbered_delivers`, applied. Flow 1 of session 0x101 expects number 7 and holds 2 bytes. `four` comes over UDP, with 0x1234 in its
@@ -189,8 +193,8 @@ unfolding rest
 both_clear = (refl, refl)
 
 both_accepted : ((answer waiting (hands comes)).code ≡ 0) × ((answer beside (hands alone)).code ≡ 0)
-unfolding part rest put joined lengths_of any least sum_to up_to body_at segment_at segments wanted broken in_order pass_all unnumbered_fate hear
-    carried_out refused received_by received answer
+unfolding part rest put joined lengths_of any least sum_to up_to body_at segment_at segments wanted broken in_order pass_all
+    unnumbered_fate hear carried_out refused received_by received answer
 both_accepted = (refl, refl)
 
 -- what is in the packets, and what becomes of the flows' records
@@ -250,8 +254,8 @@ accepted_instance : ((answer waiting (hands comes)).code ≡ 0)
     × (check 1 comes.packet ≡ 0)
     × ((answer waiting (hands cut_short)).code ≡ 10)
     × (check 1 cut_short.packet ≡ 10)
-unfolding part rest put joined lengths_of any least sum_to up_to body_at segment_at segments wanted check check_refusals broken in_order pass_all
-    unnumbered_fate hear carried_out refused received_by received answer
+unfolding part rest put joined lengths_of any least sum_to up_to body_at segment_at segments wanted check check_refusals broken in_order
+    pass_all unnumbered_fate hear carried_out refused received_by received answer
 accepted_instance = (refl, refl, refl, refl)
 
 large-enough : (too_small (lent_with waiting comes) ≡ false) × (too_small (lent_with waiting cut_short) ≡ false)

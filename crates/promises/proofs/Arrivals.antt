@@ -102,7 +102,8 @@ module _ (start : ℕ) (packets : List Packet)
       Each (Counts packets) xs → WithinBound expected xs →
       frames_alone f held (those xs) ≡ along (in_time xs) expected held (drop expected packets)
   unfolding read_alone
-  arrivals_along f expected held [] hears waits sent within = sym (none_from (in_time []) expected held (drop expected packets) in_time-none)
+  arrivals_along f expected held [] hears waits sent within =
+      sym (none_from (in_time []) expected held (drop expected packets) in_time-none)
   arrivals_along f expected held (x ∷ xs) hears waits sent within =
       pick (λ g held' h w v. arrivals_along g (suc x) held' xs h w sent.1 v)
       (λ v. arrivals_along f expected held xs hears waits sent.1 v)
@@ -128,10 +129,12 @@ module _ (start : ℕ) (packets : List Packet)
           alone_late frames_read psp_terms f held (packet_at packets x) (those xs)
           (by_place f x sent.0 ∙ judge_behind f start expected hears waits x l within.1)
           ∙ stay (rw m at within.2)
-          ∙ sym (same_from (in_time (x ∷ xs)) (in_time xs) expected held (drop expected packets) (λ k i. in_time-after x xs k (omega arith)))
+          ∙ sym (same_from (in_time (x ∷ xs)) (in_time xs) expected held (drop expected packets)
+          (λ k i. in_time-after x xs k (omega arith)))
 
   -- a fresh flow takes any first place
-  pub window_along : (xs : List ℕ) → Each (Counts packets) xs → Window xs → frames_alone fresh [] (those xs) ≡ along (in_time xs) 0 [] packets
+  pub window_along : (xs : List ℕ) → Each (Counts packets) xs → Window xs →
+      frames_alone fresh [] (those xs) ≡ along (in_time xs) 0 [] packets
   unfolding read_alone
   window_along [] sent window = sym (none_from (in_time []) 0 [] packets in_time-none)
   window_along (x ∷ xs) sent window =

@@ -27,9 +27,11 @@ module _ (m : List ℕ → ℕ) (is : Measure m) where
 
   held_measured : (c : Card) → m (bytes_held c) ≡ kept_in_all (in_places m) c
   held_measured c =
-      measure_up_to m is (bytes_of_row c) rows ∙ sum_agree (λ r. m (bytes_of_row c r)) (kept_in_row (in_places m) c) rows (λ r l. row_measured c r)
+      measure_up_to m is (bytes_of_row c) rows
+      ∙ sum_agree (λ r. m (bytes_of_row c r)) (kept_in_row (in_places m) c) rows (λ r l. row_measured c r)
 
-  dropped_by_lem : (accepts : Bool) (c : Card) (r : ℕ) → m (cond accepts (bytes_of_row c r) []) ≡ cond accepts (kept_in_row (in_places m) c r) 0
+  dropped_by_lem : (accepts : Bool) (c : Card) (r : ℕ) →
+      m (cond accepts (bytes_of_row c r) []) ≡ cond accepts (kept_in_row (in_places m) c r) 0
   dropped_by_lem true c r = row_measured c r
   dropped_by_lem false c r = is.none
 

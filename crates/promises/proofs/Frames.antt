@@ -57,7 +57,8 @@ module _ (came : ℕ → Bool) where
 
   -- one frame: it is given where its every segment came, and nothing of it stays held
   whole : (f : Pieces) (ks : List ℕ) (ss : List Segment) → FrameSized f → Each Filled f → length f ≤ length ks →
-      walk came [] ks (whole_frame true f ++ ss) ≡ keep (every came (part ks 0 (length f))) (joined f) (walk came [] (rest ks (length f)) ss)
+      walk came [] ks (whole_frame true f ++ ss)
+      ≡ keep (every came (part ks 0 (length f))) (joined f) (walk came [] (rest ks (length f)) ss)
   unfolding whole_frame
   whole [] ks ss sized filled enough = absurd (omega (arith, sized.0, length-joined-none))
   whole (p ∷ []) [] ss sized filled enough = absurd (omega arith)

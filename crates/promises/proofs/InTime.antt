@@ -40,12 +40,16 @@ test_means (x ∷ xs) k e = pick (ltb x k) refl (test_means xs k) e
           arrival = suc r.arrival;
           there = omega (arith, r.there);
           of_it = r.of_it;
-          none_later = λ j. elim j as (λ j. j < suc r.arrival → get_or (x ∷ xs) j 0 ≤ k) [ zero ↦ λ i. omega (arith, ltb-true x k l) | suc j' ↦ λ i. r.none_later j' (omega arith) ];
+          none_later = λ j. elim j as (λ j. j < suc r.arrival → get_or (x ∷ xs) j 0 ≤ k) [
+            | zero ↦ λ i. omega (arith, ltb-true x k l)
+            | suc j' ↦ λ i. r.none_later j' (omega arith)
+          ];
         }
     pick false l later e' = record { arrival = 0; there = omega arith; of_it = eqb-true x k e'; none_later = λ j i. absurd (omega arith) }
 
 -- and back
-pub meant_passes : (xs : List ℕ) (k arrival : ℕ) → arrival < length xs → get_or xs arrival 0 ≡ k → ((j : ℕ) → j < arrival → get_or xs j 0 ≤ k) →
+pub meant_passes : (xs : List ℕ) (k arrival : ℕ) → arrival < length xs → get_or xs arrival 0 ≡ k →
+    ((j : ℕ) → j < arrival → get_or xs j 0 ≤ k) →
     in_time xs k ≡ true
 unfolding in_time
 meant_passes [] k arrival there of_it none_later = absurd (omega arith)

@@ -63,7 +63,8 @@ on_its_flow flow k false e [] = refl
 on_its_flow flow k true e (f ∷ frames) = rw e (ap (λ (fs : List (List ℕ)). f ∷ fs) (on_its_flow flow k true e frames))
 on_its_flow flow k false e (f ∷ frames) = rw e (on_its_flow flow k false e frames)
 
-on_flow-joined : (flow : ℕ) (a b : List Delivery) → frames_in (on_flow flow (a ++ b)) ≡ frames_in (on_flow flow a) ++ frames_in (on_flow flow b)
+on_flow-joined : (flow : ℕ) (a b : List Delivery) →
+    frames_in (on_flow flow (a ++ b)) ≡ frames_in (on_flow flow a) ++ frames_in (on_flow flow b)
 on_flow-joined flow a b =
     ap frames_in (chosen-joined (λ (d : Delivery). eqb d.flow flow) a b)
     ∙ map-append (λ (d : Delivery). d.frame) (on_flow flow a) (on_flow flow b)
@@ -166,7 +167,8 @@ flow_by_flow (d ∷ ds) (l, rows) each = (
     first_of : Each Good (frames_in (d ∷ on_flow d.flow ds)) → Good d.frame
     first_of g = g.0
 
-    behind : (k : ℕ) (own : Bool) → Each Good (frames_in (cond own (d ∷ on_flow k ds) (on_flow k ds))) → Each Good (frames_in (on_flow k ds))
+    behind : (k : ℕ) (own : Bool) → Each Good (frames_in (cond own (d ∷ on_flow k ds) (on_flow k ds))) →
+        Each Good (frames_in (on_flow k ds))
     behind k true g = g.1
     behind k false g = g
 

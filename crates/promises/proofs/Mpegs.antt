@@ -47,7 +47,8 @@ dropped_are packets =
 mpegs-whole : (sub : List ℕ) → header_length ≤ length sub → Each (λ m. length m ≡ mpeg_length) (mpegs sub)
 unfolding mpegs
 mpegs-whole sub header =
-    each-up_to (λ m. length m ≡ mpeg_length) (mpeg_at sub) (mpeg_count sub) (λ k there. mpeg_length_lem sub k (mpeg_inside sub k header there))
+    each-up_to (λ m. length m ≡ mpeg_length) (mpeg_at sub) (mpeg_count sub)
+    (λ k there. mpeg_length_lem sub k (mpeg_inside sub k header there))
 
 module _ (t : Table) (packet : Packet) (s : Slices) (d : is_dmpt (terms_at t (row_of t packet)).kind ≡ true)
     (z : (received t packet s).answer.code ≡ 0) where

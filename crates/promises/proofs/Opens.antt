@@ -56,7 +56,8 @@ ids_distinct : (t : Table) → broken t ≡ false → (r : ℕ) → r ≤ rows �
 ids_distinct t whole zero l = tt
 ids_distinct t whole (suc r) l = pick (free_in t r) refl (ids_distinct t whole r (omega arith))
   where
-    pick : (free : Bool) → free_in t r ≡ free → Distinct (open_ids t r) → Distinct (cond free (open_ids t r) ((row_at t r).id ∷ open_ids t r))
+    pick : (free : Bool) → free_in t r ≡ free → Distinct (open_ids t r) →
+        Distinct (cond free (open_ids t r) ((row_at t r).id ∷ open_ids t r))
     pick true e below = below
     pick false e below = (new_id t whole r (omega arith) e, below)
 

@@ -56,7 +56,8 @@ all_filled (p ∷ packets) passing =
     each_both HasBytes (segments_of entry_width p) (all_segments entry_width packets) (segments_filled p passing.0)
     (all_filled packets passing.1)
 
-pub all_some : (packets : List Packet) → Each (λ p. check kind_psp p ≡ 0) packets → Each (λ p. 1 ≤ length (segments_of entry_width p)) packets
+pub all_some : (packets : List Packet) → Each (λ p. check kind_psp p ≡ 0) packets →
+    Each (λ p. 1 ≤ length (segments_of entry_width p)) packets
 all_some [] passing = tt
 all_some (p ∷ packets) passing = (some_segment p passing.0, all_some packets passing.1)
 

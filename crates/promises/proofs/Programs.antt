@@ -40,7 +40,8 @@ use Rattle.sender.specs.Series.{Job, start_of_frame, series_packets, go_out}
 use Rattle.sender.specs.Rules.{Addressed}
 use Rattle.mpeg.specs.Frame.{Good}
 use Rattle.mpeg.specs.Write.{carried}
-use Rattle.mpeg.specs.Run.{Backlog, no_backlog, Burst, added, waiting_in, left_in, packet_next, after_next, run_packets, run_end, GoodBursts}
+use Rattle.mpeg.specs.Run.{Backlog, no_backlog, Burst, added, waiting_in, left_in, packet_next, after_next, run_packets, run_end}
+use Rattle.mpeg.specs.Run.{GoodBursts}
 use Rattle.mpeg.specs.Run.{all_frames}
 use Rattle.mpeg.proofs.Frames.{good-some}
 use Rattle.mpeg.proofs.RunsRead.{some-carried, runs_are_read, all_come_back}

@@ -20,7 +20,8 @@ use Rattle.table.specs.declared.Request.{Request}
 use Rattle.table.specs.declared.Terms.{Terms}
 use Rattle.table.specs.declared.Row.{Row}
 use Rattle.table.specs.declared.Table.{Table}
-use Rattle.table.specs.Rows.{rows, is_closed, no_row, terms_of, terms_at, row_at, flow_at, closed_row, open_in, find, free_in, lowest_free, with_row}
+use Rattle.table.specs.Rows.{rows, is_closed, no_row, terms_of, terms_at, row_at, flow_at, closed_row, open_in, find, free_in}
+use Rattle.table.specs.Rows.{lowest_free, with_row}
 use Rattle.table.specs.Calls.{fresh_row, opened, closed}
 use Rattle.table.proofs.Keeping.{opened-there, opened-table, opened-code, opens, closed-table, closed-code, closes}
 use Rattle.card.specs.Receive.{place_of}

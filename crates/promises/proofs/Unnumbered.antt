@@ -92,7 +92,8 @@ check_lacks kind p = lacks_by (eqb kind kind_psp) 8 (psp_refusals entry_width (s
 -- what comes before the session's row, the row's, and 12
 data_lacks : (t : Table) (p : Packet) (s : Slices) → lacks 8 (data_refusals t p s) ≡ true
 data_lacks t p s =
-    lacks_both 8 (packet_refusals (terms_at t (row_of t p)) (sub p)) (12 when (judged_of (flow_of t (row_of t p) (sub p)) (sub p)).late ∷ [])
+    lacks_both 8 (packet_refusals (terms_at t (row_of t p)) (sub p))
+    (12 when (judged_of (flow_of t (row_of t p) (sub p)) (sub p)).late ∷ [])
     (lacks_by (is_dmpt (terms_at t (row_of t p)).kind) 8 (dmpt_refusals (sub p)) (psp_refusals entry_width (sub p)) refl refl) refl
 
 opens_lack : (t : Table) (q : Request) → (opened t q).code ≡ 8 → ⊥
@@ -135,7 +136,8 @@ module _ (t : Table) (p : Packet) (s : Slices) (clear : s_set (sub p) ≡ false)
   unfolding check check_refusals
   check_is = refl
 
-  pub as_checked : too_small s ≡ false → broken t ≡ false → is_open t (session_id p) ≡ true → is_dmpt (terms_at t (row_of t p)).kind ≡ false →
+  pub as_checked : too_small s ≡ false → broken t ≡ false → is_open t (session_id p) ≡ true →
+      is_dmpt (terms_at t (row_of t p)).kind ≡ false →
       (received t p s).answer.code ≡ check kind_psp p
   as_checked large whole live d =
       received-code t p s

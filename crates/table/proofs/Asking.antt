@@ -137,7 +137,8 @@ agree false false h = refl
 closed_by_id : (row : Row) → row_broken row ≡ false → is_closed row.kind ≡ eqb row.id 0
 closed_by_id row sound =
     agree (is_closed row.kind) (eqb row.id 0)
-    (or-false-right (kind_broken row) (id_broken row) (or-false-left (kind_broken row || id_broken row) (any (flow_broken_in row) flows) sound))
+    (or-false-right (kind_broken row) (id_broken row)
+    (or-false-left (kind_broken row || id_broken row) (any (flow_broken_in row) flows) sound))
 
 -- So two of them have one ID open exactly where their IDs are the same and not 0.
 same_ids : (a b : ℕ) → (not (eqb a 0) && not (eqb b 0) && eqb a b) ≡ (eqb b a && not_zero a)
@@ -239,7 +240,8 @@ id_asked ids i within =
     (true-or-false (eqb (get_or ids i 0) 0))
 
 -- A number that says a kind, and one that says none.
-told_kind : (unknown : Bool) (kind told : Kind) → cond unknown (Err refusal.NumberUnknown) (Ok kind) ≡ Ok told → (unknown ≡ false) × (kind ≡ told)
+told_kind : (unknown : Bool) (kind told : Kind) → cond unknown (Err refusal.NumberUnknown) (Ok kind) ≡ Ok told →
+    (unknown ≡ false) × (kind ≡ told)
 told_kind true kind told e = cc
 told_kind false kind told e = (refl, cc)
 

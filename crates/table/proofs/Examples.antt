@@ -37,7 +37,8 @@ six = record { rows = row_of 7 1 ∷ row_of 8 2 ∷ row_of 9 1 ∷ row_of 10 1 �
 abbrev five : Table
 five = with_row six 5 closed_row
 
-opened_so : (opened_as empty 7 kind.Psp ≡ record { code = 0; table = one }) × (opened_as five 12 kind.Psp ≡ record { code = 0; table = six })
+opened_so : (opened_as empty 7 kind.Psp ≡ record { code = 0; table = one })
+    × (opened_as five 12 kind.Psp ≡ record { code = 0; table = six })
     × (opened_as (with_row one 0 closed_row) 7 kind.Psp ≡ record { code = 0; table = one })
     × (opened_as (with_row six 1 closed_row) 8 kind.Dmpt ≡ record { code = 0; table = six })
 unfolding opened broken any least
@@ -68,7 +69,8 @@ again = (refl, refl)
 -- closing: what the flows hold is dropped, in one flow and in two; the row is emptied; a session that is not open, and ID 0
 closes-answered : ((closed (with_flow one 0 3 (flow_of_lem 1 5 2048)) 7).dropped ≡ 2048)
     × ((closed (with_flow (with_flow one 0 3 (flow_of_lem 1 5 2048)) 0 1 (flow_of_lem 1 5 10)) 7).dropped ≡ 2058)
-    × ((closed (with_flow one 0 3 (flow_of_lem 1 5 2048)) 7).code ≡ 0) × ((closed (with_flow one 0 3 (flow_of_lem 1 5 2048)) 7).table ≡ empty)
+    × ((closed (with_flow one 0 3 (flow_of_lem 1 5 2048)) 7).code ≡ 0)
+    × ((closed (with_flow one 0 3 (flow_of_lem 1 5 2048)) 7).table ≡ empty)
     × ((closed one 7).table ≡ empty) × ((closed one 7).dropped ≡ 0) × ((closed one 8).code ≡ 25) × ((closed one 0).code ≡ 25)
     × ((closed empty 0).code ≡ 25)
     × ((closed (with_flow one 0 3 (flow_of_lem 1 5 10)) 8).dropped ≡ 0)
@@ -109,7 +111,8 @@ unfolding opened broken any least
 not-broken = (refl, refl, refl, refl, refl)
 
 -- a closed row has four flows, all zero
-four-flows : closed_row ≡ record { id = 0; kind = 0; flows = flow_of_lem 0 0 0 ∷ flow_of_lem 0 0 0 ∷ flow_of_lem 0 0 0 ∷ flow_of_lem 0 0 0 ∷ [] }
+four-flows : closed_row
+    ≡ record { id = 0; kind = 0; flows = flow_of_lem 0 0 0 ∷ flow_of_lem 0 0 0 ∷ flow_of_lem 0 0 0 ∷ flow_of_lem 0 0 0 ∷ [] }
 four-flows = refl
 
 kinds : (is_dmpt kind.Psp ≡ false) × (is_dmpt kind.Dmpt ≡ true) × (kind_in 1 ≡ kind.Psp) × (kind_in 2 ≡ kind.Dmpt)
@@ -142,7 +145,8 @@ asked_by_number = (refl, refl, refl, refl, refl, refl)
 -- every flow of the closed row is counted, and of no other row: session 9 stands in row 2, session 7 in row 0
 abbrev holding : Table
 holding =
-    with_flow (with_flow (with_flow (with_flow (with_flow six 2 0 (flow_of_lem 1 5 1)) 2 1 (flow_of_lem 1 5 10)) 2 2 (flow_of_lem 1 5 100)) 2 3
+    with_flow (with_flow (with_flow (with_flow (with_flow six 2 0 (flow_of_lem 1 5 1)) 2 1 (flow_of_lem 1 5 10)) 2 2 (flow_of_lem 1 5 100))
+    2 3
     (flow_of_lem 1 5 1000))
     0 0 (flow_of_lem 1 5 2000)
 

@@ -78,7 +78,10 @@ pub unbroken : (t : Table) → ((r : ℕ) → r < rows → row_broken (row_at t 
 unfolding broken
 unbroken t sound apart =
     none_all (λ r. row_broken (row_at t r) || open_twice t r) rows
-    (λ r l. simp (sound r l, none_all (λ r'. same_open (row_at t r) (row_at t r')) r (λ r' m. apart r r' l (omega arith) (λ e. omega arith))))
+    (λ r l. simp (
+      sound r l,
+      none_all (λ r'. same_open (row_at t r) (row_at t r')) r (λ r' m. apart r r' l (omega arith) (λ e. omega arith)),
+    ))
 
 pub empty-unbroken : broken empty ≡ false
 unfolding broken any
@@ -229,7 +232,8 @@ and_less_last : (a b c : Bool) → (a && (b || c)) ≡ false → (a && (b || fal
 and_less_last true b c h = rw (or-false-left b c h) refl
 and_less_last false b c h = refl
 
-emptied-sound : (closed dmpt : Bool) (k : ℕ) (f : Flow) → flow_broken closed dmpt k f ≡ false → flow_broken closed dmpt k (emptied f) ≡ false
+emptied-sound : (closed dmpt : Bool) (k : ℕ) (f : Flow) → flow_broken closed dmpt k f ≡ false →
+    flow_broken closed dmpt k (emptied f) ≡ false
 emptied-sound closed dmpt k f whole =
     let kept = not_zero f.heard || not_zero f.expected in
     let astray = not_zero k && not (is_fresh f) in

@@ -20,8 +20,9 @@ use Rattle.table.specs.declared.Terms.{Terms}
 abbrev pub rows : ℕ
 rows = 6
 
--- The kind number of a row: 0 closed, else the kind of its session. Of 0, and of a number above 2, `kind_in` says PSP, and no answer depends
--- on it: a closed row is held to all zeros, a kind above 2 is broken whatever its flows are, and 13 and 5 come before a packet is read.
+-- The kind number of a row: 0 closed, else the kind of its session. Of 0, and of a number above 2, `kind_in` says PSP, and no answer
+-- depends on it: a closed row is held to all zeros, a kind above 2 is broken whatever its flows are, and 13 and 5 come before a packet is
+-- read.
 abbrev pub closed_kind : ℕ
 closed_kind = 0
 

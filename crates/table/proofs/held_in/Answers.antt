@@ -9,4 +9,7 @@ loop-flow-init c = record { total = sym (sum-none (λ k. (flow_at c.args.row.now
 pub loop-flow-preserved : goal.loop-flow-preserved
 loop-flow-preserved c =
     let held : ℕ → ℕ = λ k. (flow_at c.args.row.now k).held in
-    record { total = rw (c.loop-flow.invariant.total, c.from-held.ensures) (sym (sum_more held c.loop-flow.flow-index)); within = omega arith }
+    record {
+      total = rw (c.loop-flow.invariant.total, c.from-held.ensures) (sym (sum_more held c.loop-flow.flow-index));
+      within = omega arith;
+    }

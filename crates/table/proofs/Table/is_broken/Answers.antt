@@ -15,14 +15,16 @@ pub returns-then-any : goal.returns-then-any
 returns-then-any c =
     let six : length c.args.self.now.rows ≡ 6 = search rules in
     let told : c.any.result ≡ list_any row_broken c.args.self.now.rows =
-    any_from_yields_List row_broken _ _ _ c.any.ensures.ran (YieldsList-from_slice c.args.self.now.rows cc) (λ x b q k. search (rules, tests)) in
+    any_from_yields_List row_broken _ _ _ c.any.ensures.ran (YieldsList-from_slice c.args.self.now.rows cc)
+    (λ x b q k. search (rules, tests)) in
     c.if-any.true ∙ sym (row_breaks c.args.self.now (sym (told ∙ rows-asked c.args.self.now six) ∙ c.if-any.true))
 
 pub returns-else-any : goal.returns-else-any
 returns-else-any c =
     let six : length c.args.self.now.rows ≡ 6 = search rules in
     let told : c.any.result ≡ list_any row_broken c.args.self.now.rows =
-    any_from_yields_List row_broken _ _ _ c.any.ensures.ran (YieldsList-from_slice c.args.self.now.rows cc) (λ x b q k. search (rules, tests)) in
+    any_from_yields_List row_broken _ _ _ c.any.ensures.ran (YieldsList-from_slice c.args.self.now.rows cc)
+    (λ x b q k. search (rules, tests)) in
     c.any_id_twice.ensures
     ∙ ap (λ (ids : List ℕ). any (λ r. any (id_twice ids r) r) rows) c.ids_of.ensures
     ∙ sym (ids_break c.args.self.now (sym (told ∙ rows-asked c.args.self.now six) ∙ c.if-any.false))
