@@ -7,6 +7,8 @@ ghost use Rattle.trace.specs.Trace.{frame_line};
 ghost use Rattle.replay.specs.Inside.{Findable};
 ghost use Rattle.trace.specs.Inside.{frame_room, frames_room};
 
+use replay::Lent;
+
 // Room for the lines of a call's frames: in each a word, and the end of the line; and two digits for each byte.
 pub const FRAMES_ROOM: usize = 8 * card::MOST_FRAMES + 2 * card::MOST_BYTES;
 
@@ -22,23 +24,17 @@ fn write_frame(text: &mut [u8], at: usize, bytes: &[u8], from: usize, size: usiz
 }
 
 // Writes a line for each of the frames that stand back to back in the output.
-pub fn write_frames(
-    text: &mut [u8],
-    at: usize,
-    output: &[u8],
-    lengths: &[u16],
-    count: usize,
-) -> usize
-    requires { Findable output.now lengths.now count × (at + frames_room ≤ length text.old) }
+pub fn write_frames(text: &mut [u8], at: usize, lent: &Lent, count: usize) -> usize
+    requires { Findable lent.now.output.now lent.now.lengths.now count × (at + frames_room ≤ length text.old) }
     ensures wrote { Wrote text.old text.new at result
-        (joined (map frame_line (frames_found count lengths.now output.now))) }
+        (joined (map frame_line (frames_found count lent.now.lengths.now lent.now.output.now))) }
     ensures upper_bound { result ≤ at + frames_room }
 {
     let mut next = at;
     let mut from: usize = 0;
-    for &length in &lengths[..count] {
+    for &length in &lent.lengths[..count] {
         let size = usize::from(length);
-        next = write_frame(text, next, output, from, size);
+        next = write_frame(text, next, lent.output, from, size);
         from += size;
     }
     next
