@@ -10,7 +10,7 @@ ghost use Rattle.replay.specs.Inside.{Unused};
 ghost use Rattle.trace.specs.Inside.{entry_room};
 
 use capture::reader;
-use replay::Walk;
+use replay::{Lent, Rooms, Walk};
 use std::io::Write;
 
 fn main(rt: HostRuntime) {
@@ -31,26 +31,17 @@ fn trace(stdout: &mut impl Write, file: &[u8], text: &mut [u8])
     }
     let length = listing::line::write_heading(text, 0);
     tool::write_output(stdout, &text[..length]);
-    let mut holding = replay::holding_room();
-    let mut output = replay::output_room();
-    let mut lengths = replay::lengths_room();
-    trace_entries(stdout, file, &mut holding, &mut output, &mut lengths, text);
+    let mut rooms = Rooms::new();
+    trace_entries(stdout, file, &mut rooms.lend(), text);
 }
 
 // Traces the entries of a sound file, one after another.
-fn trace_entries(
-    stdout: &mut impl Write,
-    file: &[u8],
-    holding: &mut [u8],
-    output: &mut [u8],
-    lengths: &mut [u16],
-    text: &mut [u8],
-)
-    requires { Unused file.now holding.old output.old lengths.old × (entry_room ≤ length text.old) }
+fn trace_entries(stdout: &mut impl Write, file: &[u8], lent: &mut Lent, text: &mut [u8])
+    requires { Unused file.now lent.old × (entry_room ≤ length text.old) }
 {
     let mut walk = Walk::begin(file);
     for _ in 0..reader::entry_count(file) {
-        let length = trace::trace_entry(file, &mut walk, holding, output, lengths, text);
+        let length = trace::trace_entry(file, &mut walk, lent, text);
         tool::write_output(stdout, &text[..length]);
     }
 }
