@@ -18,8 +18,8 @@ use text::Text;
 fn main(rt: HostRuntime) {
     let mut file = [0u8; tool::CAPTURE_ROOM];
     let read = tool::read_input(&mut rt.stdin(), &mut file);
-    let mut text = [0u8; trace::ENTRY_ROOM];
-    trace(&mut rt.stdout(), &file[..read], &mut text);
+    let mut room = [0u8; trace::ENTRY_ROOM];
+    trace(&mut rt.stdout(), &file[..read], &mut room);
 }
 
 // Traces a capture; or says that it is refused.
@@ -47,13 +47,14 @@ fn trace_entries(
     holding: &mut [u8],
     output: &mut [u8],
     lengths: &mut [u16],
-    text: &mut [u8],
+    room: &mut [u8],
 )
-    requires { Unused file.now holding.old output.old lengths.old × (entry_room ≤ length text.old) }
+    requires { Unused file.now holding.old output.old lengths.old × (entry_room ≤ length room.old) }
 {
     let mut walk = Walk::begin(file);
     for _ in 0..reader::entry_count(file) {
-        let length = trace::trace_entry(file, &mut walk, holding, output, lengths, text);
-        tool::write_output(stdout, &text[..length]);
+        let mut text = Text::new(room);
+        trace::trace_entry(file, &mut walk, holding, output, lengths, &mut text);
+        tool::write_output(stdout, text.written());
     }
 }
