@@ -1,55 +1,60 @@
 // The lines of a listing.
-ghost use Rattle.std.specs.Prelude.{◌+◌, ◌≤◌, length};
-ghost use Rattle.text.specs.Text.{Wrote};
+ghost use Rattle.std.specs.Prelude.{◌+◌, ◌≤◌};
+ghost use Rattle.text.specs.Text.{Appended, SameRoom, HasRoom};
 ghost use Rattle.listing.specs.Listing.{heading, word_for, columns, line};
 ghost use Rattle.listing.specs.Inside.{word_room, columns_room, line_room, heading_room, numbers_of};
 
 use capture::Kind;
 use card::Received;
+use text::Text;
 
 // Writes the heading.
-pub fn write_heading(text: &mut [u8], at: usize) -> usize
-    requires { at + heading_room ≤ length text.old }
-    ensures { Wrote text.old text.new at result heading }
+pub fn write_heading(text: &mut Text)
+    requires { HasRoom text.old heading_room }
+    ensures wrote { Appended text.old text.new heading }
+    ensures same_room { SameRoom text.old text.new }
 {
-    text::write_words(text, at, b"n what code frames bytes dropped gap\n")
+    text.words(b"n what code frames bytes dropped gap\n");
 }
 
 // Writes what an entry of this kind is.
-fn write_kind(text: &mut [u8], at: usize, kind: u8) -> usize
-    requires { at + word_room ≤ length text.old }
-    ensures wrote { Wrote text.old text.new at result (word_for kind) }
-    ensures upper_bound { result ≤ at + word_room }
+fn write_kind(text: &mut Text, kind: u8)
+    requires { HasRoom text.old word_room }
+    ensures wrote { Appended text.old text.new (word_for kind) }
+    ensures same_room { SameRoom text.old text.new }
+    ensures upper_bound { text.new.length ≤ text.old.length + word_room }
 {
     match Kind::try_from(kind) {
-        Ok(Kind::OpenPsp | Kind::OpenDmpt) => text::write_words(text, at, b"open"),
-        Ok(Kind::Close) => text::write_words(text, at, b"close"),
-        _ => text::write_words(text, at, b"data"),
+        Ok(Kind::OpenPsp | Kind::OpenDmpt) => text.words(b"open"),
+        Ok(Kind::Close) => text.words(b"close"),
+        _ => text.words(b"data"),
     }
 }
 
 // Writes the columns of an answer.
-fn write_columns(text: &mut [u8], at: usize, ran: Received) -> usize
-    requires { at + columns_room ≤ length text.old }
-    ensures wrote { Wrote text.old text.new at result (columns (numbers_of ran)) }
-    ensures upper_bound { result ≤ at + columns_room }
+fn write_columns(text: &mut Text, ran: Received)
+    requires { HasRoom text.old columns_room }
+    ensures wrote { Appended text.old text.new (columns (numbers_of ran)) }
+    ensures same_room { SameRoom text.old text.new }
+    ensures upper_bound { text.new.length ≤ text.old.length + columns_room }
 {
-    let behind_code = text::write_column(text, at, ran.code);
-    let behind_frames = text::write_column(text, behind_code, ran.frames);
-    let behind_bytes = text::write_column(text, behind_frames, ran.bytes);
-    let behind_dropped = text::write_column(text, behind_bytes, ran.dropped);
-    text::write_column(text, behind_dropped, ran.gap)
+    text.column(ran.code);
+    text.column(ran.frames);
+    text.column(ran.bytes);
+    text.column(ran.dropped);
+    text.column(ran.gap);
 }
 
 // Writes the line of an entry.
-pub fn write_line(text: &mut [u8], at: usize, index: u32, kind: u8, ran: Received) -> usize
-    requires { at + line_room ≤ length text.old }
-    ensures wrote { Wrote text.old text.new at result (line index kind (numbers_of ran)) }
-    ensures upper_bound { result ≤ at + line_room }
+pub fn write_line(text: &mut Text, index: u32, kind: u8, ran: Received)
+    requires { HasRoom text.old line_room }
+    ensures wrote { Appended text.old text.new (line index kind (numbers_of ran)) }
+    ensures same_room { SameRoom text.old text.new }
+    ensures upper_bound { text.new.length ≤ text.old.length + line_room }
 {
-    let behind_index = text::write_decimal(text, at, index);
-    let behind_space = text::write_byte(text, behind_index, b' ');
-    let behind_kind = write_kind(text, behind_space, kind);
-    let behind_columns = write_columns(text, behind_kind, ran);
-    text::write_byte(text, behind_columns, b'\n')
+    text.decimal(index);
+    text.byte(b' ');
+    write_kind(text, kind);
+    write_columns(text, ran);
+    text.byte(b'\n');
 }

@@ -5,6 +5,7 @@ ghost use Rattle.outputs.specs.Back.{got_back};
 ghost use Rattle.mpegframes.specs.Rooms.{most_read, text_room};
 
 use mpeg::reader;
+use text::Text;
 
 // The most bytes that are read.
 pub const MOST_READ: usize = 65536;
@@ -21,7 +22,9 @@ pub fn get_back(packets: &[u8], text: &mut [u8]) -> usize
     let mut lengths: [u16; MOST_READ] = tool::room(0);
     let back = reader::read(packets, &mut output, &mut lengths);
     if back.code != refusal::NONE {
-        return tool::write_refused(text, 0, back.code);
+        let mut text = Text::new(text);
+        tool::write_refused(&mut text, back.code);
+        return text.length;
     }
     let total = back.bytes;
     let count = back.frames;

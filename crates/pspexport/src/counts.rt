@@ -4,6 +4,7 @@ ghost use Rattle.text.specs.Text.{Wrote};
 ghost use Rattle.pspexport.specs.Counts.{counts_of, counts_room};
 
 use pcap::export::Exported;
+use text::Text;
 
 // Room for it.
 pub const COUNTS_ROOM: usize = 35;
@@ -14,6 +15,8 @@ pub fn write_counts(exported: Exported, text: &mut [u8]) -> usize
     requires counts_room_in_bounds { counts_room ≤ length text.old }
     ensures { Wrote text.old text.new 0 result (counts_of exported) }
 {
-    let opens = tool::write_line(text, 0, b"opens", exported.opens as u32);
-    tool::write_line(text, opens, b"closes", exported.closes as u32)
+    let mut text = Text::new(text);
+    tool::write_line(&mut text, b"opens", exported.opens as u32);
+    tool::write_line(&mut text, b"closes", exported.closes as u32);
+    text.length
 }

@@ -4,6 +4,7 @@ ghost use Rattle.text.specs.Text.{Wrote};
 ghost use Rattle.pspimport.specs.Counts.{counts_of, counts_room};
 
 use pcap::import::Imported;
+use text::Text;
 
 // Room for it.
 pub const COUNTS_ROOM: usize = 80;
@@ -15,8 +16,10 @@ pub fn write_counts(imported: Imported, text: &mut [u8]) -> usize
     requires counts_room_in_bounds { counts_room ≤ length text.old }
     ensures { Wrote text.old text.new 0 result (counts_of imported) }
 {
-    let foreign = tool::write_line(text, 0, b"not-ipv4", imported.foreign as u32);
-    let misfits = tool::write_line(text, foreign, b"bad-lengths", imported.misfits as u32);
-    let fragments = tool::write_line(text, misfits, b"fragment", imported.fragments as u32);
-    tool::write_line(text, fragments, b"other", imported.others as u32)
+    let mut text = Text::new(text);
+    tool::write_line(&mut text, b"not-ipv4", imported.foreign as u32);
+    tool::write_line(&mut text, b"bad-lengths", imported.misfits as u32);
+    tool::write_line(&mut text, b"fragment", imported.fragments as u32);
+    tool::write_line(&mut text, b"other", imported.others as u32);
+    text.length
 }

@@ -21,6 +21,7 @@ use gather::Gathered;
 use replay::Rooms;
 use std::env::Env;
 use std::io::{Read, Write};
+use text::Text;
 use tool::number;
 
 fn usage(stderr: &mut impl Write) {
@@ -62,7 +63,9 @@ fn write_stream(file: &[u8], session: u32, text: &mut [u8]) -> usize
     ensures { Wrote text.old text.new 0 result (stream session file.now) }
 {
     if let Err(refusal) = reader::check(file) {
-        return tool::write_refused(text, 0, u32::from(refusal));
+        let mut text = Text::new(text);
+        tool::write_refused(&mut text, u32::from(refusal));
+        return text.length;
     }
     let mut rooms = Rooms::new();
     let mut bytes = [0u8; capture::LONGEST_FILE];

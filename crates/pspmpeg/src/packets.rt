@@ -5,6 +5,7 @@ ghost use Rattle.capture.specs.File.{longest_file};
 ghost use Rattle.pspmpeg.specs.Inside.{stream_room, stream_from};
 
 use mpeg::writer;
+use text::Text;
 
 // Room for the packets of as many bytes as a capture has. Every packet but the last carries 183 at least.
 pub const STREAM_ROOM: usize = ts::MPEG_LENGTH * (capture::LONGEST_FILE / mpeg::POINTED_LENGTH + 1);
@@ -20,7 +21,9 @@ pub fn write_packets(bytes: &[u8], sizes: &[u16], text: &mut [u8]) -> usize
     let packet: &mut [u8] = &mut room;
     let first = writer::write(bytes, sizes, 0, 0, packet);
     if first.code != refusal::NONE {
-        return tool::write_refused(text, 0, first.code);
+        let mut text = Text::new(text);
+        tool::write_refused(&mut text, first.code);
+        return text.length;
     }
     let mut place: usize = 0;
     let mut count: u8 = 0;

@@ -10,38 +10,42 @@ ghost use Rattle.replay.specs.Inside.{Unused};
 ghost use Rattle.trace.specs.Inside.{entry_room};
 
 use capture::reader;
+use listing::line;
 use replay::{Lent, Rooms, Walk};
 use std::io::Write;
+use text::Text;
 
 fn main(rt: HostRuntime) {
     let mut file = [0u8; tool::CAPTURE_ROOM];
     let read = tool::read_input(&mut rt.stdin(), &mut file);
-    let mut text = [0u8; trace::ENTRY_ROOM];
-    trace(&mut rt.stdout(), &file[..read], &mut text);
+    let mut room = [0u8; trace::ENTRY_ROOM];
+    trace(&mut rt.stdout(), &file[..read], &mut room);
 }
 
 // Traces a capture; or says that it is refused.
-fn trace(stdout: &mut impl Write, file: &[u8], text: &mut [u8])
-    requires { entry_room ≤ length text.old }
+fn trace(stdout: &mut impl Write, file: &[u8], room: &mut [u8])
+    requires { entry_room ≤ length room.old }
 {
+    let mut text = Text::new(room);
     if let Err(refusal) = reader::check(file) {
-        let length = tool::write_refused(text, 0, u32::from(refusal));
-        tool::write_output(stdout, &text[..length]);
+        tool::write_refused(&mut text, u32::from(refusal));
+        tool::write_output(stdout, text.written());
         return;
     }
-    let length = listing::line::write_heading(text, 0);
-    tool::write_output(stdout, &text[..length]);
+    line::write_heading(&mut text);
+    tool::write_output(stdout, text.written());
     let mut rooms = Rooms::new();
-    trace_entries(stdout, file, &mut rooms.lend(), text);
+    trace_entries(stdout, file, &mut rooms.lend(), room);
 }
 
 // Traces the entries of a sound file, one after another.
-fn trace_entries(stdout: &mut impl Write, file: &[u8], lent: &mut Lent, text: &mut [u8])
-    requires { Unused file.now lent.old × (entry_room ≤ length text.old) }
+fn trace_entries(stdout: &mut impl Write, file: &[u8], lent: &mut Lent, room: &mut [u8])
+    requires { Unused file.now lent.old × (entry_room ≤ length room.old) }
 {
     let mut walk = Walk::begin(file);
     for _ in 0..reader::entry_count(file) {
-        let length = trace::trace_entry(file, &mut walk, lent, text);
-        tool::write_output(stdout, &text[..length]);
+        let mut text = Text::new(room);
+        trace::trace_entry(file, &mut walk, lent, &mut text);
+        tool::write_output(stdout, text.written());
     }
 }

@@ -1,6 +1,6 @@
 -- Texts one behind the other are one text; and the digits of a number.
 use Prim.Native.Nat.{ℕ, zero, suc, ◌+◌, ◌*◌, ◌/◌, ◌%◌, ◌<◌, ◌≤◌}
-use mathlib.Core.Path.{◌≡◌, refl, sym, ap, ◌∙◌}
+use mathlib.Core.Path.{◌≡◌, refl, sym, ap, subst, ◌∙◌}
 use mathlib.Core.Bool.{true, false, cond}
 use mathlib.Core.Logic.{⊎_elim}
 use mathlib.Core.List.{List, [], ◌∷◌, ◌++◌, map, append_assoc, append-nil}
@@ -11,10 +11,11 @@ use borrow.Author.Tests.{lt-ltb, le-ltb, ltb-true, ltb-false}
 use Rattle.octets.specs.Bytes.{byte_at}
 use Rattle.octets.specs.Stretch.{part, put, joined}
 use Rattle.octets.proofs.Counts.{true-or-false}
-use Rattle.octets.proofs.Stretches.{length-put, put-nil, put_more, put-before, set-put, set-set-put, part_all, part_none, part-part}
+use Rattle.octets.proofs.Stretches.{length-put, put-nil, put_more, put-before, set-put, part_all, part_none, part-part_front}
 use Rattle.octets.proofs.Stretches.{part_one}
 use Rattle.octets.proofs.Stretches.{joined-none, joined-map_more}
-use Rattle.text.specs.Text.{digits, decimal, most_digits, hex_digit, hex_byte, hex, column, space, Wrote}
+use Rattle.text.specs.declared.Text.{Text}
+use Rattle.text.specs.Text.{Appended, digits, decimal, most_digits, hex_digit, hex_byte, hex, column, space, Wrote}
 
 -- What is written behind a text makes it longer.
 pub wrote-length : {a b : List ℕ} {at next : ℕ} {s : List ℕ} → Wrote a b at next s → length b ≡ length a
@@ -56,6 +57,12 @@ pub wrote-column : {a b c : List ℕ} {at middle next : ℕ} (n : ℕ) → Wrote
     Wrote a c at next (column n)
 unfolding column
 wrote-column n v w = wrote_then v w
+
+-- who lent the room finds there what was written from its start on
+pub wrote_whole : (first last : Text) {room room' words : List ℕ} → Appended first last words → first.room.now ≡ room → first.length ≡ 0 →
+    room' ≡ last.room.now → Wrote room room' 0 last.length words
+wrote_whole first last {words = words} w same none found =
+    rw (← same, found) (subst (λ (n : ℕ). Wrote first.room.now last.room.now n last.length words) none w)
 
 -- The digits of a number: turns that are enough are all alike.
 digits-enough : (a b n : ℕ) → n < a → n < b → digits a n ≡ digits b n
@@ -234,50 +241,39 @@ module _ {before : List ℕ} {at number : ℕ} {text : List ℕ} {place left : �
       }
 
 -- Bytes written in hexadecimal, one after another.
-pub record Hexing (before : List ℕ) (at : ℕ) (bytes : List ℕ) (from count : ℕ) (text : List ℕ) (next i : ℕ) : Type 0 where
-  pub within : i ≤ count
-  pub wrote : Wrote before text at next (hex (part bytes from i))
+pub record Hexing (before : List ℕ) (at : ℕ) (bytes text : List ℕ) (next i : ℕ) : Type 0 where
+  pub within : i ≤ length bytes
+  pub wrote : Wrote before text at next (hex (part bytes 0 i))
   pub next_is : next ≡ at + 2 * i
 
-pub hexing_begin : (before : List ℕ) (at : ℕ) (bytes : List ℕ) (from count : ℕ) → at ≤ length before →
-    Hexing before at bytes from count before at 0
+pub hexing_begin : (before : List ℕ) (at : ℕ) (bytes : List ℕ) → at ≤ length before → Hexing before at bytes before at 0
 unfolding hex
-hexing_begin before at bytes from count h =
-    let none : hex (part bytes from 0) ≡ [] = ap hex (part_none bytes from) ∙ joined-none in
+hexing_begin before at bytes h =
+    let none : hex (part bytes 0 0) ≡ [] = ap hex (part_none bytes 0) ∙ joined-none in
     record { within = omega arith; wrote = wrote_as (sym none) (wrote_none before at h); next_is = omega arith }
 
-hex_more : (bytes : List ℕ) (from i : ℕ) → from + i < length bytes →
-    hex (part bytes from i) ++ hex_byte (byte_at bytes (from + i)) ≡ hex (part bytes from (i + 1))
+hex_more : (bytes : List ℕ) (i : ℕ) → i < length bytes → hex (part bytes 0 i) ++ hex_byte (byte_at bytes i) ≡ hex (part bytes 0 (i + 1))
 unfolding hex
-hex_more bytes from i h =
-    sym (joined-map_more hex_byte (part bytes from i) (byte_at bytes (from + i)))
-    ∙ ap (λ (l : List ℕ). joined (map hex_byte (part bytes from i ++ l))) (sym (part_one bytes (from + i) h))
-    ∙ ap (λ (l : List ℕ). joined (map hex_byte l)) (part-part bytes from i 1)
+hex_more bytes i h =
+    sym (joined-map_more hex_byte (part bytes 0 i) (byte_at bytes i))
+    ∙ ap (λ (l : List ℕ). joined (map hex_byte (part bytes 0 i ++ l))) (sym (part_one bytes i h))
+    ∙ ap (λ (l : List ℕ). joined (map hex_byte l)) (part-part_front bytes i 1)
 
-module _ {before : List ℕ} {at : ℕ} {bytes : List ℕ} {from count : ℕ} {text : List ℕ} {next i : ℕ}
-    (x : Hexing before at bytes from count text next i)
-    (more : i < count) (room : at + 2 * count ≤ length before) (in_bytes : from + count ≤ length bytes) where
-  pub both_inside : next + 1 < length text
-  both_inside = omega (arith, x.next_is, more, room, wrote-length x.wrote)
-
-  pub hexing_turn : (high low : ℕ) → high ≡ hex_digit (byte_at bytes (from + i) / 16) → low ≡ hex_digit (byte_at bytes (from + i) % 16) →
-      Hexing before at bytes from count (set (set text next high) (next + 1) low) (next + 2) (i + 1)
-  hexing_turn high low eh el =
-      let pair : high ∷ low ∷ [] ≡ hex_byte (byte_at bytes (from + i)) =
-      ap (λ (h : ℕ). h ∷ low ∷ []) eh ∙ ap (λ (l : ℕ). hex_digit (byte_at bytes (from + i) / 16) ∷ l ∷ []) el in
-      let two-more : Wrote text (set (set text next high) (next + 1) low) next (next + 2) (high ∷ low ∷ []) =
-      record { there = set-set-put text next high low both_inside; next_place = refl; inside = omega (arith, both_inside) } in
+module _ {before : List ℕ} {at : ℕ} {bytes text : List ℕ} {next i : ℕ} (x : Hexing before at bytes text next i) where
+  pub hexing_turn : {text' : List ℕ} {next' : ℕ} (high low : ℕ) → i < length bytes → high ≡ hex_digit (byte_at bytes i / 16) →
+      low ≡ hex_digit (byte_at bytes i % 16) → Wrote text text' next next' (high ∷ low ∷ []) →
+      Hexing before at bytes text' next' (i + 1)
+  hexing_turn high low more eh el two =
+      let pair : high ∷ low ∷ [] ≡ hex_byte (byte_at bytes i) =
+      ap (λ (h : ℕ). h ∷ low ∷ []) eh ∙ ap (λ (l : ℕ). hex_digit (byte_at bytes i / 16) ∷ l ∷ []) el in
       record {
         within = omega (arith, more);
         wrote =
-            wrote_as (ap (λ (l : List ℕ). hex (part bytes from i) ++ l) pair ∙ hex_more bytes from i (omega (arith, more, in_bytes)))
-            (wrote_then x.wrote two-more);
-        next_is = omega (arith, x.next_is);
+            wrote_as (ap (λ (l : List ℕ). hex (part bytes 0 i) ++ l) pair ∙ hex_more bytes i more) (wrote_then x.wrote two);
+        next_is = omega (arith, x.next_is, two.next_place);
       }
 
-pub hexing_end : {before : List ℕ} {at : ℕ} {bytes : List ℕ} {from count : ℕ} {text : List ℕ} {next i : ℕ} →
-    Hexing before at bytes from count text next i → count ≤ i →
-    Wrote before text at next (hex (part bytes from count)) × (next ≡ at + 2 * count)
-hexing_end {before} {at} {bytes} {from} {count} {text} {next} {i} x past =
-    let all : i ≡ count = omega (arith, x.within, past) in
-    (wrote_as (ap (λ (n : ℕ). hex (part bytes from n)) all) x.wrote, omega (arith, x.next_is, all))
+  pub hexing_end : length bytes ≤ i → Wrote before text at next (hex bytes)
+  hexing_end past =
+      let all : i ≡ length bytes = omega (arith, x.within, past) in
+      wrote_as (ap hex (ap (λ (n : ℕ). part bytes 0 n) all ∙ part_all bytes)) x.wrote

@@ -3,6 +3,7 @@ use Rattle.std.specs.Prelude.{ℕ, zero, suc, ◌+◌, ◌/◌, ◌%◌, ◌≤�
 use Prim.Native.Char.{code}
 use Prim.Native.String.{String, len, char_at}
 use Rattle.octets.specs.Stretch.{put, joined}
+use Rattle.text.specs.declared.Text.{Text}
 
 -- the bytes of a quoted text
 abbrev pub bytes_from : ℕ → ℕ → String → List ℕ
@@ -50,3 +51,15 @@ pub record Wrote (before behind : List ℕ) (at next : ℕ) (words : List ℕ) :
   pub there : behind ≡ put before at words
   pub next_place : next ≡ at + length words
   pub inside : at + length words ≤ length before
+
+-- The same of a text that is being written: the words were written behind what was written before.
+abbrev pub Appended : Text → Text → List ℕ → Type 0
+Appended before after words = Wrote before.room.now after.room.now before.length after.length words
+
+-- It has the same room afterwards, as long as before: so who lent the room finds the words there.
+abbrev pub SameRoom : Text → Text → Type 0
+SameRoom before after = (after.room.ghost_name ≡ before.room.ghost_name) × (length after.room.now ≡ length before.room.now)
+
+-- there is room for so many bytes more
+abbrev pub HasRoom : Text → ℕ → Type 0
+HasRoom text more = text.length + more ≤ length text.room.now

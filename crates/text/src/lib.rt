@@ -1,32 +1,12 @@
-// Text written into a slice: words, numbers in decimal, bytes in hexadecimal. Each function writes at a place and answers the place behind
-// what it wrote; nothing else of the slice changes. Only proved code calls them, so each asks that there is room.
+// Text written into a slice: words, numbers in decimal, bytes in hexadecimal. A text is a room and how long what is written in it is; each
+// method writes behind that, and nothing else of the room changes. Only proved code calls them, so each asks that there is room.
 #![tactic(auto)]
 
-ghost use Rattle.std.specs.Prelude.{◌≡◌, ◌+◌, ◌*◌, ◌<◌, ◌≤◌, ◌∷◌, [], length};
-ghost use Rattle.octets.specs.Stretch.{part};
-ghost use Rattle.text.specs.Text.{decimal, most_digits, hex_digit, hex, column, Wrote};
+ghost use Rattle.std.specs.Prelude.{◌≡◌, ◌+◌, ◌*◌, ◌<◌, ◌≤◌, ◌∷◌, [], length, take};
+ghost use Rattle.text.specs.Text.{decimal, most_digits, hex_digit, hex, column, Appended, SameRoom, HasRoom};
 
 // No number of 32 bits has more digits.
 pub const MOST_DIGITS: usize = 10;
-
-// Writes one byte.
-pub fn write_byte(text: &mut [u8], at: usize, byte: u8) -> usize
-    requires { at < length text.old }
-    ensures { Wrote text.old text.new at result (byte ∷ []) }
-{
-    text[at] = byte;
-    at + 1
-}
-
-// Writes a word, or a line of them.
-pub fn write_words(text: &mut [u8], at: usize, words: &[u8]) -> usize
-    requires { at + length words.now ≤ length text.old }
-    ensures { Wrote text.old text.new at result words.now }
-{
-    let next = at + words.len();
-    text[at..next].copy_from_slice(words);
-    next
-}
 
 // How many digits a number has.
 fn digit_count(number: u32) -> usize
@@ -49,34 +29,6 @@ fn digit_byte(digit: u32) -> u8
     48 + digit as u8
 }
 
-// Writes a number in decimal, from its last digit to its first.
-pub fn write_decimal(text: &mut [u8], at: usize, number: u32) -> usize
-    requires { at + most_digits ≤ length text.old }
-    ensures wrote { Wrote text.old text.new at result (decimal number) }
-    ensures upper_bound { result ≤ at + most_digits }
-{
-    let next = at + digit_count(number);
-    let mut place = next;
-    let mut rest = number;
-    while 9 < rest {
-        place -= 1;
-        text[place] = digit_byte(rest % 10);
-        rest /= 10;
-    }
-    text[at] = digit_byte(rest);
-    next
-}
-
-// Writes a number behind a space.
-pub fn write_column(text: &mut [u8], at: usize, number: u32) -> usize
-    requires { at + 1 + most_digits ≤ length text.old }
-    ensures wrote { Wrote text.old text.new at result (column number) }
-    ensures upper_bound { result ≤ at + 1 + most_digits }
-{
-    let behind = write_byte(text, at, b' ');
-    write_decimal(text, behind, number)
-}
-
 // The byte of a hexadecimal digit.
 fn hex_digit(digit: u8) -> u8
     requires { digit < 16 }
@@ -85,17 +37,93 @@ fn hex_digit(digit: u8) -> u8
     if digit < 10 { 48 + digit } else { 87 + digit }
 }
 
-// Writes `count` bytes in hexadecimal, from place `from` on.
-pub fn write_hex(text: &mut [u8], at: usize, bytes: &[u8], from: usize, count: usize) -> usize
-    requires { (at + 2 * count ≤ length text.old) × (from + count ≤ length bytes.now) }
-    ensures wrote { Wrote text.old text.new at result (hex (part bytes.now from count)) }
-    ensures value { result ≡ at + 2 * count }
-{
-    let mut next = at;
-    for byte in &bytes[from..from + count] {
-        text[next] = hex_digit(*byte / 16);
-        text[next + 1] = hex_digit(*byte % 16);
-        next += 2;
+// A text that is being written: the room for it, and how long it is so far.
+#[derive(Drop)]
+pub struct Text<'a> {
+    pub room: &'a mut [u8],
+    pub length: usize,
+}
+
+impl<'a> Text<'a> {
+    // A text of which nothing is written yet.
+    pub fn new(room: &'a mut [u8]) -> Text<'a>
+        ensures same_room { result.room.ghost_name ≡ room.entry.ghost_name }
+        ensures its_bytes { result.room.now ≡ room.old }
+        ensures empty { result.length ≡ 0 }
+    {
+        Text { room, length: 0 }
     }
-    next
+
+    // What is written so far.
+    pub fn written(&self) -> &[u8]
+        requires { HasRoom self.now 0 }
+        ensures { result.now ≡ take self.now.length self.now.room.now }
+    {
+        let length = self.length;
+        &self.room[..length]
+    }
+
+    // Writes one byte.
+    pub fn byte(&mut self, byte: u8)
+        requires { HasRoom self.old 1 }
+        ensures wrote { Appended self.old self.new (byte ∷ []) }
+        ensures same_room { SameRoom self.old self.new }
+    {
+        self.room[self.length] = byte;
+        self.length += 1;
+    }
+
+    // Writes a word, or a line of them.
+    pub fn words(&mut self, words: &[u8])
+        requires { HasRoom self.old (length words.now) }
+        ensures wrote { Appended self.old self.new words.now }
+        ensures same_room { SameRoom self.old self.new }
+    {
+        let next = self.length + words.len();
+        self.room[self.length..next].copy_from_slice(words);
+        self.length = next;
+    }
+
+    // Writes a number in decimal, from its last digit to its first.
+    pub fn decimal(&mut self, number: u32)
+        requires { HasRoom self.old most_digits }
+        ensures wrote { Appended self.old self.new (decimal number) }
+        ensures same_room { SameRoom self.old self.new }
+        ensures upper_bound { self.new.length ≤ self.old.length + most_digits }
+    {
+        let next = self.length + digit_count(number);
+        let mut place = next;
+        let mut rest = number;
+        while 9 < rest {
+            place -= 1;
+            self.room[place] = digit_byte(rest % 10);
+            rest /= 10;
+        }
+        self.room[self.length] = digit_byte(rest);
+        self.length = next;
+    }
+
+    // Writes a number behind a space.
+    pub fn column(&mut self, number: u32)
+        requires { HasRoom self.old (1 + most_digits) }
+        ensures wrote { Appended self.old self.new (column number) }
+        ensures same_room { SameRoom self.old self.new }
+        ensures upper_bound { self.new.length ≤ self.old.length + 1 + most_digits }
+    {
+        self.byte(b' ');
+        self.decimal(number);
+    }
+
+    // Writes bytes in hexadecimal.
+    pub fn hex(&mut self, bytes: &[u8])
+        requires { HasRoom self.old (2 * length bytes.now) }
+        ensures wrote { Appended self.old self.new (hex bytes.now) }
+        ensures same_room { SameRoom self.old self.new }
+        ensures value { self.new.length ≡ self.old.length + 2 * length bytes.now }
+    {
+        for byte in bytes {
+            self.byte(hex_digit(*byte / 16));
+            self.byte(hex_digit(*byte % 16));
+        }
+    }
 }

@@ -7,12 +7,13 @@ pub mod number;
 
 ghost use Rattle.std.specs.Prelude.{◌≡◌, ◌+◌, ◌≤◌, length};
 ghost use Rattle.std.specs.Counts.{IsPrefixLen};
-ghost use Rattle.text.specs.Text.{Wrote};
+ghost use Rattle.text.specs.Text.{Appended, SameRoom, HasRoom};
 ghost use Rattle.tool.specs.Line.{line_of, number_room};
 ghost use Rattle.tool.specs.Refused.{refused_line, refused_room};
 
 use std::env::{Env, FillError};
 use std::io::{Read, Write};
+use text::Text;
 
 // Room for an argument. A longer one says no number, and no address.
 const ARGUMENT_ROOM: usize = 32;
@@ -86,27 +87,30 @@ pub fn write_error(errors: &mut impl Write, text: &[u8]) {
 }
 
 // Writes a line of a word and a number into a text.
-pub fn write_line(text: &mut [u8], at: usize, word: &[u8], number: u32) -> usize
-    requires { at + length word.now + number_room ≤ length text.old }
-    ensures wrote { Wrote text.old text.new at result (line_of word.now number) }
-    ensures upper_bound { result ≤ at + length word.now + number_room }
+pub fn write_line(text: &mut Text, word: &[u8], number: u32)
+    requires { HasRoom text.old (length word.now + number_room) }
+    ensures wrote { Appended text.old text.new (line_of word.now number) }
+    ensures same_room { SameRoom text.old text.new }
+    ensures upper_bound { text.new.length ≤ text.old.length + length word.now + number_room }
 {
-    let behind_word = text::write_words(text, at, word);
-    let behind_number = text::write_column(text, behind_word, number);
-    text::write_byte(text, behind_number, b'\n')
+    text.words(word);
+    text.column(number);
+    text.byte(b'\n');
 }
 
 // Writes the one line of a refusal into a text.
-pub fn write_refused(text: &mut [u8], at: usize, number: u32) -> usize
-    requires { at + refused_room ≤ length text.old }
-    ensures { Wrote text.old text.new at result (refused_line number) }
+pub fn write_refused(text: &mut Text, number: u32)
+    requires { HasRoom text.old refused_room }
+    ensures wrote { Appended text.old text.new (refused_line number) }
+    ensures same_room { SameRoom text.old text.new }
 {
-    write_line(text, at, b"refused", number)
+    write_line(text, b"refused", number);
 }
 
 // Writes that line on standard error.
 pub fn refuse(errors: &mut impl Write, number: u32) {
-    let mut text = [0u8; REFUSED_ROOM];
-    let length = write_refused(&mut text, 0, number);
-    write_error(errors, &text[..length]);
+    let mut room = [0u8; REFUSED_ROOM];
+    let mut text = Text::new(&mut room);
+    write_refused(&mut text, number);
+    write_error(errors, text.written());
 }

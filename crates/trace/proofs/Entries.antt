@@ -23,11 +23,11 @@ module _ {file : List ℕ} {w further : Walk} {s : Stepped} {lent : Lent} (stepp
   unfolding frames_text
   frames_are = ap (λ (l : List (List ℕ)). joined (map frame_line l)) (frames_found_lem stepped)
 
-  pub entry_traced : {t₀ t₁ t₂ t₃ : List ℕ} {behind-line behind-frames next : ℕ} →
-      Wrote t₀ t₁ 0 behind-line (line w.index s.kind (numbers_of s.answer)) →
+  pub entry_traced : {t₀ t₁ t₂ t₃ : List ℕ} {at behind-line behind-frames next : ℕ} →
+      Wrote t₀ t₁ at behind-line (line w.index s.kind (numbers_of s.answer)) →
       Wrote t₁ t₂ behind-line behind-frames (joined (map frame_line (frames_found s.answer.frames lent.lengths.now lent.output.now))) →
       Wrote t₂ t₃ behind-frames next (rows_text (record { table = further.table; holding = lent.holding.now })) →
-      Wrote t₀ t₃ 0 next (traced_at file w.index)
+      Wrote t₀ t₃ at next (traced_at file w.index)
   unfolding traced_at
   entry_traced a b c =
       let its-line = line_is file w.index s.kind s.answer stepped.its_kind stepped.its_counts a in

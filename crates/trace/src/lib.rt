@@ -5,8 +5,8 @@
 mod frames;
 mod rows;
 
-ghost use Rattle.std.specs.Prelude.{◌≡◌, ◌+◌, ◌<◌, ◌≤◌, length};
-ghost use Rattle.text.specs.Text.{Wrote};
+ghost use Rattle.std.specs.Prelude.{◌<◌};
+ghost use Rattle.text.specs.Text.{Appended, SameRoom, HasRoom};
 ghost use Rattle.capture.specs.File.{head_length, entry_count};
 ghost use Rattle.replay.specs.Inside.{StillLent, Stands, GoesOn};
 ghost use Rattle.trace.specs.Trace.{traced_at};
@@ -14,16 +14,17 @@ ghost use Rattle.trace.specs.Inside.{entry_room};
 
 use listing::line;
 use replay::{Lent, Walk};
+use text::Text;
 
 // Room for the trace of any entry: its line, the lines of its frames, and all rows with all flows holding all they can.
 pub const ENTRY_ROOM: usize = listing::LINE_ROOM + frames::FRAMES_ROOM + rows::ROWS_ROOM;
 
-// Runs an entry and writes its trace at the start of the text: its line, the frames that it delivered, and the open rows afterwards. It
-// answers the place behind that.
-pub fn trace_entry(file: &[u8], walk: &mut Walk, lent: &mut Lent, text: &mut [u8]) -> usize
+// Runs an entry and writes its trace: its line, the frames that it delivered, and the open rows afterwards.
+pub fn trace_entry(file: &[u8], walk: &mut Walk, lent: &mut Lent, text: &mut Text)
     requires stands { Stands file.now walk.old lent.old × (walk.old.index < entry_count head_length file.now) }
-    requires entry_room_in_bounds { entry_room ≤ length text.old }
-    ensures wrote { Wrote text.old text.new 0 result (traced_at file.now walk.old.index) }
+    requires entry_room_in_bounds { HasRoom text.old entry_room }
+    ensures wrote { Appended text.old text.new (traced_at file.now walk.old.index) }
+    ensures same_room { SameRoom text.old text.new }
     ensures goes_on { GoesOn file.now walk.old walk.new lent.new }
     ensures still_lent { StillLent lent.old lent.new }
 {
@@ -31,8 +32,7 @@ pub fn trace_entry(file: &[u8], walk: &mut Walk, lent: &mut Lent, text: &mut [u8
     let stepped = walk.step(file, lent);
     let left: &Lent = lent;
     let answer = stepped.answer;
-    let behind_line = line::write_line(text, 0, index, stepped.kind, answer);
-    let count = answer.frames as usize;
-    let behind_frames = frames::write_frames(text, behind_line, left, count);
-    rows::write_rows(text, behind_frames, walk.table, left.holding)
+    line::write_line(text, index, stepped.kind, answer);
+    frames::write_frames(text, left, answer.frames as usize);
+    rows::write_rows(text, walk.table, left.holding);
 }

@@ -1,15 +1,18 @@
 -- `pspmpeg::write_stream` is right by its two ways out: the capture is refused, or its frames are gathered and their packets written.
 use Rattle.std.proofs.Common.{rules, arith, sym, ◌∙◌}
 use Rattle.refusal.proofs.Numbers.{number_some}
-use Rattle.text.proofs.Writing.{wrote_as}
+use Rattle.text.proofs.Writing.{wrote_as, wrote_whole}
 use Rattle.pspmpeg.proofs.Streaming.{stream-refused, stream-sound}
 use Rattle.pspmpeg.proofs.write_stream.Goals as goal
 
 pub returns-in-Err : goal.returns-in-Err
 returns-in-Err c =
-    wrote_as
+    let begun = c.new-text.ensures in
+    wrote_whole c.new-text.result c.write_refused.new.text
+    (wrote_as
     (stream-refused _ _ _ (c.from.ensures ∙ c.in-Err.ensures) (λ none. number_some c.in-Err.refusal (sym c.from.ensures ∙ none)))
-    c.write_refused.ensures
+    c.write_refused.ensures.wrote)
+    begun.its_bytes begun.empty (search rules)
 
 pub returns : goal.returns
 returns c =

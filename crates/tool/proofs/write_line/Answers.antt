@@ -3,4 +3,4 @@ use Rattle.tool.proofs.Line.{line-written}
 use Rattle.tool.proofs.write_line.Goals as goal
 
 pub returns-clause-wrote : goal.returns-clause-wrote
-returns-clause-wrote c = line-written c.args.number c.write_words-behind_word.ensures c.write_column-behind_number.ensures.wrote c.write_byte.ensures
+returns-clause-wrote c = line-written c.args.number c.words.ensures.wrote c.column.ensures.wrote c.byte.ensures.wrote

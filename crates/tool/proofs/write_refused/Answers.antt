@@ -2,6 +2,6 @@
 use Rattle.tool.specs.Refused.{refused_line}
 use Rattle.tool.proofs.write_refused.Goals as goal
 
-pub returns : goal.returns
+pub returns-clause-wrote : goal.returns-clause-wrote
 unfolding refused_line
-returns c = c.write_line.ensures.wrote
+returns-clause-wrote c = c.write_line.ensures.wrote

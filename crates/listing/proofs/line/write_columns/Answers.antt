@@ -4,5 +4,4 @@ use Rattle.listing.proofs.line.write_columns.Goals as goal
 
 pub returns-clause-wrote : goal.returns-clause-wrote
 returns-clause-wrote c =
-    columns-written _ c.write_column-behind_code.ensures.wrote c.write_column-behind_frames.ensures.wrote
-    c.write_column-behind_bytes.ensures.wrote c.write_column-behind_dropped.ensures.wrote c.write_column.ensures.wrote
+    columns-written _ c.column.ensures.wrote c.column-2.ensures.wrote c.column-3.ensures.wrote c.column-4.ensures.wrote c.column-5.ensures.wrote

@@ -4,5 +4,5 @@ use Rattle.listing.proofs.line.write_line.Goals as goal
 
 pub returns-clause-wrote : goal.returns-clause-wrote
 returns-clause-wrote c =
-    line-written c.args.index c.args.kind _ c.write_decimal-behind_index.ensures.wrote c.write_byte-behind_space.ensures
-    c.write_kind-behind_kind.ensures.wrote c.write_columns-behind_columns.ensures.wrote c.write_byte.ensures
+    line-written c.args.index c.args.kind _ c.decimal.ensures.wrote c.byte.ensures.wrote c.write_kind.ensures.wrote
+    c.write_columns.ensures.wrote c.byte-2.ensures.wrote

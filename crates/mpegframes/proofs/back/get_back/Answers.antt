@@ -1,7 +1,7 @@
 -- `mpegframes::back::get_back` is right by its two ways out: the packets are refused, or the frames that they bring back are packed.
-use Rattle.std.proofs.Common.{arith, sym}
+use Rattle.std.proofs.Common.{arith, rules, sym}
 use Rattle.octets.proofs.Stretches.{length_sliced}
-use Rattle.text.proofs.Writing.{wrote_as}
+use Rattle.text.proofs.Writing.{wrote_as, wrote_whole}
 use Rattle.mpegframes.proofs.Enough.{Call, bytes_inside, frames-inside, back_refused, pack_asks, pack_gives}
 use Rattle.mpegframes.proofs.back.get_back.Goals as goal
 
@@ -20,7 +20,10 @@ returns-then-back-ne-NONE c =
       lengths-left = c.read-back.new.lengths;
       outcome = c.read-back.ensures;
     } in
-    wrote_as (back_refused call c.if-back-ne-NONE.true) c.write_refused.ensures
+    let begun = c.new-text.ensures in
+    wrote_whole c.new-text.result c.write_refused.new.text
+    (wrote_as (back_refused call c.if-back-ne-NONE.true) c.write_refused.ensures.wrote)
+    begun.its_bytes begun.empty (search rules)
 
 pub slice_bounds-output-end : goal.slice_bounds-output-end
 slice_bounds-output-end c =

@@ -1,10 +1,14 @@
 -- `pspimport::counts::write_counts` writes the lines one behind the other.
-use Rattle.text.proofs.Writing.{wrote_then}
+use Rattle.std.proofs.Common.{rules}
+use Rattle.text.proofs.Writing.{wrote_then, wrote_whole}
 use Rattle.pspimport.specs.Counts.{counts_of}
 use Rattle.pspimport.proofs.counts.write_counts.Goals as goal
 
 pub returns : goal.returns
 unfolding counts_of
 returns c =
-    let two-lines = wrote_then c.write_line-foreign.ensures.wrote c.write_line-misfits.ensures.wrote in
-    wrote_then (wrote_then two-lines c.write_line-fragments.ensures.wrote) c.write_line.ensures.wrote
+    let begun = c.new-text.ensures in
+    let two-lines = wrote_then c.write_line.ensures.wrote c.write_line-2.ensures.wrote in
+    wrote_whole c.new-text.result c.write_line-4.new.text
+    (wrote_then (wrote_then two-lines c.write_line-3.ensures.wrote) c.write_line-4.ensures.wrote)
+    begun.its_bytes begun.empty (search rules)

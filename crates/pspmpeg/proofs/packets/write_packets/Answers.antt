@@ -1,12 +1,15 @@
 -- `pspmpeg::packets::write_packets` is right since after each turn the packets so far are written (`Draining`).
-use Rattle.std.proofs.Common.{arith, refl, ◌∙◌}
-use Rattle.text.proofs.Writing.{wrote_as}
+use Rattle.std.proofs.Common.{arith, rules, refl, ◌∙◌}
+use Rattle.text.proofs.Writing.{wrote_as, wrote_whole}
 use Rattle.pspmpeg.proofs.Draining.{code-sound, code_bad, drain-begin, goes_on, next_place, drain_turn, drain_end}
 use Rattle.pspmpeg.proofs.packets.write_packets.Goals as goal
 
 pub returns-then-first-ne-NONE : goal.returns-then-first-ne-NONE
 returns-then-first-ne-NONE c =
-    wrote_as (code_bad _ _ _ refl 0 0 c.write-first.ensures c.if-first-ne-NONE.true) c.write_refused.ensures
+    let begun = c.new-text.ensures in
+    wrote_whole c.new-text.result c.write_refused.new.text
+    (wrote_as (code_bad _ _ _ refl 0 0 c.write-first.ensures c.if-first-ne-NONE.true) c.write_refused.ensures.wrote)
+    begun.its_bytes begun.empty (search rules)
 
 pub loop-place-init : goal.loop-place-init
 loop-place-init c =

@@ -6,4 +6,4 @@ use Rattle.trace.proofs.Tracing.{flows_of}
 use Rattle.trace.proofs.rows.write_row.Given as goal
 
 abbrev pub invariant-loop-k : goal.invariant-loop-k
-invariant-loop-k l = Pieces (flows_of l.holding l.r l.fn.row) flows flow_room l.initial.text l.initial.next l.text l.next l.k
+invariant-loop-k l = Pieces (flows_of l.holding l.r l.fn.row) flows flow_room l.initial.text l.text l.k

@@ -6,4 +6,4 @@ use Rattle.trace.proofs.Tracing.{rows_of}
 use Rattle.trace.proofs.rows.write_rows.Given as goal
 
 abbrev pub invariant-loop-r : goal.invariant-loop-r
-invariant-loop-r l = Pieces (rows_of l.holding l.fn.table) rows row_room l.initial.text l.at l.text l.next l.r
+invariant-loop-r l = Pieces (rows_of l.holding l.fn.table) rows row_room l.initial.text l.text l.r
