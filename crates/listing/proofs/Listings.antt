@@ -9,6 +9,7 @@ use Rattle.text.proofs.Writing.{wrote_as, wrote_then}
 use Rattle.text.proofs.Pieces.{Pieces, pieces-begin, pieces_room, pieces_turn, pieces_end}
 use Rattle.capture.specs.File.{head_length, most_entries, entry_count, file_refusal}
 use Rattle.capture.proofs.Checking.{is_sound}
+use Rattle.replay.specs.declared.Lent.{Lent}
 use Rattle.replay.specs.declared.Walk.{Walk}
 use Rattle.replay.specs.Inside.{Stands, GoesOn}
 use Rattle.tool.specs.Refused.{refused_line}
@@ -16,12 +17,12 @@ use Rattle.listing.specs.Listing.{heading, line_at, listing_by, listing}
 use Rattle.listing.specs.Inside.{line_room}
 
 -- The lines of a sound file, one after another, behind the heading.
-pub record Listing (file : List ℕ) (headed text : Text) (w : Walk) (holding output lengths : List ℕ) : Type 0 where
-  pub stands : Stands file w holding output lengths
+pub record Listing (file : List ℕ) (headed text : Text) (w : Walk) (lent : Lent) : Type 0 where
+  pub stands : Stands file w lent
   pub lines : Pieces (line_at file) (entry_count head_length file) line_room headed text w.index
 
-pub listing-begin : {file : List ℕ} {headed : Text} {w : Walk} {holding output lengths : List ℕ} →
-    Stands file w holding output lengths → w.index ≡ 0 → HasRoom headed 0 → Listing file headed headed w holding output lengths
+pub listing-begin : {file : List ℕ} {headed : Text} {w : Walk} {lent : Lent} →
+    Stands file w lent → w.index ≡ 0 → HasRoom headed 0 → Listing file headed headed w lent
 listing-begin {file} {headed} s z inside =
     record {
       stands = s;
@@ -30,14 +31,14 @@ listing-begin {file} {headed} s z inside =
           (pieces-begin (line_at file) (entry_count head_length file) line_room headed inside);
     }
 
-module _ {file : List ℕ} {headed text : Text} {w : Walk} {holding output lengths : List ℕ}
-    (l : Listing file headed text w holding output lengths) where
+module _ {file : List ℕ} {headed text : Text} {w : Walk} {lent : Lent}
+    (l : Listing file headed text w lent) where
   pub line_room_lem : w.index < entry_count head_length file → HasRoom headed (line_room * most_entries) → HasRoom text line_room
   line_room_lem more room = pieces_room l.lines more (omega (arith, room, (is_sound file l.stands.sound).few))
 
-  pub listing_turn : {text' : Text} {w' : Walk} {holding' output' lengths' : List ℕ} → w.index < entry_count head_length file →
+  pub listing_turn : {text' : Text} {w' : Walk} {lent' : Lent} → w.index < entry_count head_length file →
       Appended text text' (line_at file w.index) × (text'.length ≤ text.length + line_room) → SameRoom text text' →
-      GoesOn file w w' holding' output' lengths' → Listing file headed text' w' holding' output' lengths'
+      GoesOn file w w' lent' → Listing file headed text' w' lent'
   listing_turn {text'} more line same on =
       record {
         stands = on.stands;

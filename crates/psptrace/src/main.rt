@@ -11,15 +11,15 @@ ghost use Rattle.trace.specs.Inside.{entry_room};
 
 use capture::reader;
 use listing::line;
-use replay::Walk;
+use replay::{Lent, Rooms, Walk};
 use std::io::Write;
 use text::Text;
 
 fn main(rt: HostRuntime) {
     let mut file = tool::capture_room();
     let read = tool::read_input(&mut rt.stdin(), &mut file);
-    let mut text = [0u8; trace::ENTRY_ROOM];
-    trace(&mut rt.stdout(), &file[..read], &mut text);
+    let mut room = [0u8; trace::ENTRY_ROOM];
+    trace(&mut rt.stdout(), &file[..read], &mut room);
 }
 
 // Traces a capture; or says that it is refused.
@@ -34,26 +34,18 @@ fn trace(stdout: &mut impl Write, file: &[u8], room: &mut [u8])
     }
     line::write_heading(&mut text);
     tool::write_output(stdout, text.written());
-    let mut holding = replay::holding_room();
-    let mut output = replay::output_room();
-    let mut lengths = replay::lengths_room();
-    trace_entries(stdout, file, &mut holding, &mut output, &mut lengths, room);
+    let mut rooms = Rooms::new();
+    trace_entries(stdout, file, &mut rooms.lend(), room);
 }
 
 // Traces the entries of a sound file, one after another.
-fn trace_entries(
-    stdout: &mut impl Write,
-    file: &[u8],
-    holding: &mut [u8],
-    output: &mut [u8],
-    lengths: &mut [u16],
-    text: &mut [u8],
-)
-    requires { Unused file.now holding.old output.old lengths.old × (entry_room ≤ length text.old) }
+fn trace_entries(stdout: &mut impl Write, file: &[u8], lent: &mut Lent, room: &mut [u8])
+    requires { Unused file.now lent.old × (entry_room ≤ length room.old) }
 {
     let mut walk = Walk::begin(file);
     for _ in 0..reader::entry_count(file) {
-        let length = trace::trace_entry(file, &mut walk, holding, output, lengths, text);
-        tool::write_output(stdout, &text[..length]);
+        let mut text = Text::new(room);
+        trace::trace_entry(file, &mut walk, lent, &mut text);
+        tool::write_output(stdout, text.written());
     }
 }

@@ -7,6 +7,7 @@ use Rattle.card.specs.Receive.{frames_found}
 use Rattle.card.specs.History.{Card}
 use Rattle.text.specs.Text.{Wrote}
 use Rattle.text.proofs.Writing.{wrote_then, wrote_as}
+use Rattle.replay.specs.declared.Lent.{Lent}
 use Rattle.replay.specs.declared.Walk.{Walk}
 use Rattle.replay.specs.declared.Stepped.{Stepped}
 use Rattle.replay.specs.Run.{answer_at}
@@ -17,16 +18,15 @@ use Rattle.listing.specs.Inside.{numbers_of}
 use Rattle.listing.proofs.Lines.{line_is}
 use Rattle.trace.specs.Trace.{frame_line, frames_text, rows_text, traced_at}
 
-module _ {file : List ℕ} {w further : Walk} {s : Stepped} {holding output lengths : List ℕ}
-    (stepped : Steps file w s further holding output lengths) where
-  frames_are : joined (map frame_line (frames_found s.answer.frames lengths output)) ≡ frames_text (answer_at file w.index)
+module _ {file : List ℕ} {w further : Walk} {s : Stepped} {lent : Lent} (stepped : Steps file w s further lent) where
+  frames_are : joined (map frame_line (frames_found s.answer.frames lent.lengths.now lent.output.now)) ≡ frames_text (answer_at file w.index)
   unfolding frames_text
   frames_are = ap (λ (l : List (List ℕ)). joined (map frame_line l)) (frames_found_lem stepped)
 
   pub entry_traced : {t₀ t₁ t₂ t₃ : List ℕ} {at behind-line behind-frames next : ℕ} →
       Wrote t₀ t₁ at behind-line (line w.index s.kind (numbers_of s.answer)) →
-      Wrote t₁ t₂ behind-line behind-frames (joined (map frame_line (frames_found s.answer.frames lengths output))) →
-      Wrote t₂ t₃ behind-frames next (rows_text (record { table = further.table; holding = holding })) →
+      Wrote t₁ t₂ behind-line behind-frames (joined (map frame_line (frames_found s.answer.frames lent.lengths.now lent.output.now))) →
+      Wrote t₂ t₃ behind-frames next (rows_text (record { table = further.table; holding = lent.holding.now })) →
       Wrote t₀ t₃ at next (traced_at file w.index)
   unfolding traced_at
   entry_traced a b c =

@@ -7,6 +7,7 @@ ghost use Rattle.trace.specs.Trace.{frame_line};
 ghost use Rattle.replay.specs.Inside.{Findable};
 ghost use Rattle.trace.specs.Inside.{frame_room, frames_room};
 
+use replay::Lent;
 use text::Text;
 
 // Room for the lines of a call's frames: in each a word, and the end of the line; and two digits for each byte.
@@ -25,17 +26,17 @@ fn write_frame(text: &mut Text, frame: &[u8])
 }
 
 // Writes a line for each of the frames that stand back to back in the output.
-pub fn write_frames(text: &mut Text, output: &[u8], lengths: &[u16], count: usize)
-    requires { Findable output.now lengths.now count × HasRoom text.old frames_room }
+pub fn write_frames(text: &mut Text, lent: &Lent, count: usize)
+    requires { Findable lent.now.output.now lent.now.lengths.now count × HasRoom text.old frames_room }
     ensures wrote { Appended text.old text.new
-        (joined (map frame_line (frames_found count lengths.now output.now))) }
+        (joined (map frame_line (frames_found count lent.now.lengths.now lent.now.output.now))) }
     ensures same_room { SameRoom text.old text.new }
     ensures upper_bound { text.new.length ≤ text.old.length + frames_room }
 {
     let mut from: usize = 0;
-    for &length in &lengths[..count] {
+    for &length in &lent.lengths[..count] {
         let size = usize::from(length);
-        write_frame(text, &output[from..from + size]);
+        write_frame(text, &lent.output[from..from + size]);
         from += size;
     }
 }

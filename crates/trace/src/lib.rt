@@ -5,42 +5,34 @@
 mod frames;
 mod rows;
 
-ghost use Rattle.std.specs.Prelude.{◌≡◌, ◌+◌, ◌<◌, ◌≤◌, length};
-ghost use Rattle.text.specs.Text.{Wrote};
+ghost use Rattle.std.specs.Prelude.{◌<◌};
+ghost use Rattle.text.specs.Text.{Appended, SameRoom, HasRoom};
 ghost use Rattle.capture.specs.File.{head_length, entry_count};
-ghost use Rattle.replay.specs.Inside.{Stands, GoesOn};
+ghost use Rattle.replay.specs.Inside.{StillLent, Stands, GoesOn};
 ghost use Rattle.trace.specs.Trace.{traced_at};
 ghost use Rattle.trace.specs.Inside.{entry_room};
 
 use listing::line;
-use replay::Walk;
+use replay::{Lent, Walk};
 use text::Text;
 
 // Room for the trace of any entry: its line, the lines of its frames, and all rows with all flows holding all they can.
 pub const ENTRY_ROOM: usize = listing::LINE_ROOM + frames::FRAMES_ROOM + rows::ROWS_ROOM;
 
-// Runs an entry and writes its trace at the start of the text: its line, the frames that it delivered, and the open rows afterwards. It
-// answers the place behind that.
-pub fn trace_entry(
-    file: &[u8],
-    walk: &mut Walk,
-    holding: &mut [u8],
-    output: &mut [u8],
-    lengths: &mut [u16],
-    text: &mut [u8],
-) -> usize
-    requires stands { Stands file.now walk.old holding.old output.old lengths.old
-        × (walk.old.index < entry_count head_length file.now) }
-    requires entry_room_in_bounds { entry_room ≤ length text.old }
-    ensures wrote { Wrote text.old text.new 0 result (traced_at file.now walk.old.index) }
-    ensures goes_on { GoesOn file.now walk.old walk.new holding.new output.new lengths.new }
+// Runs an entry and writes its trace: its line, the frames that it delivered, and the open rows afterwards.
+pub fn trace_entry(file: &[u8], walk: &mut Walk, lent: &mut Lent, text: &mut Text)
+    requires stands { Stands file.now walk.old lent.old × (walk.old.index < entry_count head_length file.now) }
+    requires entry_room_in_bounds { HasRoom text.old entry_room }
+    ensures wrote { Appended text.old text.new (traced_at file.now walk.old.index) }
+    ensures same_room { SameRoom text.old text.new }
+    ensures goes_on { GoesOn file.now walk.old walk.new lent.new }
+    ensures still_lent { StillLent lent.old lent.new }
 {
-    let mut text = Text::new(text);
     let index = walk.index as u32;
-    let stepped = walk.step(file, holding, output, lengths);
+    let stepped = walk.step(file, lent);
+    let left: &Lent = lent;
     let answer = stepped.answer;
-    line::write_line(&mut text, index, stepped.kind, answer);
-    frames::write_frames(&mut text, output, lengths, answer.frames as usize);
-    rows::write_rows(&mut text, walk.table, holding);
-    text.length
+    line::write_line(text, index, stepped.kind, answer);
+    frames::write_frames(text, left, answer.frames as usize);
+    rows::write_rows(text, walk.table, left.holding);
 }

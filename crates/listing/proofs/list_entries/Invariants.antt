@@ -4,4 +4,4 @@ use Rattle.listing.proofs.Listings.{Listing}
 use Rattle.listing.proofs.list_entries.Given as goal
 
 abbrev pub invariant-loop : goal.invariant-loop
-invariant-loop l = (l.walk.index ≡ l.counter) × Listing l.file l.initial.text l.text l.walk l.holding l.output l.lengths
+invariant-loop l = (l.walk.index ≡ l.counter) × Listing l.file l.initial.text l.text l.walk l.lent

@@ -4,4 +4,4 @@ use Rattle.replay.specs.Inside.{Stands}
 use Rattle.psptrace.proofs.trace_entries.Given as goal
 
 abbrev pub invariant-loop : goal.invariant-loop
-invariant-loop g l = (l.walk.index ≡ l.counter) × Stands l.file l.walk l.holding l.output l.lengths
+invariant-loop g l = (l.walk.index ≡ l.counter) × Stands l.file l.walk l.lent

@@ -17,7 +17,7 @@ pub write_frame-requires : goal.write_frame-requires
 write_frame-requires c =
     let from = c.loop-length.from in
     let size = c.from-size.result in
-    let output = c.args.output.now in
+    let output = c.args.lent.now.output.now in
     let more : c.loop-length.length-index < c.args.count = grind (arith, common_steps) in
     let inside = frame_inside c.loop-length.invariant c.requires.0 size (grind (arith, common_steps)) more in
     rw (sliced_part output from (from + size) size (omega arith), length_part output from size inside)
@@ -27,7 +27,7 @@ pub loop-length-preserved : goal.loop-length-preserved
 loop-length-preserved c =
     let from = c.loop-length.from in
     let size = c.from-size.result in
-    let output = c.args.output.now in
+    let output = c.args.lent.now.output.now in
     let more : c.loop-length.length-index < c.args.count = grind (arith, common_steps) in
     let inside = frame_inside c.loop-length.invariant c.requires.0 size (grind (arith, common_steps)) more in
     let is_part = sliced_part output from (from + size) size (omega arith) in
