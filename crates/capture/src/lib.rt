@@ -12,8 +12,8 @@ ghost use Rattle.refusal.specs.Number.{code_of};
 ghost use Rattle.octets.specs.Bytes.{two};
 ghost use Rattle.octets.specs.Stretch.{put};
 ghost use Rattle.capture.specs.File.{head_length, entry_length, content_for, content_of};
-ghost use Rattle.capture.specs.Write.{Fits, added, file_length, within, write_refusals, Roomy, Summable, Countable, contents_after, bodies_after, contents_finished};
-ghost use Rattle.capture.specs.Write.{FitsIn, laid};
+ghost use Rattle.capture.specs.Write.{Fits, added, file_length, within, write_refusals, Roomy, Summable, Countable};
+ghost use Rattle.capture.specs.Write.{contents_after, bodies_after, contents_finished, FitsIn, laid};
 ghost use Rattle.capture.specs.Kind.{number_of, Reads};
 
 use refusal::Refusal;
