@@ -25,6 +25,7 @@ pub fn write_packets(bytes: &[u8], sizes: &[u16], text: &mut [u8]) -> usize
     let mut place: usize = 0;
     let mut count: u8 = 0;
     let mut at: usize = 0;
+    // No `for`: how far a packet reaches is what the writer answers.
     while place < bytes.len() {
         let written = writer::write(bytes, sizes, place, count, packet);
         octets::copy(text, at, packet, 0, ts::MPEG_LENGTH);
