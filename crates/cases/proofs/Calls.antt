@@ -37,7 +37,8 @@ abbrev card : Flow → Table
 card f =
     record {
       rows =
-          closed_row ∷ row_with 0x102 1 fresh (at 7 3) ∷ row_with 0x101 1 fresh f ∷ closed_row ∷ closed_row ∷ row_with 0x104 2 fresh fresh ∷ [];
+          closed_row ∷ row_with 0x102 1 fresh (at 7 3) ∷ row_with 0x101 1 fresh f ∷ closed_row ∷ closed_row
+          ∷ row_with 0x104 2 fresh fresh ∷ [];
     }
 
 abbrev before : List ℕ
@@ -68,8 +69,8 @@ marked_1_to_4 : (received (card fresh) (ip A) (lent before)
     ≡ accepts 1 9 0 0 (card (at 1 0)) after_a (0x21 ∷ 0x22 ∷ 0x23 ∷ 0x24 ∷ 0x25 ∷ 0x26 ∷ 0x27 ∷ 0x28 ∷ 0x29 ∷ []) (9 ∷ []))
     × (received (card (at 1 0)) (ip B) (lent after_a) ≡ refuses 12 (card (at 1 0)) after_a)
     × (received (card fresh) (ip B) (lent before) ≡ accepts 0 0 7 0 (card (at 1 0)) before [] [])
-unfolding part rest put joined lengths_of any least sum_to up_to ahead next body_at segment_at segments wanted broken settled_by settled fate_by
-    fate at_gap in_order psp_fate hear carried_out refused received_by received
+unfolding part rest put joined lengths_of any least sum_to up_to ahead next body_at segment_at segments wanted broken settled_by settled
+    fate_by fate at_gap in_order psp_fate hear carried_out refused received_by received
 marked_1_to_4 = (refl, refl, refl, refl)
 
 -- one whole frame of 3 bytes with any number, from byte 6 on: high and low byte
@@ -82,8 +83,8 @@ marked_5_to_7 : (received (card (at 0 2)) (ip (whole 0x00 0x01)) (lent after_a)
     × (received (card (at 0 2)) (ip (whole 0x7F 0xFF)) (lent after_a)
     ≡ accepts 1 3 2 32767 (card (at 0x8000 0)) after_a (0x33 ∷ 0x34 ∷ 0x35 ∷ []) (3 ∷ []))
     × (received (card (at 0 2)) (ip (whole 0x80 0x00)) (lent after_a) ≡ refuses 12 (card (at 0 2)) after_a)
-unfolding part rest put joined lengths_of any least sum_to up_to ahead next body_at segment_at segments wanted broken settled_by settled fate_by
-    fate at_gap in_order psp_fate hear carried_out refused received_by received
+unfolding part rest put joined lengths_of any least sum_to up_to ahead next body_at segment_at segments wanted broken settled_by settled
+    fate_by fate at_gap in_order psp_fate hear carried_out refused received_by received
 marked_5_to_7 = (refl, refl, refl)
 
 -- M8: 2,047 held and an E segment of 1: a frame of 2,048. M9: 2,048 held and one more: 2,049 dropped. M10: count 0 is 9. M11: A
@@ -99,8 +100,8 @@ marked_8_to_11 : (received (card (at 4 2047)) (ip one_more) (lent (full 2047))
     × (received (card (at 4 2048)) (ip one_more) (lent (full 2048)) ≡ accepts 0 0 2049 0 (card (at 5 0)) (full 2048) [] [])
     × (received (card fresh) (ip (set A 5 0)) (lent before) ≡ refuses 9 (card fresh) before)
     × (received (card fresh) (ip (take 19 A)) (lent before) ≡ refuses 10 (card fresh) before)
-unfolding part rest put joined lengths_of any least sum_to up_to ahead next body_at segment_at segments wanted broken settled_by settled fate_by
-    fate at_gap in_order psp_fate hear carried_out refused received_by received
+unfolding part rest put joined lengths_of any least sum_to up_to ahead next body_at segment_at segments wanted broken settled_by settled
+    fate_by fate at_gap in_order psp_fate hear carried_out refused received_by received
 marked_8_to_11 = (refl, refl, refl, refl)
 
 -- Flow 1 of the other channel: its 3 bytes are joined from its own place, and session 0x101 is left alone. Flow 3 of row 2, whose place
@@ -112,7 +113,8 @@ abbrev other_heard : Flow → Table
 other_heard f =
     record {
       rows =
-          closed_row ∷ row_with 0x102 1 fresh (at 8 0) ∷ row_with 0x101 1 fresh f ∷ closed_row ∷ closed_row ∷ row_with 0x104 2 fresh fresh ∷ [];
+          closed_row ∷ row_with 0x102 1 fresh (at 8 0) ∷ row_with 0x101 1 fresh f ∷ closed_row ∷ closed_row
+          ∷ row_with 0x104 2 fresh fresh ∷ [];
     }
 
 abbrev flow_3 : Flow → Table
@@ -131,8 +133,8 @@ places : (received (card (at 0 2)) (ip to_other) (lent after_a)
     × (received (flow_3 (at 4 1)) (ip to_flow_3) (lent (put before 22528 (0x60 ∷ [])))
     ≡ accepts 0 0 0 0 (flow_3 (at 5 3)) (put before 22528 (0x60 ∷ 0x61 ∷ 0x62 ∷ [])) [] [])
     × (received (card (at 0xFFFF 2)) (ip B) (lent after_a) ≡ accepts 0 0 9 1 (card (at 1 0)) after_a [] [])
-unfolding part rest put joined lengths_of any least sum_to up_to ahead next body_at segment_at segments wanted broken settled_by settled fate_by
-    fate at_gap in_order psp_fate hear carried_out refused received_by received
+unfolding part rest put joined lengths_of any least sum_to up_to ahead next body_at segment_at segments wanted broken settled_by settled
+    fate_by fate at_gap in_order psp_fate hear carried_out refused received_by received
 places = (refl, refl, refl)
 
 -- D-MPT in row 3: two MPEG packets, the second with PID 0x1FFF. With S clear the number is ignored and a fresh flow stays fresh; with S
@@ -157,8 +159,8 @@ dmpt : (received (dmpt_card fresh) (ip (D 0x00)) (lent before) ≡ accepts 1 188
     ≡ accepts 1 188 188 0 (dmpt_card (at 0x1235 0)) before (mpeg 0xFE) (188 ∷ []))
     × (received (dmpt_card (at 0x1235 0)) (ip (set (D 0x40) 8 0x48)) (lent before) ≡ refuses 11 (dmpt_card (at 0x1235 0)) before)
     × (received (dmpt_card fresh) (ip (D 0x41)) (lent before) ≡ refuses 7 (dmpt_card fresh) before)
-unfolding part rest put joined lengths_of any least sum_to up_to ahead next mpeg_at mpegs broken in_order pass_all dmpt_fate hear carried_out
-    refused received_by received
+unfolding part rest put joined lengths_of any least sum_to up_to ahead next mpeg_at mpegs broken in_order pass_all dmpt_fate hear
+    carried_out refused received_by received
 dmpt = (refl, refl, refl, refl, refl, refl, refl, refl)
 
 -- The order: each call meets a refusal and a later one. Slices that are too short come first, each by itself; then a broken table,
@@ -168,15 +170,17 @@ short holding output sizes = record { holding = replicate holding 5; output = re
 
 abbrev broken-card : Table
 broken-card =
-    record { rows = closed_row ∷ row_with 0x102 1 fresh (at 7 2049) ∷ row_with 0x101 1 fresh fresh ∷ closed_row ∷ closed_row ∷ closed_row ∷ [] }
+    record {
+      rows = closed_row ∷ row_with 0x102 1 fresh (at 7 2049) ∷ row_with 0x101 1 fresh fresh ∷ closed_row ∷ closed_row ∷ closed_row ∷ [];
+    }
 
 longer : received (card fresh) (ip B) (short 49153 6145 128)
     ≡ record {
       answer = record { code = 0; frames = 0; bytes = 0; dropped = 7; gap = 0; table = card (at 1 0) };
       slices = short 49153 6145 128;
     }
-unfolding part rest put joined lengths_of any least sum_to up_to ahead next body_at segment_at segments wanted broken settled_by settled fate_by
-    fate at_gap in_order psp_fate hear carried_out refused received_by received
+unfolding part rest put joined lengths_of any least sum_to up_to ahead next body_at segment_at segments wanted broken settled_by settled
+    fate_by fate at_gap in_order psp_fate hear carried_out refused received_by received
 longer = refl
 
 order : (received broken-card (ip []) (short 49151 6144 127) ≡ refused 1 broken-card (short 49151 6144 127))
@@ -218,8 +222,8 @@ without_number : (received (card fresh) (ip (clear A)) (lent before)
     × (received (card (at 4 2048)) (ip (sized 8 1)) (lent (full 2048)) ≡ accepts 0 0 4097 0 (card (at 4 0)) (full 2048) [] [])
     × (received (card (at 0 2)) (ip (take 19 (clear A))) (lent after_a) ≡ refuses 10 (card (at 0 2)) after_a)
     × (received (card (at 0 2)) (ip (set (clear A) 10 0x00)) (lent after_a) ≡ refuses 11 (card (at 0 2)) after_a)
-unfolding part rest put joined lengths_of any least sum_to up_to body_at segment_at segments wanted broken in_order pass_all unnumbered_fate hear
-    carried_out refused received_by received
+unfolding part rest put joined lengths_of any least sum_to up_to body_at segment_at segments wanted broken in_order pass_all
+    unnumbered_fate hear carried_out refused received_by received
 without_number = (refl, refl, refl, refl, refl, refl, refl, refl)
 
 -- Over UDP (W1): A, and B behind it, come to what they come to over IP, and leave the same; so either may come by either. B once more is

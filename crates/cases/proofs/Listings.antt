@@ -35,10 +35,8 @@ pub listed : listing capture
     ++ ascii "3 data 12 0 0 0 0\n"
     ++ ascii "4 close 0 0 0 0 0\n"
 unfolding listing listing_by line_at line columns decimal digits column file_refusal body_start nth_entry begin run_one standing answer_at
-    answer after
-    opened closed broken received received_by carried_out refused hear psp_fate settled_by settled fate_by fate at_gap in_order wanted body_at
-    segment_at segments
-    ahead next part rest put joined lengths_of any least sum_to up_to
+    answer after opened closed broken received received_by carried_out refused hear psp_fate settled_by settled fate_by fate at_gap
+    in_order wanted body_at segment_at segments ahead next part rest put joined lengths_of any least sum_to up_to
 listed = refl
 
 -- session 0x101 is open and has received packet A: two bytes are held
@@ -62,11 +60,10 @@ pub traced : trace capture
     ++ ascii " row 0 257 1\n"
     ++ ascii " flow 0 1 1 0 -\n"
     ++ ascii "4 close 0 0 0 0 0\n"
-unfolding trace trace_by traced_at frames_text frame_line rows_text row_text row_line flow_text flow_line hex cut_by line_at line columns decimal
-    digits column file_refusal body_start nth_entry begin run_one standing answer_at answer after
-    opened closed broken received received_by carried_out refused hear psp_fate settled_by settled fate_by fate at_gap in_order wanted body_at
-    segment_at segments
-    ahead next part rest put joined lengths_of any least sum_to up_to
+unfolding trace trace_by traced_at frames_text frame_line rows_text row_text row_line flow_text flow_line hex cut_by line_at line columns
+    decimal digits column file_refusal body_start nth_entry begin run_one standing answer_at answer after opened closed broken received
+    received_by carried_out refused hear psp_fate settled_by settled fate_by fate at_gap in_order wanted body_at segment_at segments ahead
+    next part rest put joined lengths_of any least sum_to up_to
 traced = refl
 
 -- Two channels use the same flow number at the same time, and each has half a frame: the frame of the first comes out whole, and the close
@@ -118,11 +115,10 @@ pub two_traced : trace two_channels
     ++ ascii " row 0 257 1\n"
     ++ ascii " flow 0 1 7 0 -\n"
     ++ ascii " row 1 259 2\n"
-unfolding trace trace_by traced_at frames_text frame_line rows_text row_text row_line flow_text flow_line hex cut_by line_at line columns decimal
-    digits column file_of file_refusal body_start nth_entry begin run_one standing answer_at answer after
-    opened closed broken received received_by carried_out refused hear psp_fate settled_by settled fate_by fate at_gap in_order wanted body_at
-    segment_at segments
-    ahead next part rest put joined lengths_of any least sum_to up_to
+unfolding trace trace_by traced_at frames_text frame_line rows_text row_text row_line flow_text flow_line hex cut_by line_at line columns
+    decimal digits column file_of file_refusal body_start nth_entry begin run_one standing answer_at answer after opened closed broken
+    received received_by carried_out refused hear psp_fate settled_by settled fate_by fate at_gap in_order wanted body_at segment_at
+    segments ahead next part rest put joined lengths_of any least sum_to up_to
 two_traced = refl
 
 -- A file with one byte left over prints one line, traced or not.
@@ -177,11 +173,10 @@ pub gap_traced : trace gapped
     ++ ascii " row 1 257 1\n"
     ++ ascii "5 close 0 0 0 1 0\n"
     ++ ascii " row 1 257 1\n"
-unfolding trace trace_by traced_at frames_text frame_line rows_text row_text row_line flow_text flow_line hex cut_by line_at line columns decimal
-    digits column file_of file_refusal body_start nth_entry begin run_one standing answer_at answer after
-    opened closed broken received received_by carried_out refused hear psp_fate settled_by settled fate_by fate at_gap in_order wanted body_at
-    segment_at segments
-    ahead next part rest put joined lengths_of any least sum_to up_to
+unfolding trace trace_by traced_at frames_text frame_line rows_text row_text row_line flow_text flow_line hex cut_by line_at line columns
+    decimal digits column file_of file_refusal body_start nth_entry begin run_one standing answer_at answer after opened closed broken
+    received received_by carried_out refused hear psp_fate settled_by settled fate_by fate at_gap in_order wanted body_at segment_at
+    segments ahead next part rest put joined lengths_of any least sum_to up_to
 gap_traced = refl
 
 -- A core that speaks UDP (W1, kind 5): A over UDP; a control message of its own, with T set; B over IP; what is over IP given as if it were
@@ -211,10 +206,10 @@ pub either_traced : trace by_either
     ++ ascii "5 data 2 0 0 0 0\n"
     ++ ascii " row 0 257 1\n"
     ++ ascii " flow 0 1 1 0 -\n"
-unfolding trace trace_by traced_at frames_text frame_line rows_text row_text row_line flow_text flow_line hex cut_by line_at line columns decimal
-    digits column file_of file_refusal body_start nth_entry begin run_one standing answer_at answer after opened closed broken received received_by
-    carried_out refused hear psp_fate settled_by settled fate_by fate at_gap in_order wanted body_at segment_at segments ahead next part rest put
-    joined lengths_of any least sum_to up_to
+unfolding trace trace_by traced_at frames_text frame_line rows_text row_text row_line flow_text flow_line hex cut_by line_at line columns
+    decimal digits column file_of file_refusal body_start nth_entry begin run_one standing answer_at answer after opened closed broken
+    received received_by carried_out refused hear psp_fate settled_by settled fate_by fate at_gap in_order wanted body_at segment_at
+    segments ahead next part rest put joined lengths_of any least sum_to up_to
 either_traced = refl
 
 -- six rows, and four flows in the last

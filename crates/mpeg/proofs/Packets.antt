@@ -123,6 +123,9 @@ module _ (d bytes : List ℕ) (place left count : ℕ) (w : Waiting bytes place 
     pub unpointed_there : place + payload_length ≤ length bytes
     unpointed_there = omega (arith, far, w.something, w.all_there)
 
+    pub unpointed_carries : payload_length ≡ carries left waiting
+    unpointed_carries = rw (le-leb payload_length left far) refl
+
     pub unpointed_written : (first last : List ℕ) → first ≡ put d 0 (header false frames_pid count) →
         last ≡ put first head_length (part bytes place payload_length) → last ≡ put d 0 (data_packet count left waiting)
     unpointed_written first last e f =

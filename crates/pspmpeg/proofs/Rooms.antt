@@ -27,7 +27,8 @@ use Rattle.card.specs.Receive.{holding_size, row_of, flow_of, held_by, packet_re
 use Rattle.card.specs.History.{Card, Arrival, opens, closes, hands, lent_with, frames_of, answer}
 use Rattle.card.proofs.Accepted as call
 use Rattle.card.proofs.Limits.{body_bytes, accepted_bounded, held-length}
-use Rattle.capture.specs.File.{Entry, head_length, entry_length, longest_file, open_psp, open_dmpt, closing, entry_count, body_length, body_start}
+use Rattle.capture.specs.File.{Entry, head_length, entry_length, longest_file, open_psp, open_dmpt, closing, entry_count, body_length}
+use Rattle.capture.specs.File.{body_start}
 use Rattle.capture.specs.File.{file_refusal, nth_entry}
 use Rattle.capture.proofs.Checking.{is_sound}
 use Rattle.replay.specs.Run.{Running, asks, packet_of, call_of, answer_to, run_one, begin, standing, answer_at}

@@ -338,6 +338,7 @@ fn write_segments(output: &mut [u8], frames: Frames, room: usize, position: Posi
         count: 0,
         bytes: 0,
     };
+    // No `for`: how many segments fit is known when the room is used up.
     while goes_on(frames, progress) {
         progress = place(output, frames, progress);
     }

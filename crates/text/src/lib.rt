@@ -14,6 +14,7 @@ fn digit_count(number: u32) -> usize
 {
     let mut count: usize = 1;
     let mut left = number;
+    // No `for`: how many digits there are is what is counted.
     while 9 < left {
         left /= 10;
         count += 1;
@@ -95,6 +96,7 @@ impl<'a> Text<'a> {
         let next = self.length + digit_count(number);
         let mut place = next;
         let mut rest = number;
+        // No `for`: it goes by what is left of the number.
         while 9 < rest {
             place -= 1;
             self.room[place] = digit_byte(rest % 10);

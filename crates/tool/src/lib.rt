@@ -75,6 +75,7 @@ pub fn read_input(input: &mut impl Read, room: &mut [u8]) -> usize
     ensures { IsPrefixLen result room.new }
 {
     let mut done = 0;
+    // No `for`: how much a read gives is for the input to say.
     while done < room.len() {
         match input.read(&mut room[done..]) {
             Ok(0) | Err(_) => break,
