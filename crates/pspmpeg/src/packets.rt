@@ -26,11 +26,7 @@ pub fn write_packets(bytes: &[u8], sizes: &[u16], text: &mut Text)
     }
     let mut place: usize = 0;
     let mut count: u8 = 0;
-<<<<<<< HEAD
-=======
-    let mut at: usize = 0;
     // No `for`: how far a packet reaches is what the writer answers.
->>>>>>> 24d78c39e7476023c653b2565cb8971ad37e5f55
     while place < bytes.len() {
         let written = writer::write(bytes, sizes, place, count, packet);
         text.words(packet);
