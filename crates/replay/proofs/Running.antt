@@ -36,7 +36,7 @@ no_call number (Ok kind.Data) reads psp dmpt close = (λ e. omega arith, λ e. o
 no_call number (Ok kind.DataOverUdp) reads psp dmpt close = (λ e. omega arith, λ e. omega arith, λ e. omega arith)
 no_call number (Err unknown) reads psp dmpt close =
     let P : ℕ → Type 0 = λ n. is_kind (body_in kinds n) ≡ false in
-    (λ e. true≢false (subst P e reads), λ e. true≢false (subst P e reads), λ e. true≢false (subst P e reads))
+    (λ e. true≢false (subst P e reads.0), λ e. true≢false (subst P e reads.0), λ e. true≢false (subst P e reads.0))
 
 abbrev entry_of : ℕ → List ℕ → Entry
 entry_of kind body = record { kind = kind; body = body }
