@@ -10,8 +10,8 @@ use text::Text;
 // Room for the packets of as many bytes as a capture has. Every packet but the last carries 183 at least.
 pub const STREAM_ROOM: usize = ts::MPEG_LENGTH * (capture::LONGEST_FILE / mpeg::POINTED_LENGTH + 1);
 
-// Writes the packets of these frames, or the line of the refusal. The first call is made twice: a refusal comes of the frames and not of the
-// place, so what it answers the others answer too, and where no frame waits it would write a null packet.
+// Writes the packets of these frames, or the line of the refusal. The first call is made twice: a refusal comes of the frames and not of
+// the place, so what it answers the others answer too, and where no frame waits it would write a null packet.
 pub fn write_packets(bytes: &[u8], sizes: &[u16], text: &mut Text)
     requires { (length bytes.now ≤ longest_file) × HasRoom text.old stream_room }
     ensures wrote { Appended text.old text.new (stream_from bytes.now sizes.now) }

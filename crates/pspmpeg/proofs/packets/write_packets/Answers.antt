@@ -34,7 +34,8 @@ pub loop-place-preserved : goal.loop-place-preserved
 loop-place-preserved c =
     let before = c.loop-place.invariant in
     let packet = c.words.ensures in (
-      drain_turn before.0 c.requires.1 c.requires.0 c.loop-place-test.true _ _ _ before.1 c.write-written.ensures packet.wrote packet.same_room,
+      drain_turn before.0 c.requires.1 c.requires.0 c.loop-place-test.true _ _ _ before.1 c.write-written.ensures packet.wrote
+          packet.same_room,
       c.write-written.auto.output ∙ before.1,
     )
 
