@@ -23,7 +23,8 @@ stream-refused session file (suc c) e some = ap (λ (n : ℕ). stream_by n sessi
 pub stream-sound : (session : ℕ) (file : List ℕ) {bytes sizes text text' : List ℕ} {g : Gathered} {at next : ℕ} →
     file_refusal file ≡ 0 →
     Gathers (delivered session file) bytes sizes g → g.total ≤ length bytes → g.count ≤ length sizes →
-    Wrote text text' at next (stream_from (take g.total g.bytes.now) (take g.count g.sizes.now)) → Wrote text text' at next (stream session file)
+    Wrote text text' at next (stream_from (take g.total g.bytes.now) (take g.count g.sizes.now)) →
+    Wrote text text' at next (stream session file)
 unfolding stream stream_by
 stream-sound session file {bytes} {sizes} {g = g} z h few many w =
     let frames = delivered session file in

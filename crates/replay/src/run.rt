@@ -64,6 +64,7 @@ pub fn run_entry(table: Table, lent: &mut Lent, kind: u8, body: &[u8]) -> Receiv
         Ok(Kind::Close) => close(table, octets::read_u32(body, 0)),
         _ => {
             let transport = transport_of(kind);
+            // The call is C's too, so it takes the slices one by one.
             card::receive(
                 table,
                 transport,

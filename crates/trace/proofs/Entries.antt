@@ -19,7 +19,8 @@ use Rattle.listing.proofs.Lines.{line_is}
 use Rattle.trace.specs.Trace.{frame_line, frames_text, rows_text, traced_at}
 
 module _ {file : List ℕ} {w further : Walk} {s : Stepped} {lent : Lent} (stepped : Steps file w s further lent) where
-  frames_are : joined (map frame_line (frames_found s.answer.frames lent.lengths.now lent.output.now)) ≡ frames_text (answer_at file w.index)
+  frames_are : joined (map frame_line (frames_found s.answer.frames lent.lengths.now lent.output.now))
+      ≡ frames_text (answer_at file w.index)
   unfolding frames_text
   frames_are = ap (λ (l : List (List ℕ)). joined (map frame_line l)) (frames_found_lem stepped)
 

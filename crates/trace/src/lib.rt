@@ -30,7 +30,7 @@ pub fn trace_entry(file: &[u8], walk: &mut Walk, lent: &mut Lent, text: &mut Tex
 {
     let index = walk.index as u32;
     let stepped = walk.step(file, lent);
-    let left: &Lent = lent;
+    let left: &Lent = lent; // from here on the slices are only read
     let answer = stepped.answer;
     line::write_line(text, index, stepped.kind, answer);
     frames::write_frames(text, left, answer.frames as usize);

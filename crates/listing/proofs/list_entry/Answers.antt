@@ -4,8 +4,9 @@ use Rattle.listing.proofs.list_entry.Goals as goal
 
 pub returns-clause-wrote : goal.returns-clause-wrote
 returns-clause-wrote c =
-    let step = c.step-stepped in (
-      line_is c.args.file.now c.args.walk.now.index step.result.kind step.result.answer step.ensures.steps.its_kind step.ensures.steps.its_counts
+    let step = c.step-stepped.result in
+    let did = c.step-stepped.ensures.steps in (
+      line_is c.args.file.now c.args.walk.now.index step.kind step.answer did.its_kind did.its_counts
           c.write_line.ensures.wrote,
       c.write_line.ensures.upper_bound,
     )

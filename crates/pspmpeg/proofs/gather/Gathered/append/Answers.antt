@@ -53,7 +53,9 @@ overflow_add-self-3 c =
 pub returns-clause-adds : goal.returns-clause-adds
 returns-clause-adds c =
     let i = c.loop-i.invariant in
-    append_adds c.requires (c.copy.ensures ∙ ap (λ (l : List ℕ). put l c.loop-i.self.total (part c.args.lent.now.output.now 0 c.loop-i.sum)) i.bytes_same
-    ∙ ap (λ (n : ℕ). put c.args.self.now.bytes.now n (part c.args.lent.now.output.now 0 c.loop-i.sum)) i.counts_same.1)
+    let more = part c.args.lent.now.output.now 0 c.loop-i.sum in
+    append_adds c.requires
+    (c.copy.ensures ∙ ap (λ (l : List ℕ). put l c.loop-i.self.total more) i.bytes_same
+    ∙ ap (λ (n : ℕ). put c.args.self.now.bytes.now n more) i.counts_same.1)
     (all_appended i.appending c.requires.lengths-there c.requires.sizes_fit c.loop-i-test.false)
     (ap (λ (n : ℕ). n + c.args.more) i.counts_same.0) (ap (λ (n : ℕ). n + c.loop-i.sum) i.counts_same.1)

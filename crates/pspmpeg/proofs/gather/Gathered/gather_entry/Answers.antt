@@ -1,5 +1,5 @@
--- `pspmpeg::gather::Gathered::gather_entry` is right since what it takes the entry for is what the definition takes it for, and the entry's frames
--- lie in the slices that the step leaves.
+-- `pspmpeg::gather::Gathered::gather_entry` is right since what it takes the entry for is what the definition takes it for, and the
+-- entry's frames lie in the slices that the step leaves.
 use Rattle.capture.proofs.Checking.{entry_inside}
 use Rattle.card.specs.History.{frames_of}
 use Rattle.replay.specs.Run.{answer_at}
