@@ -93,8 +93,8 @@ fn give_way(begins: bool, tally: Tally) -> Tally
 
 // Joins the bytes of a segment to what is held, and settles it: too long, it is dropped; with E it is delivered; else it is held.
 //
-// Here and below the holding slice comes whole, with the place of the flow in it, and not the place as a slice of its own: the definitions say
-// of the whole slice what a call leaves in it (`put`, at the place), and of its own slice that would have to be said a second time.
+// Here and below the holding slice comes whole, with the place of the flow in it, and not the place as a slice of its own: the definitions
+// say of the whole slice what a call leaves in it (`put`, at the place), and of its own slice that would have to be said a second time.
 fn settle(
     holding: &mut [u8],
     place: usize,

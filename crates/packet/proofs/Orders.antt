@@ -1,4 +1,5 @@
--- What `?` hands on in a segment request: the number of the part that refused is that of the whole order, since no refusal has the number 0.
+-- What `?` hands on in a segment request: the number of the part that refused is that of the whole order, since no refusal has the
+-- number 0.
 use Prim.Native.Nat.{ℕ}
 use mathlib.Core.Path.{◌≡◌, sym, ap, ◌∙◌}
 use mathlib.Core.List.{[], ◌∷◌}

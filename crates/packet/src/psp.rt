@@ -56,8 +56,8 @@ pub struct Surveyed {
     pub bad: bool,
 }
 
-// The segment table of a packet: what stands behind the packet's session ID, and how many bytes an entry has. It may be cut, and its entries
-// may say anything, until `refuse` has looked.
+// The segment table of a packet: what stands behind the packet's session ID, and how many bytes an entry has. It may be cut, and its
+// entries may say anything, until `refuse` has looked.
 #[derive(Clone, Copy)]
 pub struct SegmentTable<'a> {
     pub sub: Sub<'a>,
@@ -93,7 +93,8 @@ impl<'a> SegmentTable<'a> {
     // here and below put the loop where it stands.
     #[inline(always)]
     fn survey(self, count: usize) -> Surveyed
-        requires { (1 ≤ count) × (count ≡ segment_count self.sub.bytes.now) × (header_length + self.width * count ≤ length self.sub.bytes.now) }
+        requires { (1 ≤ count) × (count ≡ segment_count self.sub.bytes.now)
+            × (header_length + self.width * count ≤ length self.sub.bytes.now) }
         ensures total_value { result.total ≡ sum_to (length_at self.entry.width self.entry.sub.bytes.now) count }
         ensures bad_value { result.bad ≡ any (bad_at self.entry.width self.entry.sub.bytes.now) count }
         ensures total_in_bounds { result.total ≤ length_values * count }

@@ -19,7 +19,8 @@ pub fn walk(output: &mut Output, table: SegmentTable, most: u16, held: usize) ->
     requires room { (most_bytes ≤ length output.old.bytes.now) × (most_frames ≤ length output.old.lengths.now) }
     requires small { (held ≤ longest) × (id_length + length table.sub.bytes.now ≤ longest_packet) }
     requires passed { first (segment_refusals table.width table.sub.bytes.now) ≡ 0 }
-    ensures by_index { (bytes : List ℕ) → length bytes ≡ held → Placed (unnumbered_fate most bytes (segments table.entry.width table.entry.sub.bytes.now))
+    ensures by_index { (bytes : List ℕ) → length bytes ≡ held →
+        Placed (unnumbered_fate most bytes (segments table.entry.width table.entry.sub.bytes.now))
         0 nothing_yet (with_output [] output.old) result (with_output [] output.new) }
     ensures within { Within result }
     ensures same_slices { SameSlices output.old output.new }

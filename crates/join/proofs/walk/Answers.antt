@@ -18,7 +18,8 @@ use Rattle.join.proofs.Walking.{walk_frames, walk_run, run_room, walk_within, wa
 use Rattle.join.proofs.walk.Goals as goal
 
 ready : (most width gap held place : ℕ) (sub : List ℕ) (lent : Slices) → Roomy place lent →
-    (held ≤ most) × (most ≤ longest) × (id_length + length sub ≤ longest_packet) → first (segment_refusals width sub) ≡ 0 → Ready (task most width gap held place sub lent)
+    (held ≤ most) × (most ≤ longest) × (id_length + length sub ≤ longest_packet) → first (segment_refusals width sub) ≡ 0 →
+    Ready (task most width gap held place sub lent)
 ready most width gap held place sub lent roomy small none =
     record {
       passed = segments-passed width sub none;

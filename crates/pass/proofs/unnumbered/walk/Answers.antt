@@ -80,7 +80,8 @@ pass_on-tally-requires-clause-room c =
     let a = c.args in
     let some : List ℕ = replicate a.held 0 in
     carry_room (segment_load a.most a.table.width some a.table.sub.bytes.now)
-    (fitting a.most a.table.width a.held a.table.sub.bytes.now some c.requires.small c.requires.passed (as_many a.held)) c.requires.room.0 c.requires.room.1
+    (fitting a.most a.table.width a.held a.table.sub.bytes.now some c.requires.small c.requires.passed (as_many a.held))
+    c.requires.room.0 c.requires.room.1
     (c.loop-k.invariant.carrying some (as_many a.held))
 
 pub pass_on-tally-requires-clause-fits : goal.pass_on-tally-requires-clause-fits
@@ -94,7 +95,8 @@ pass_on-tally-requires-clause-fits c =
     let sized = c.length_of.ensures.0 in
     rw (cut-length whole there i.at read sized, is-size whole there i.at read sized)
     (carry_fits (segment_load a.most a.table.width some a.table.sub.bytes.now)
-    (fitting a.most a.table.width a.held a.table.sub.bytes.now some c.requires.small c.requires.passed (as_many a.held)) c.requires.room.0 c.requires.room.1
+    (fitting a.most a.table.width a.held a.table.sub.bytes.now some c.requires.small c.requires.passed (as_many a.held))
+    c.requires.room.0 c.requires.room.1
     (i.carrying some (as_many a.held)) there)
 
 pub loop-k-preserved : goal.loop-k-preserved
@@ -105,7 +107,8 @@ loop-k-preserved c =
     let i = c.loop-k.invariant in
     let read = c.entry-entry.ensures in
     let sized = c.length_of.ensures.0 in
-    let same = segment_read a.most a.table.width a.table.sub.bytes.now whole c.loop-k.k there _ _ _ _ _ i.at read sized c.begins.ensures c.ends.ensures in
+    let same = segment_read a.most a.table.width a.table.sub.bytes.now whole c.loop-k.k there _ _ _ _ _ i.at read sized
+    c.begins.ensures c.ends.ensures in
     let on = c.pass_on-tally.ensures in
     record {
       same_slices = (on.same_slices.0 ∙ i.same_slices.0, on.same_slices.1 ∙ i.same_slices.1);
@@ -113,7 +116,8 @@ loop-k-preserved c =
       carrying =
           λ bytes e.
           carry_turn (segment_load a.most a.table.width bytes a.table.sub.bytes.now)
-          (fitting a.most a.table.width a.held a.table.sub.bytes.now bytes c.requires.small c.requires.passed e) c.requires.room.0 c.requires.room.1
+          (fitting a.most a.table.width a.held a.table.sub.bytes.now bytes c.requires.small c.requires.passed e) c.requires.room.0
+          c.requires.room.1
           (i.carrying bytes e) there _ _ _
           (rw (← same) (rw (cut-length whole there i.at read sized, cut whole there i.at read sized) at on.placed));
     }
@@ -123,7 +127,8 @@ unfolding unnumbered_fate segments
 returns-clause-by_index c bytes e =
     let a = c.args in
     carry_end (segment_load a.most a.table.width bytes a.table.sub.bytes.now)
-    (fitting a.most a.table.width a.held a.table.sub.bytes.now bytes c.requires.small c.requires.passed e) c.requires.room.0 c.requires.room.1
+    (fitting a.most a.table.width a.held a.table.sub.bytes.now bytes c.requires.small c.requires.passed e) c.requires.room.0
+    c.requires.room.1
     (c.loop-k.invariant.carrying bytes e) (omega (arith, c.segment_count-count.ensures.0))
 
 pub returns-clause-within : goal.returns-clause-within
@@ -131,5 +136,6 @@ returns-clause-within c =
     let a = c.args in
     let some : List ℕ = replicate a.held 0 in
     carry_within (segment_load a.most a.table.width some a.table.sub.bytes.now)
-    (fitting a.most a.table.width a.held a.table.sub.bytes.now some c.requires.small c.requires.passed (as_many a.held)) c.requires.room.0 c.requires.room.1
+    (fitting a.most a.table.width a.held a.table.sub.bytes.now some c.requires.small c.requires.passed (as_many a.held))
+    c.requires.room.0 c.requires.room.1
     (c.loop-k.invariant.carrying some (as_many a.held))
