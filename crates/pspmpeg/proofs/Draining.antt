@@ -13,12 +13,13 @@ use Rattle.octets.specs.Stretch.{part, rest, put, joined, lengths_of}
 use Rattle.octets.specs.Tests.{none}
 use Rattle.octets.proofs.Counts.{true-or-false}
 use Rattle.octets.proofs.Tests.{none-length, none-some}
-use Rattle.octets.proofs.Stretches.{length_part, part-short, part-append, length_rest, rest-append, length-put, part-put, put-nil}
-use Rattle.octets.proofs.Stretches.{put-put_front, joined-none, joined-cons, joined-one_more, length-joined-none, lengths_of-none}
+use Rattle.octets.proofs.Stretches.{length_part, part_all, part-short, part-append, length_rest, rest-append, length-put, part-put}
+use Rattle.octets.proofs.Stretches.{joined-none, joined-cons, joined-one_more, lengths_of-none}
 use Rattle.octets.proofs.Stretches.{lengths_of-cons}
 use Rattle.ts.specs.Packet.{mpeg_length, payload_length, header, fill_byte}
-use Rattle.text.specs.Text.{Wrote}
-use Rattle.text.proofs.Writing.{wrote_as}
+use Rattle.text.specs.declared.Text.{Text}
+use Rattle.text.specs.Text.{Appended, SameRoom, HasRoom}
+use Rattle.text.proofs.Writing.{wrote_none, wrote_then, wrote_as}
 use Rattle.capture.specs.File.{longest_file}
 use Rattle.tool.specs.Refused.{refused_line}
 use Rattle.mpeg.specs.declared.writer.Written.{Written}
@@ -115,21 +116,21 @@ unfolding packets_from
 none_waits zero bytes lengths place count e = refl
 none_waits (suc n) bytes lengths place count e = rw (none-length (rest bytes place) e) refl
 
-pub record Draining (bytes lengths text₀ text : List ℕ) (place count at : ℕ) : Type 0 where
+pub record Draining (bytes lengths : List ℕ) (before text : Text) (place count : ℕ) : Type 0 where
   pub written_so_far : List (List ℕ)
   pub steps_left : ℕ
   pub turns : ℕ
   pub sound : bad_frames lengths bytes ≡ false
   pub all_are : packets_from (length bytes) bytes lengths 0 0 ≡ written_so_far ++ packets_from steps_left bytes lengths place count
   pub steps_enough : length bytes ≤ place + steps_left
-  pub text_now : text ≡ put text₀ 0 (joined written_so_far)
-  pub at_is : at ≡ length (joined written_so_far)
-  pub at_turns : at ≡ mpeg_length * turns
+  pub wrote : Appended before text (joined written_so_far)
+  pub same_room : SameRoom before text
+  pub length_is : text.length ≡ before.length + mpeg_length * turns
   pub full : (length bytes ≤ place) ⊎ (pointed_length * turns ≤ place)
-  pub inside : at ≤ stream_room
 
-pub drain-begin : (bytes lengths text : List ℕ) → bad_frames lengths bytes ≡ false → Draining bytes lengths text text 0 0 0
-drain-begin bytes lengths text h =
+pub drain-begin : (bytes lengths : List ℕ) (before : Text) → HasRoom before 0 → bad_frames lengths bytes ≡ false →
+    Draining bytes lengths before before 0 0
+drain-begin bytes lengths before room h =
     record {
       written_so_far = [];
       steps_left = length bytes;
@@ -137,18 +138,14 @@ drain-begin bytes lengths text h =
       sound = h;
       all_are = refl;
       steps_enough = omega arith;
-      text_now = sym (ap (put text 0) joined-none ∙ put-nil text 0);
-      at_is = sym length-joined-none;
-      at_turns = refl;
+      wrote = wrote_as (sym joined-none) (wrote_none before.room.now before.length (omega (arith, room)));
+      same_room = (refl, refl);
+      length_is = omega arith;
       full = inr (omega arith);
-      inside = omega arith;
     }
 
-module _ {bytes lengths text₀ text : List ℕ} {place count at : ℕ} (d : Draining bytes lengths text₀ text place count at)
-    (room : stream_room ≤ length text₀) where
-  pub text_same : length text ≡ length text₀
-  text_same = ap length d.text_now ∙ length-put text₀ 0 (joined d.written_so_far) (omega (arith, d.at_is, d.inside, room))
-
+module _ {bytes lengths : List ℕ} {before text : Text} {place count : ℕ} (d : Draining bytes lengths before text place count)
+    (room : HasRoom before stream_room) where
   module _ (short : length bytes ≤ longest_file) (more : place < length bytes) where
     turns-few : pointed_length * d.turns ≤ place
     turns-few = by d.full
@@ -157,11 +154,11 @@ module _ {bytes lengths text₀ text : List ℕ} {place count at : ℕ} (d : Dra
         by (inl h) = absurd (omega (arith, h, more))
         by (inr h) = h
 
-    room-left : at + mpeg_length ≤ stream_room
-    room-left = omega (arith, turns-few, short, more, d.at_turns)
+    room-left : mpeg_length * d.turns + mpeg_length ≤ stream_room
+    room-left = omega (arith, turns-few, short, more)
 
-    pub packet_room : at + mpeg_length ≤ length text
-    packet_room = omega (arith, room-left, room, text_same)
+    pub packet_room : HasRoom text mpeg_length
+    packet_room = omega (arith, room-left, room, d.length_is, d.same_room.1)
 
     abbrev waiting : List ℕ
     waiting = rest bytes place
@@ -184,9 +181,8 @@ module _ {bytes lengths text₀ text : List ℕ} {place count at : ℕ} (d : Dra
     unfolding packets_from
     from_more n = rw (none-some waiting some_wait) refl
 
-    module _ (packet packet' text' : List ℕ) (r : Written) (long : length packet ≡ mpeg_length)
-        (e : record { answer = r; output = packet' } ≡ written (asked bytes lengths packet long place count))
-        (t : text' ≡ put text at (part packet' 0 mpeg_length)) where
+    module _ (packet packet' : List ℕ) (r : Written) (long : length packet ≡ mpeg_length)
+        (e : record { answer = r; output = packet' } ≡ written (asked bytes lengths packet long place count)) where
       is_wrote : record { answer = r; output = packet' } ≡ wrote (asked bytes lengths packet long place count)
       is_wrote = e ∙ written-sound bytes lengths packet long place count d.sound
 
@@ -205,14 +201,16 @@ module _ {bytes lengths text₀ text : List ℕ} {place count at : ℕ} (d : Dra
       new_long : length (packet_of count left waiting) ≡ mpeg_length
       new_long = packet_long count left waiting some_wait left_waits
 
-      copied : part packet' 0 mpeg_length ≡ packet_of count left waiting
-      copied =
-          ap (λ (l : List ℕ). part l 0 mpeg_length) packet_is
-          ∙ ap (part (put packet 0 (packet_of count left waiting)) 0) (sym new_long)
-          ∙ part-put packet 0 (packet_of count left waiting) (omega (arith, new_long, long))
+      is_whole : packet' ≡ packet_of count left waiting
+      is_whole =
+          let new = packet_of count left waiting in
+          packet_is ∙ sym (part_all (put packet 0 new))
+          ∙ ap (part (put packet 0 new) 0) (length-put packet 0 new (omega (arith, new_long, long)) ∙ long ∙ sym new_long)
+          ∙ part-put packet 0 new (omega (arith, new_long, long))
 
-      pub drain_turn : Draining bytes lengths text₀ text' r.place r.count (at + mpeg_length)
-      drain_turn = by d.steps_left refl
+      pub drain_turn : {text' : Text} → Appended text text' packet' → SameRoom text text' →
+          Draining bytes lengths before text' r.place r.count
+      drain_turn {text'} w same = by d.steps_left refl
         where
           new : List ℕ
           new = packet_of count left waiting
@@ -229,7 +227,7 @@ module _ {bytes lengths text₀ text : List ℕ} {place count at : ℕ} (d : Dra
           still (inl h) = inr (omega (arith, h, next_place, turns-few))
           still (inr h) = inl (omega (arith, h, next_place, length_rest bytes place))
 
-          by : (n : ℕ) → d.steps_left ≡ n → Draining bytes lengths text₀ text' r.place r.count (at + mpeg_length)
+          by : (n : ℕ) → d.steps_left ≡ n → Draining bytes lengths before text' r.place r.count
           by zero z = absurd (omega (arith, d.steps_enough, z, more))
           by (suc n) z =
               record {
@@ -242,18 +240,13 @@ module _ {bytes lengths text₀ text : List ℕ} {place count at : ℕ} (d : Dra
                     ∙ ap (λ (l : List (List ℕ)). done ++ l) (ap (λ (k : ℕ). packets_from k bytes lengths place count) z ∙ one_more n)
                     ∙ sym (append_assoc done (new ∷ []) (packets_from n bytes lengths r.place r.count));
                 steps_enough = omega (arith, d.steps_enough, z, next_place, goes_on);
-                text_now =
-                    t ∙ ap (put text at) copied ∙ ap (λ (l : List ℕ). put l at new) d.text_now
-                    ∙ ap (λ (k : ℕ). put (put text₀ 0 (joined done)) k new) d.at_is
-                    ∙ put-put_front text₀ (joined done) new (omega (arith, d.at_is, d.inside, room))
-                    ∙ ap (put text₀ 0) (sym (joined-one_more done new));
-                at_is = omega (arith, d.at_is, ap length (joined-one_more done new), length-append (joined done) new, new_long);
-                at_turns = omega (arith, d.at_turns);
+                wrote = wrote_as (sym (joined-one_more done new)) (wrote_then d.wrote (wrote_as is_whole w));
+                same_room = (same.0 ∙ d.same_room.0, same.1 ∙ d.same_room.1);
+                length_is = omega (arith, d.length_is, w.next_place, ap length is_whole, new_long);
                 full = still (carries_some left waiting some_wait).1;
-                inside = room-left;
               }
 
-  pub drain_end : length bytes ≤ place → Wrote text₀ text 0 at (stream_from bytes lengths)
+  pub drain_end : length bytes ≤ place → Appended before text (stream_from bytes lengths)
   unfolding stream_from
   drain_end past =
       let none_left : packets_from d.steps_left bytes lengths place count ≡ [] = none_more d.steps_left in
@@ -261,7 +254,7 @@ module _ {bytes lengths text₀ text : List ℕ} {place count at : ℕ} (d : Dra
       d.all_are ∙ ap (λ (l : List (List ℕ)). d.written_so_far ++ l) none_left ∙ append-nil d.written_so_far in
       wrote_as (ap joined (sym all)
       ∙ ap (λ (b : Bool). cond b (refused_line 52) (joined (packets_from (length bytes) bytes lengths 0 0))) (sym d.sound))
-      (record { there = d.text_now; next_place = omega (arith, d.at_is); inside = omega (arith, d.at_is, d.inside, room) })
+      d.wrote
     where
       none_more : (n : ℕ) → packets_from n bytes lengths place count ≡ []
       none_more n = none_waits n bytes lengths place count (omega (arith, length_rest bytes place, past))

@@ -20,13 +20,13 @@ unfolding stream stream_by
 stream-refused session file zero e some = absurd (some refl)
 stream-refused session file (suc c) e some = ap (λ (n : ℕ). stream_by n session file) e
 
-pub stream-sound : (session : ℕ) (file : List ℕ) {bytes sizes text text' : List ℕ} {g : Gathered} {next : ℕ} →
+pub stream-sound : (session : ℕ) (file : List ℕ) {bytes sizes text text' : List ℕ} {g : Gathered} {at next : ℕ} →
     file_refusal file ≡ 0 →
     Gathers (delivered session file) bytes sizes g → g.total ≤ length bytes → g.count ≤ length sizes →
-    Wrote text text' 0 next (stream_from (take g.total g.bytes.now) (take g.count g.sizes.now)) →
-    Wrote text text' 0 next (stream session file)
+    Wrote text text' at next (stream_from (take g.total g.bytes.now) (take g.count g.sizes.now)) →
+    Wrote text text' at next (stream session file)
 unfolding stream stream_by
-stream-sound session file {bytes} {sizes} {text} {text'} {g} {next} z h few many w =
+stream-sound session file {bytes} {sizes} {g = g} z h few many w =
     let frames = delivered session file in
     let front : take g.total g.bytes.now ≡ joined frames = sliced_put bytes (joined frames) g.total h.bytes_now h.total_is few in
     let sized : take g.count g.sizes.now ≡ lengths_of frames =

@@ -11,8 +11,7 @@
 mod gather;
 mod packets;
 
-ghost use Rattle.std.specs.Prelude.{◌≤◌, length};
-ghost use Rattle.text.specs.Text.{Wrote};
+ghost use Rattle.text.specs.Text.{Appended, SameRoom, HasRoom};
 ghost use Rattle.outputs.specs.Stream.{stream};
 ghost use Rattle.pspmpeg.specs.Inside.{stream_room};
 
@@ -52,20 +51,21 @@ fn session(env: &impl Env) -> Option<u32> {
 fn run(stdin: &mut impl Read, stdout: &mut impl Write, session: u32) {
     let mut file = [0u8; tool::CAPTURE_ROOM];
     let read = tool::read_input(stdin, &mut file);
-    let mut text = [0u8; packets::STREAM_ROOM];
-    let length = write_stream(&file[..read], session, &mut text);
-    tool::write_output(stdout, &text[..length]);
+    let mut room = [0u8; packets::STREAM_ROOM];
+    let mut text = Text::new(&mut room);
+    write_stream(&file[..read], session, &mut text);
+    tool::write_output(stdout, text.written());
 }
 
-// Writes the packets of a capture's frames, or the line of a refusal, and answers how long that is.
-fn write_stream(file: &[u8], session: u32, text: &mut [u8]) -> usize
-    requires { stream_room ≤ length text.old }
-    ensures { Wrote text.old text.new 0 result (stream session file.now) }
+// Writes the packets of a capture's frames, or the line of a refusal.
+fn write_stream(file: &[u8], session: u32, text: &mut Text)
+    requires { HasRoom text.old stream_room }
+    ensures wrote { Appended text.old text.new (stream session file.now) }
+    ensures same_room { SameRoom text.old text.new }
 {
     if let Err(refusal) = reader::check(file) {
-        let mut text = Text::new(text);
-        tool::write_refused(&mut text, u32::from(refusal));
-        return text.length;
+        tool::write_refused(text, u32::from(refusal));
+        return;
     }
     let mut rooms = Rooms::new();
     let mut bytes = [0u8; capture::LONGEST_FILE];
@@ -76,5 +76,5 @@ fn write_stream(file: &[u8], session: u32, text: &mut [u8]) -> usize
         count,
         total,
     } = gather::gather(file, session, &mut rooms.lend(), &mut bytes, &mut sizes);
-    packets::write_packets(&bytes[..total], &sizes[..count], text)
+    packets::write_packets(&bytes[..total], &sizes[..count], text);
 }

@@ -84,7 +84,8 @@ impl<'a> Text<'a> {
         self.length = next;
     }
 
-    // Writes a number in decimal, from its last digit to its first.
+    // Writes a number in decimal, from its last digit to its first. By hand, since std's `write!` says what it wrote only where it answers
+    // `Ok`, and nothing says that it does where there is room: `wrote` is said of every call.
     pub fn decimal(&mut self, number: u32)
         requires { HasRoom self.old most_digits }
         ensures wrote { Appended self.old self.new (decimal number) }

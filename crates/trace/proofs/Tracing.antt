@@ -29,7 +29,8 @@ use Rattle.trace.specs.Inside.{frame_room, frames_room, HeldFew}
 
 -- The line of a frame: a word, its bytes, the end of the line.
 pub frame-written : {t₀ t₁ t₂ t₃ : List ℕ} {at p₁ p₂ next : ℕ} (frame : List ℕ) →
-    Wrote t₀ t₁ at p₁ (ascii " frame ") → Wrote t₁ t₂ p₁ p₂ (hex frame) → Wrote t₂ t₃ p₂ next newline → Wrote t₀ t₃ at next (frame_line frame)
+    Wrote t₀ t₁ at p₁ (ascii " frame ") → Wrote t₁ t₂ p₁ p₂ (hex frame) → Wrote t₂ t₃ p₂ next newline →
+    Wrote t₀ t₃ at next (frame_line frame)
 unfolding frame_line
 frame-written frame w₁ w₂ w₃ = wrote_then (wrote_then w₁ w₂) w₃
 
