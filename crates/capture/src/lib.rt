@@ -135,6 +135,7 @@ pub fn refuse(writer: Writer) -> Result<(), Refusal>
     Ok(())
 }
 
+// A kind goes as its byte, here and where entries are read and run: the definitions are of any byte, and a `Kind` would ask more.
 impl<'a> Capture<'a> {
     ghost use Rattle.capture.specs.Adding.{SameSlices};
 

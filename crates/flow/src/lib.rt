@@ -27,7 +27,7 @@ pub struct Accepted {
     pub gap: u16,
 }
 
-// Sequence numbers begin again at 0 after 65,535.
+// Sequence numbers begin again at 0 after 65,535. (Not `wrapping_sub` below: the edit flow/modulo_65535 has its slip here.)
 const MODULUS: u32 = 65536;
 
 // How far a number lies ahead of the expected one, modulo 65,536.

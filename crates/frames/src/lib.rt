@@ -12,6 +12,7 @@ ghost use Rattle.frames.specs.Frames.{length_bytes, SaysFront, PermitsPack, Perm
 pub const LENGTH_BYTES: usize = 2;
 
 // How many frames were read, how many bytes they have together, and how many bytes of the file are left behind them.
+// (Rooms with counts beside them, since nothing here allocates.)
 #[derive(Clone, Copy)]
 pub struct Unpacked {
     pub count: usize,
@@ -63,7 +64,7 @@ pub fn unpack(file: &[u8], bytes: &mut [u8], lengths: &mut [u16]) -> Unpacked
     let mut count: usize = 0;
     let mut total: usize = 0;
     let mut at: usize = 0;
-    // No `for`: it goes from frame to frame, up to the first that does not stand whole.
+    // No `for`: how many frames there are is part of the answer, also where this breaks off, and a `for` would say the answer twice.
     while count < lengths.len() {
         let Some(length) = whole_at(file, at) else {
             break;

@@ -169,6 +169,7 @@ struct Run {
 }
 
 // Writes the lengths of the whole frames from segment k on, up to the first segment of another sort, to `lengths` from place `at` on.
+// (`at` and `k` are places in the whole slice and the whole table: `Ran` counts from there.)
 fn write_lengths(
     lengths: &mut [u16],
     at: usize,

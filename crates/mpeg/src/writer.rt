@@ -21,7 +21,7 @@ pub struct Written {
     pub null: bool,
 }
 
-// What a call that is not refused answers: the same but for the number.
+// What a call that is not refused answers: the same but for the number. (No Option for a null packet: place and count go with it.)
 #[derive(Clone, Copy)]
 struct Sent {
     place: usize,

@@ -34,6 +34,7 @@ fn main(rt: HostRuntime) {
 }
 
 // One byte more than is read, so that a longer file is seen to be too long.
+// (A function: its contract holds the program to the length that docs/PROMISES.md or the definitions give.)
 fn file_room() -> [u8; back::MOST_READ + 1]
     ensures { most_read + 1 ≡ length result }
 {

@@ -91,6 +91,7 @@ pub fn write_little_u32(bytes: &mut [u8], at: usize, number: u32)
 
 // Copies by std's method. It asks whether the two slices overlap, which costs 50 instructions a packet: so it serves `copy_block` alone,
 // where the compiler knows that they do not.
+// (A stretch is a slice, a place and a count, and no slice of its own: what a copy leaves is said of the whole slice, `put`.)
 fn copy_bytes(target: &mut [u8], at: usize, source: &[u8], from: usize, count: usize)
     requires { (at + count ≤ length target.old) × (from + count ≤ length source.now) }
     ensures { target.new ≡ put target.old at (part source.now from count) }

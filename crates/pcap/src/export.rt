@@ -88,6 +88,7 @@ fn measure(file: &[u8]) -> Exported
 }
 
 // Writes the record of a packet that came over IP, and answers the place behind it.
+// (Two functions and no flag: over UDP one header more stands in the middle, and each contract names its kind of entry.)
 fn write_over_ip(addresses: Addresses, body: &[u8], output: &mut [u8], at: usize) -> usize
     requires { (at + (front_length + length body.now) ≤ length output.old) × (length body.now ≤ 65000) }
     ensures output_after { output.new ≡ put output.old at

@@ -83,7 +83,7 @@ fn survey(file: &[u8]) -> Result<Tally, Refusal>
         fragments: 0,
         others: 0,
     };
-    // No `for`: where the next record begins stands in this one, and behind the last the walk says why it stops.
+    // No `for`: a walk is no iterator, since the same walk is asked behind its last record why it stops.
     while let Some(packet) = walk.record() {
         tally = count(tally, packet);
         walk = walk.advance();
@@ -162,7 +162,7 @@ fn write_records(capture: &mut Counted, file: &[u8])
     ensures { LaysIn (entries_of (records file.now)) capture.old capture.new }
 {
     let mut walk = reader::open(file);
-    // No `for`: where the next record begins stands in this one.
+    // No `for`, as in `survey`.
     while let Some(packet) = walk.record() {
         write_record(capture, packet);
         walk = walk.advance();

@@ -21,6 +21,7 @@ pub enum Cause {
 }
 
 // The data of a record that is not skipped: the kind of its entry, and where in the record it is.
+// (A place and a length, and no slice: so `judged` of the definitions has them.)
 #[derive(Clone, Copy)]
 pub struct Data {
     pub kind: Kind,

@@ -1,5 +1,5 @@
-// Classic pcap files with Ethernet, IPv4 and UDP (document 02, W5). `records` reads the file's header and the records behind it, and
-// `reader` is the walk over them that a caller holds; `judge` says what becomes of a record; `import` makes a capture of a file, and
+// Classic pcap files with Ethernet, IPv4 and UDP (document 02, W5). `records` reads the file's header, and `reader` is the walk over
+// the records behind it, which an import and a caller hold; `judge` says what becomes of a record; `import` makes a capture of a file, and
 // `export`, with `headers`, a file of a capture. Nothing here needs memory of its own.
 #![tactic(auto)]
 

@@ -59,6 +59,7 @@ fn addresses(env: &impl Env) -> Option<Addresses> {
     })
 }
 
+// (A function: its contract holds the program to the length that docs/PROMISES.md or the definitions give.)
 fn output_room() -> [u8; OUTPUT_ROOM]
     ensures { output_room ≡ length result }
 {

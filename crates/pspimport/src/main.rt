@@ -57,6 +57,7 @@ fn main(rt: HostRuntime) {
     );
 }
 
+// (A function: its contract holds the program to the length that docs/PROMISES.md or the definitions give.)
 fn sessions_room() -> [u32; sessions::MOST_SESSIONS]
     ensures { most_sessions ≡ length result }
 {
@@ -70,6 +71,7 @@ fn file_room() -> [u8; MOST_READ + 1]
     tool::room(0)
 }
 
+// (A function: its contract holds the program to the length that docs/PROMISES.md or the definitions give.)
 fn output_room() -> [u8; capture::LONGEST_FILE]
     ensures { longest_file ≡ length result }
 {

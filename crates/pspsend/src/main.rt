@@ -61,6 +61,7 @@ fn sending(env: &impl Env) -> Option<Sending> {
     })
 }
 
+// (A function: its contract holds the program to the length that docs/PROMISES.md or the definitions give.)
 fn file_room() -> [u8; FILE_ROOM]
     ensures { most_bytes ≡ length result }
 {

@@ -43,6 +43,7 @@ fn close(table: Table, id: u32) -> Received
 }
 
 // The transport that a data entry's kind names.
+// (It is a number, since the data call takes C's.)
 pub fn transport_of(kind: u8) -> u32
     ensures { result ≡ transport_of kind }
 {

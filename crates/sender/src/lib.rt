@@ -273,6 +273,7 @@ fn refuse(
 }
 
 // What a bit is worth that is set or not.
+// (`u16::from(set) * value` is no plainer, and the definition's `worth` reads as this does.)
 fn worth(set: bool, value: u16) -> u16
     ensures { (result ≡ bitWorth set value) × (result ≤ value) }
 {

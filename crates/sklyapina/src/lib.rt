@@ -1,7 +1,8 @@
 // What the card's host program, in C, can call. A static library exports the functions of one crate alone, so every export stands here, or
-// in `modulator`. Each is the call of a crate below, as it stands, and its contract is that call's; include/sklyapina.h is its other side.
-// Nothing checks the one against the other but the tests from C. Two calls below answer with a reference, which cannot cross to C: what
-// they refer to crosses as a copy, by `sklyapina_segment_copy` and `sklyapina_mpeg_hand_out`.
+// in `modulator`. Each is the call of a crate below, as it stands, and its contract is that call's, said of the number where the call
+// answers a `Result`; include/sklyapina.h is its other side. Nothing checks the one against the other but the tests from C. Two calls
+// below answer with a reference, which cannot cross to C: what they refer to crosses as a copy, by `sklyapina_segment_copy` and
+// `sklyapina_mpeg_hand_out`.
 //
 // A call is given all that it may touch and keeps none of it: there is no state here, no heap, and no pointer outlives its call.
 #![tactic(auto)]

@@ -86,7 +86,7 @@ pub struct Terms {
 }
 
 // What an open answers: 0 or the refusal's number, and the table afterwards.
-#[repr(C)]
+#[repr(C)] // it crosses to the host program as it is
 #[derive(Clone, Copy)]
 pub struct Opening {
     pub code: u32,
@@ -94,7 +94,7 @@ pub struct Opening {
 }
 
 // What a close answers: 0 or the refusal's number, the held bytes that it dropped, and the table afterwards.
-#[repr(C)]
+#[repr(C)] // it crosses to the host program as it is
 #[derive(Clone, Copy)]
 pub struct Closing {
     pub code: u32,
@@ -186,6 +186,7 @@ fn fresh_row(request: Request) -> Row
     }
 }
 
+// Whether a kind number is that of a closed row. (No derive says it: a row's kind is C's number, and may be any.)
 pub fn is_closed(number: u32) -> bool
     ensures { result ≡ is_closed number }
 {

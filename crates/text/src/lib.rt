@@ -14,7 +14,7 @@ fn digit_count(number: u32) -> usize
 {
     let mut count: usize = 1;
     let mut left = number;
-    // No `for`: how many digits there are is what is counted.
+    // No `for`: how many digits there are is what is counted. By hand, since `decimal` of the definitions divides so.
     while 9 < left {
         left /= 10;
         count += 1;
@@ -31,6 +31,7 @@ fn digit_byte(digit: u32) -> u8
 }
 
 // The byte of a hexadecimal digit.
+// (As with `decimal`, std's formatting does not say what it wrote.)
 fn hex_digit(digit: u8) -> u8
     requires { digit < 16 }
     ensures { result ≡ hex_digit digit }

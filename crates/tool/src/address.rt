@@ -69,6 +69,7 @@ fn dot(text: &[u8]) -> Option<usize>
 }
 
 // The number from 0 to 255 that a text says without zeros in front, if it says one.
+// (Compared, and no `u8::try_from`: the edit tool/takes_256 has its slip here.)
 fn octet(text: &[u8]) -> Option<u8>
     ensures { result ≡ octet_said text.now }
 {

@@ -64,6 +64,7 @@ pub fn room<T: Copy, const N: usize>(all: T) -> [T; N]
     [all; N]
 }
 
+// Room for a capture, as a function: so its length is said, and the edit tool/capture_room_of_60000 refused, in one place.
 pub fn capture_room() -> [u8; CAPTURE_ROOM]
     ensures { longest_file + 1 ≡ length result }
 {
@@ -85,7 +86,7 @@ pub fn read_input(input: &mut impl Read, room: &mut [u8]) -> usize
     done
 }
 
-// Writes on standard output, and on standard error, up to the first write that fails.
+// Writes on standard output, and on standard error, up to the first write that fails. (One body: the names say where to.)
 pub fn write_output(output: &mut impl Write, text: &[u8]) {
     let _ = output.write_all(text);
 }

@@ -36,6 +36,7 @@ fn is_hexadecimal(text: &[u8]) -> bool
 
 // The number that digits say; none where there are none, where another byte stands among them, or where they are too many: behind a number
 // over `greatest` no digit may come.
+// (By hand, as `said_by` has it: std's `from_str_radix` takes a sign in front, and does not count digits.)
 fn digits(text: &[u8], base: usize, greatest: usize) -> Option<usize>
     requires { (1 ≤ base) × (base ≤ 16) × (greatest ≤ 999999999) }
     ensures { result ≡ said_by base (base * (greatest + 1)) text.now }
@@ -55,6 +56,7 @@ fn digits(text: &[u8], base: usize, greatest: usize) -> Option<usize>
 }
 
 // The value of a digit's byte, if it is one of a digit.
+// (Not `to_digit`: the edit tool/letter_from_nine has its slip here.)
 pub fn digit_value(byte: u8) -> Option<usize>
     ensures { result ≡ digit_said byte }
 {

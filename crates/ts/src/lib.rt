@@ -100,6 +100,7 @@ pub fn all_fill(bytes: &[u8]) -> bool
 }
 
 // Whether a packet is the null packet.
+// (Field by field, so that no second packet is made to compare it with.)
 pub fn is_null(packet: &[u8]) -> bool
     requires { length packet.now ≡ mpeg_length }
     ensures { result ≡ same packet.now null_packet }
