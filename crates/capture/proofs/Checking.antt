@@ -33,7 +33,8 @@ unfolding body_start
 start_first file = let z = sum-none (body_length head_length entry_length file) in omega (arith, z)
 
 pub start-next : (file : List ℕ) (k : ℕ) →
-    body_start head_length entry_length file (k + 1) ≡ body_start head_length entry_length file k + body_length head_length entry_length file k
+    body_start head_length entry_length file (k + 1)
+    ≡ body_start head_length entry_length file k + body_length head_length entry_length file k
 unfolding body_start
 start-next file k = let m = sum_more (body_length head_length entry_length file) k in omega (arith, m)
 
@@ -65,13 +66,10 @@ wrong_by_parts file k {kind} {size} {wrong} its-kind long w =
     ∙ ap (λ (x : ℕ). wrong_parts x (second_at head_length entry_length file k) size) its-kind
     ∙ ap (wrong_parts (kind_at head_length entry_length file k) (second_at head_length entry_length file k)) long
 
--- what the survey answers, at a wrong entry and behind the last
+-- what the survey answers at a wrong entry
 pub survey_wrong : (file : List ℕ) (count k : ℕ) → k < count → wrong_entry head_length entry_length file k ≡ true →
     Err refusal.EntryWrong ≡ surveyed file count
 survey_wrong file count k below wrong = rw (any_at (wrong_entry head_length entry_length file) count k wrong below) refl
-
-pub survey_right : {file : List ℕ} {end k : ℕ} → Surveying file end k → Ok end ≡ surveyed file k
-survey_right s = rw (s.none_wrong, s.stands) refl
 
 -- and what its answer says
 answer_by : (wrong : Bool) (end there : ℕ) → Ok end ≡ cond wrong (Err refusal.EntryWrong) (Ok there) → (wrong ≡ false) × (end ≡ there)
@@ -237,8 +235,8 @@ entry_inside {file} {index} {start} s =
     let f = is_sound file s.sound in
     (omega (arith, f.contents_inside, s.not_past), omega (arith, f.few, s.not_past))
 
-pub body-inside : {file : List ℕ} {index start size : ℕ} → StandsAt file index start → size ≡ body_length head_length entry_length file index →
-    start + size ≤ length file
+pub body-inside : {file : List ℕ} {index start size : ℕ} → StandsAt file index start →
+    size ≡ body_length head_length entry_length file index → start + size ≤ length file
 body-inside {file} {index} {start} {size} s e =
     let f = is_sound file s.sound in
     omega (arith, f.ends, s.its_start, e, starts_before file index (entry_count head_length file) s.not_past)
@@ -264,5 +262,6 @@ entry_right {file} {index} {start} s =
     let right : wrong_parts kind second size ≡ false =
     none_at (wrong_entry head_length entry_length file) (entry_count head_length file) index (is_sound file s.sound).none_wrong
     s.not_past in
-    let last = or-false-right (not (is_kind (body_in kinds kind)) || not (eqb second 0)) (not (takes_length (body_in kinds kind) size)) right in
+    let last =
+    or-false-right (not (is_kind (body_in kinds kind)) || not (eqb second 0)) (not (takes_length (body_in kinds kind) size)) right in
     ap (takes_length (body_in kinds kind)) (body_long s) ∙ not-false (takes_length (body_in kinds kind) size) last

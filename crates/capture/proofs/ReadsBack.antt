@@ -21,7 +21,8 @@ use Rattle.octets.proofs.Counts.{or-false-left, or-false-right, none_at, sum-wit
 use Rattle.capture.specs.Write.{Right, Writable}
 use Rattle.capture.proofs.Writing.{contents_length, file_length_lem}
 use Rattle.capture.proofs.Checking.{Sound, is_sound, sound_passes, body-inside as stands-inside, body_long as stands_long}
-use Rattle.capture.specs.File.{head_length, entry_length, body_in, kinds, is_kind, takes_length, entry_count, kind_at, second_at, body_length}
+use Rattle.capture.specs.File.{head_length, entry_length, body_in, kinds, is_kind, takes_length, entry_count, kind_at, second_at}
+use Rattle.capture.specs.File.{body_length}
 use Rattle.capture.specs.File.{body_start, longest_file, StandsAt}
 use Rattle.capture.specs.File.{wrong_parts, wrong_entry, file_refusal, Entry, nth_entry, entries, content_of, body_of, file_of}
 
@@ -225,7 +226,8 @@ module _ (es : List Entry) (writable : Writable es) where
         ∙ part-joined content_of (two (length es)) (bodies es) before e behind
 
     -- .. and so does each byte of it
-    byte_read : (j place : ℕ) → j < entry_length → place ≡ entry_at (length before) + j → byte_at (file_of es) place ≡ byte_at (content_of e) j
+    byte_read : (j place : ℕ) → j < entry_length → place ≡ entry_at (length before) + j →
+        byte_at (file_of es) place ≡ byte_at (content_of e) j
     byte_read j place inside at =
         ap (byte_at (file_of es)) at ∙ sym (byte_part (file_of es) (entry_at (length before)) entry_length j inside)
         ∙ ap (λ (l : List ℕ). byte_at l j) content_read

@@ -1,5 +1,5 @@
--- The kinds of entries as the code has them, and the number that specs/File.antt gives each. A byte is read as the kind whose number it is; or
--- as no kind, where the table of kinds has no such number.
+-- The kinds of entries as the code has them, and the number that specs/File.antt gives each. A byte is read as the kind whose number it is;
+-- or as no kind, where the table of kinds has no such number.
 use Rattle.std.specs.Prelude.{ℕ, ◌≡◌, false, Result, Ok, Err}
 use Rattle.capture.specs.declared.Kind.{Kind}
 use Rattle.capture.specs.declared.Kind.TheVariants as kind

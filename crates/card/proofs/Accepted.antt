@@ -10,8 +10,8 @@ use borrow.Author.Tests.{ltb-true, not-false}
 use Rattle.refusal.specs.Refusal.{◌when◌, first}
 use Rattle.refusal.proofs.Laws.{NoneApplies, numbered_both, none-applies, none_first, none_apart}
 use Rattle.flow.specs.Flow.{flows}
-use Rattle.packet.specs.Header.{Packet, id_length, header_length, sub, session_id, before_session, longest_packet}
-use Rattle.packet.proofs.Passing.{EarlyPassed, early_passed, sub-length, sub-whole}
+use Rattle.packet.specs.Header.{Packet, id_length, sub, session_id, before_session, longest_packet}
+use Rattle.packet.proofs.Passing.{EarlyPassed, early_passed, sub-length}
 use Rattle.table.specs.declared.Table.{Table}
 use Rattle.table.specs.Rows.{rows, terms_at}
 use Rattle.table.specs.Broken.{broken}
@@ -104,9 +104,6 @@ accepted t p s z =
 module _ (t : Table) (p : Packet) (s : Slices) (a : Accepted t p s) where
   pub flow-there : flow_to t (row_of t p) (sub p) < flows
   flow-there = flow_in_row (terms_at t (row_of t p)) (sub p) a.passed
-
-  pub header-whole : header_length ≤ length (sub p)
-  header-whole = sub-whole p a.early.not_short
 
   pub sub-short : id_length + length (sub p) ≤ longest_packet
   sub-short = omega (arith, sub-length p a.early.not_short, a.early.not_long)

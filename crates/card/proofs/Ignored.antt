@@ -92,7 +92,8 @@ module _ (p p' : Packet) (same : SameRead p p') where
     numbers_alike : first (data_refusals t p s) ≡ first (data_refusals t p' s)
     numbers_alike =
         let order : List Refusal → ℕ → List Refusal → ℕ =
-        λ early session behind. first (1 when too_small s ∷ (13 when broken t ∷ early) ++ (5 when not (is_open t session) ∷ []) ++ behind) in
+        λ early session behind.
+        first (1 when too_small s ∷ (13 when broken t ∷ early) ++ (5 when not (is_open t session) ∷ []) ++ behind) in
         ap (λ (early : List Refusal). order early (session_id p) (flow_refusals t r here)) (early_alike p p' same)
         ∙ ap (λ (behind : List Refusal). order (before_session p') (session_id p) behind) (row_alike (row_at t r) count)
         ∙ ap (λ (id : ℕ). order (before_session p') id (flow_refusals t (find t id) there)) same.sessions

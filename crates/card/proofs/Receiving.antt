@@ -43,9 +43,6 @@ module _ (t : Table) (p : Packet) (small : Bool) where
   not_found_lem : (c : ℕ) (found : Found) → c ≡ first (seek_refusals t p small) → (c ≡ 0 → ⊥) → found ≡ not_found c → Seeks t p small found
   not_found_lem c found given some e = rw e (record { its_number = given; its_row = λ z. absurd (some z); in_table = omega arith })
 
-  pub seek_small : (found : Found) → small ≡ true → found ≡ not_found 1 → Seeks t p small found
-  seek_small found short e = not_found_lem 1 found (simp short) (λ z. omega arith) e
-
   module _ (large : small ≡ false) where
     pub seek_broken : (found : Found) → broken t ≡ true → found ≡ not_found 13 → Seeks t p small found
     seek_broken found bad e = not_found_lem 13 found (simp (large, bad)) (λ z. omega arith) e

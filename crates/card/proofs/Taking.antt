@@ -26,7 +26,8 @@ use Rattle.join.specs.Join.{Fate}
 use Rattle.join.specs.Slices.{Slices, most_frames, most_bytes}
 use Rattle.join.specs.Inside.{nothing_yet, Placed, Roomy}
 use Rattle.card.specs.Hear.{judged_of, fate_of, hear}
-use Rattle.card.specs.Receive.{holding_size, place_of, flow_number, flow_for, heard_in, too_small, packet_refusals, row_refusals, slices_after}
+use Rattle.card.specs.Receive.{holding_size, place_of, flow_number, flow_for, heard_in, too_small, packet_refusals, row_refusals}
+use Rattle.card.specs.Receive.{slices_after}
 use Rattle.card.specs.Inside.{RowAnswer, TakenOutcome, taken_as, takes, not_taken, hears_in, Ready, answered, Hearable}
 use Rattle.card.proofs.ByKind.{numbered-packet}
 
@@ -85,7 +86,8 @@ row_gives row k p s given m terms asked after behind passed =
     }
 
 -- What is heard, in the row and in the slices, is what the counts and the slices show.
-heard_in_lem : (row : Row) (r k : ℕ) (j : Judged) (f : Fate) (s s' : Slices) (tally : Tally) → Placed f (place_of r k) nothing_yet s tally s' →
+heard_in_lem : (row : Row) (r k : ℕ) (j : Judged) (f : Fate) (s s' : Slices) (tally : Tally) →
+    Placed f (place_of r k) nothing_yet s tally s' →
     ◌≡◌ {A = TakenOutcome}
     (record { taken = answered row k j tally; slices = s' })
     (record { taken = hears_in k (record { judged = j; fate = f }) row; slices = slices_after r k (record { judged = j; fate = f }) s })
@@ -122,7 +124,8 @@ module _ (row : Row) (r : ℕ) (p : Packet) (s : Slices) where
         let stops = first_stopped (packet_refusals (terms_of row) (sub p)) late (λ z. some (refused_is ∙ z)) in
         rw (by_row, stops, ← refused_is) (not_taken_by refused r row (sub p) s some)
 
-    module _ (over : refused ≡ 0) (k : ℕ) (flow : k ≡ flow_number row (sub p)) (j : Judged) (judges : j ≡ judged_of (flow_at row k) after) where
+    module _ (over : refused ≡ 0) (k : ℕ) (flow : k ≡ flow_number row (sub p)) (j : Judged)
+        (judges : j ≡ judged_of (flow_at row k) after) where
       judged_is : j ≡ judged_of (flow_for row (sub p)) (sub p)
       judged_is = judges ∙ rw (flow, behind) refl
 

@@ -1,6 +1,7 @@
 -- Inside: what functions promise each other on the way to a result. Nobody has to believe this file: the result is said without it.
 -- Here: where a packet's session is found, what its row makes of the packet, and what its flow does.
-use Rattle.std.specs.Prelude.{ℕ, zero, suc, ◌+◌, ◌<◌, ◌≤◌, ◌≡◌, Result, Ok, Err, Bool, true, false, not, ◌||◌, List, [], ◌∷◌, ◌++◌, ltb, length}
+use Rattle.std.specs.Prelude.{ℕ, zero, suc, ◌+◌, ◌<◌, ◌≤◌, ◌≡◌, Result, Ok, Err, Bool, true, false, not, ◌||◌, List, [], ◌∷◌, ◌++◌, ltb}
+use Rattle.std.specs.Prelude.{length}
 use Rattle.refusal.specs.declared.Refusal as error
 use Rattle.refusal.specs.Refusal.{Refusal, ◌when◌, first}
 use Rattle.refusal.specs.Number.{number_of}

@@ -1,6 +1,7 @@
 -- The byte account of one packet: each rule gives every byte one fate, so what is held, delivered and dropped afterwards is what was held
 -- before and what came. All bounds of the data call follow from it.
-use Rattle.std.proofs.Common.{◌≡◌, ℕ, zero, suc, ◌+◌, ◌<◌, ◌≤◌, Bool, true, false, eqb, ltb, List, [], ◌∷◌, ◌++◌, length, refl, ap, arith, length-append, ltb-false, eqb-true}
+use Rattle.std.proofs.Common.{◌≡◌, ℕ, zero, suc, ◌+◌, ◌<◌, ◌≤◌, Bool, true, false, eqb, ltb, List, [], ◌∷◌, ◌++◌, length, refl, ap, arith}
+use Rattle.std.proofs.Common.{length-append, ltb-false, eqb-true}
 use Rattle.octets.specs.Stretch.{joined}
 use Rattle.octets.specs.Count.{sum_to, up_to}
 use Rattle.octets.proofs.Stretches.{joined-append, joined_one, length-joined-none}
@@ -98,7 +99,8 @@ module _ {X : Type 0} (rule : List ℕ → X → Fate) where
   in_order_more f (y ∷ xs) x = in_order_more (and_then f (rule f.held y)) xs x
 
   pub in_order-next : (f : Fate) (piece : ℕ → X) (k : ℕ) →
-      in_order rule f (up_to piece (suc k)) ≡ and_then (in_order rule f (up_to piece k)) (rule (in_order rule f (up_to piece k)).held (piece k))
+      in_order rule f (up_to piece (suc k))
+      ≡ and_then (in_order rule f (up_to piece k)) (rule (in_order rule f (up_to piece k)).held (piece k))
   unfolding up_to
   in_order-next f piece k = in_order_more f (up_to piece k) (piece k)
 

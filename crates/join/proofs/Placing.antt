@@ -1,6 +1,7 @@
 -- How single fates show in counts and slices, and that two fates one behind the other show as one (`placed_then`). Each way out of the
 -- code's functions is one law here, with what the code has counted and stored as arguments; a function's own proof cites it.
-use Rattle.std.proofs.Common.{◌≡◌, ℕ, zero, suc, ◌+◌, ◌<◌, ◌≤◌, Bool, true, false, cond, not, ◌&&◌, eqb, List, [], ◌∷◌, ◌++◌, length, sym, refl, ap, ◌∙◌, true≢false, add-one, arith, length-append, le-ltb, lt-ltb, eq-eqb, ne_eqb, eqb-true}
+use Rattle.std.proofs.Common.{◌≡◌, ℕ, zero, suc, ◌+◌, ◌<◌, ◌≤◌, Bool, true, false, cond, not, ◌&&◌, eqb, List, [], ◌∷◌, ◌++◌, length, sym}
+use Rattle.std.proofs.Common.{refl, ap, ◌∙◌, true≢false, add-one, arith, length-append, le-ltb, lt-ltb, eq-eqb, ne_eqb, eqb-true}
 use Rattle.octets.specs.Stretch.{part, put, joined, lengths_of}
 use Rattle.octets.specs.Count.{up_to}
 use Rattle.octets.proofs.Stretches.{length_part, length-put, length-lengths_of, put-nil, put_more, put_same, part-put, part_none}
@@ -10,7 +11,7 @@ use Rattle.packet.specs.Segments.{begins_in, ends_in, Segment}
 use Rattle.join.specs.declared.Tally.{Tally}
 use Rattle.join.specs.Join.{Fate, delivering, dropping, keeping, and_then, settled_by, settled, fate_by, fate, at_gap, in_order}
 use Rattle.join.specs.Slices.{Slices}
-use Rattle.join.specs.Inside.{nothing_yet, begun, Placed, Fits}
+use Rattle.join.specs.Inside.{nothing_yet, begun, Placed}
 use Rattle.join.proofs.Account.{Accounts, in_order-next}
 
 -- Single fates.
@@ -123,14 +124,9 @@ placed_begun (suc gap) place held s h =
     placed_dropping place nothing_yet s (part s.holding place held) (begun (suc gap) held)
     refl refl refl (omega (arith, length_part s.holding place held h))
 
--- What a segment makes of what is held before it joins, by its B; there is room for it as before.
+-- What a segment makes of what is held before it joins, by its B.
 abbrev pub made_way : Bool → Tally → Tally
 made_way begins a = cond begins (record { held = 0; frames = a.frames; bytes = a.bytes; dropped = a.dropped + a.held }) a
-
-pub way_fits : (begins : Bool) (size : ℕ) (a b : Tally) → b ≡ made_way begins a → Fits size a → Fits size b
-way_fits true size a b e f =
-    rw e (record { held-few = omega arith; bytes-few = omega (arith, f.bytes-few); frames-few = f.frames-few })
-way_fits false size a b e f = rw e f
 
 -- The three ways of a segment whose entry the code has read: `ends` is what it found there.
 module _ (most place : ℕ) (a : Tally) (s : Slices) (body : List ℕ) (entry : ℕ) (r : Tally) (s' : Slices)

@@ -1,6 +1,7 @@
 -- Whole frames one behind the other: the invariant of the loop that writes their lengths, with a begin and a turn, and how one of them
 -- shows in counts and slices.
-use Rattle.std.proofs.Common.{◌≡◌, ℕ, ◌+◌, ◌*◌, ◌/◌, ◌%◌, ◌<◌, ◌≤◌, List, [], ◌∷◌, length, set, sym, refl, ap, ◌∙◌, ⊎_elim, eq-or-lt_of_le, arith, eq-eqb}
+use Rattle.std.proofs.Common.{◌≡◌, ℕ, ◌+◌, ◌*◌, ◌/◌, ◌%◌, ◌<◌, ◌≤◌, List, [], ◌∷◌, length, set, sym, refl, ap, ◌∙◌, ⊎_elim, eq-or-lt_of_le}
+use Rattle.std.proofs.Common.{arith, eq-eqb}
 use Rattle.octets.specs.Stretch.{part, put}
 use Rattle.octets.specs.Count.{up_to}
 use Rattle.octets.proofs.Counts.{sum-none, sum_more, length-up_to}
@@ -55,8 +56,8 @@ module _ {most width : ℕ} {sub : List ℕ} {k count at : ℕ} {lengths lengths
       let f : ℕ → ℕ = λ i. length_at width sub (k + i) in
       rw r.ran.written (length-put lengths at (up_to f frames) (omega (arith, length-up_to f frames, r.within)))
 
-  pub run_turn : {entry size : ℕ} → k + frames < count → entry ≡ entry_at width sub (k + frames) → Whole most entry → size ≡ length_in entry →
-      Running most width sub k count at lengths (set lengths' (at + frames) size) (frames + 1) (bytes + size)
+  pub run_turn : {entry size : ℕ} → k + frames < count → entry ≡ entry_at width sub (k + frames) → Whole most entry →
+      size ≡ length_in entry → Running most width sub k count at lengths (set lengths' (at + frames) size) (frames + 1) (bytes + size)
   run_turn {entry} {size} more e w z =
       let f : ℕ → ℕ = λ i. length_at width sub (k + i) in
       let this : Whole most (entry_at width sub (k + frames)) = rw e at w in

@@ -1,31 +1,16 @@
 -- The lines of a listing, put together from their parts.
 use Prim.Native.Nat.{ℕ}
 use mathlib.Core.Path.{◌≡◌, refl, ap, ◌∙◌}
-use mathlib.Core.Bool.{true, false, ◌||◌}
 use mathlib.Core.List.{List}
-use lib.Dec.{eqb}
-use borrow.Author.Tests.{eq-eqb, ne_eqb}
 use Rattle.card.specs.declared.Received.{Received}
 use Rattle.card.specs.History.{Answer}
-use Rattle.text.specs.Text.{ascii, decimal, column, space, newline, Wrote}
+use Rattle.text.specs.Text.{decimal, column, space, newline, Wrote}
 use Rattle.text.proofs.Writing.{wrote_as, wrote_then}
-use Rattle.capture.specs.File.{open_psp, open_dmpt, closing, head_length, entry_length, kind_at}
+use Rattle.capture.specs.File.{head_length, entry_length, kind_at}
 use Rattle.listing.specs.Listing.{word_for, columns, line, line_at}
 use Rattle.replay.specs.Run.{answer_at}
 use Rattle.replay.specs.Inside.{Counts}
 use Rattle.listing.specs.Inside.{numbers_of}
-
--- the word for each kind
-module _ (kind : ℕ) where
-  pub word_open : (eqb kind open_psp || eqb kind open_dmpt) ≡ true → ascii "open" ≡ word_for kind
-  word_open e = rw e refl
-
-  module _ (other : (eqb kind open_psp || eqb kind open_dmpt) ≡ false) where
-    pub word_close : kind ≡ closing → ascii "close" ≡ word_for kind
-    word_close e = rw (other, eq-eqb kind closing e) refl
-
-    pub word_data : (kind ≡ closing → ⊥) → ascii "data" ≡ word_for kind
-    word_data e = rw (other, ne_eqb kind closing e) refl
 
 -- the columns of an answer, one behind the other, and the parts of a line
 pub columns-written : {t₀ t₁ t₂ t₃ t₄ t₅ : List ℕ} {at p₁ p₂ p₃ p₄ next : ℕ} (a : Answer) →

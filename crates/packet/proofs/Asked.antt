@@ -103,8 +103,8 @@ module _ (kind : ℕ) (p : Packet) (s : List ℕ) (k : ℕ) (given : segment_cau
       rw (sym cut) at facts
 
   -- .. and that what it finds there is the extent
-  pub extent_found : (before place size : ℕ) → before ≡ lead p + id_length → place ≡ body_at entry_width s k → size ≡ length_at entry_width s k →
-      record { start = before + place; size = size } ≡ segment_extent kind p k
+  pub extent_found : (before place size : ℕ) → before ≡ lead p + id_length → place ≡ body_at entry_width s k →
+      size ≡ length_at entry_width s k → record { start = before + place; size = size } ≡ segment_extent kind p k
   extent_found before place size from at long =
       let body : place ≡ body_at entry_width (sub p) k = at ∙ ap (λ (l : List ℕ). body_at entry_width l k) cut in
       let its : size ≡ length_at entry_width (sub p) k = long ∙ ap (λ (l : List ℕ). length_at entry_width l k) cut in

@@ -5,7 +5,6 @@ use mathlib.Core.Path.{◌≡◌, refl, sym, ap, ◌∙◌}
 use mathlib.Core.Bool.{Bool, true, false, not, ◌||◌}
 use mathlib.Core.List.{List}
 use native.Mathlib.Omega.{arith}
-use native.Mathlib.Nat.{mul-le-mul_left}
 use lib.Dec.{eqb, leb}
 use borrow.Author.Tests.{eq-eqb, ne_eqb, eqb-true, eqb-false, leb-true, leb-false, not-false}
 use Rattle.octets.specs.Count.{any, sum_to}
@@ -18,12 +17,6 @@ use Rattle.packet.specs.Psp.{bad_entry, bad_at}
 -- the first two bytes of entry k lie in a packet that has room for n entries
 pub entry_within : (width k n room : ℕ) → 2 ≤ width → k < n → header_length + width * n ≤ room → header_length + width * k + 1 < room
 entry_within width k n room w h r = omega (arith, mul-before width k n h)
-
--- where n entries fit, fewer do
-pub fewer_entries : (width k n room : ℕ) → k ≤ n → header_length + width * n ≤ room → header_length + width * k ≤ room
-fewer_entries width k n room h r =
-    let e : width * k ≤ width * n = mul-le-mul_left width h in
-    omega arith
 
 -- how long the segments of the first k of n entries are together
 pub record Summing (width : ℕ) (sub : List ℕ) (n total k : ℕ) : Type 0 where
@@ -44,11 +37,6 @@ sum_turn {width} {sub} {n} {total} {k} {entry} {size} s l e z =
       sum = rw (sum_more (length_at width sub) k, s.sum, size_is) refl;
       small = omega (arith, s.small);
     }
-
-pub sum_end : {width : ℕ} {sub : List ℕ} {n total k : ℕ} → Summing width sub n total k → n ≤ k → Summing width sub n total n
-sum_end {width} {sub} {n} {total} {k} s l =
-    let done : k ≡ n = omega (arith, s.within) in
-    rw done at s
 
 -- An entry of 16 bits between the first and the last is bad where it is not above B and E.
 abbrev marks : ℕ → Bool

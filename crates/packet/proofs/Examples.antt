@@ -122,7 +122,8 @@ d_bodies = (refl, refl, refl)
 -- S clear and set; X; byte 5 anything; 7 bytes; session 0; V set; H 01; flow 1; X with flow 7; nothing carried; a byte too few, a byte too
 -- many; the second MPEG packet, and the first, not starting 0x47; one MPEG packet alone
 d_judged : (check_ip 2 D ≡ 0) × (check_ip 2 (set D 4 0x40) ≡ 0) × (check_ip 2 (set D 4 0x48) ≡ 0) × (check_ip 2 (set D 5 0) ≡ 0)
-    × (check_ip 2 (take 7 D) ≡ 2) × (check_ip 2 (set (set D 2 0) 3 0) ≡ 4) × (check_ip 2 (set D 4 0x80) ≡ 6) × (check_ip 2 (set D 4 0x10) ≡ 6)
+    × (check_ip 2 (take 7 D) ≡ 2) × (check_ip 2 (set (set D 2 0) 3 0) ≡ 4) × (check_ip 2 (set D 4 0x80) ≡ 6)
+    × (check_ip 2 (set D 4 0x10) ≡ 6)
     × (check_ip 2 (set D 4 0x01) ≡ 7) × (check_ip 2 (set D 4 0x4F) ≡ 7) × (check_ip 2 (take 8 D) ≡ 9) × (check_ip 2 (take 383 D) ≡ 10)
     × (check_ip 2 (D ++ (0x47 ∷ [])) ≡ 10) × (check_ip 2 (set D 196 0x46) ≡ 11) × (check_ip 2 (set D 8 0x46) ≡ 11)
     × (check_ip 2 (take 196 D) ≡ 0)

@@ -15,7 +15,8 @@ use Rattle.octets.specs.Count.{any, sum_to, up_to}
 use Rattle.octets.proofs.Counts.{any_same, sum_agree, up_to_agree}
 use Rattle.octets.proofs.Stretches.{length_rest, byte_rest, part-rest}
 use Rattle.ts.specs.Packet.{mpeg_length, sync_byte}
-use Rattle.packet.specs.Header.{h_bit, h_values, h_bits, v_bit, v_set, s_bit, s_set, flow_id, segment_count, number, header_length, not_plain}
+use Rattle.packet.specs.Header.{h_bit, h_values, h_bits, v_bit, v_set, s_bit, s_set, flow_id, segment_count, number, header_length}
+use Rattle.packet.specs.Header.{not_plain}
 use Rattle.packet.specs.Header.{Packet, over_ip, over_udp, lead_of, lead, id_length, not_version3, session_id, sub, shortest_packet}
 use Rattle.packet.specs.Header.{longest_packet, before_session}
 use Rattle.packet.specs.Ignored.{SameRead, SameCount}
@@ -124,7 +125,8 @@ module _ (sub sub' : List ℕ) (long : length sub ≡ length sub') (high : byte_
     unfolding body_at
     behind_header k = omega arith
 
-    same_bytes : (k : ℕ) → part sub (body_at width sub k) (length_at width sub k) ≡ part sub' (body_at width sub' k) (length_at width sub' k)
+    same_bytes : (k : ℕ) →
+        part sub (body_at width sub k) (length_at width sub k) ≡ part sub' (body_at width sub' k) (length_at width sub' k)
     same_bytes k = rw (same_body k, same_length k) (same-part (body_at width sub' k) (length_at width sub' k) (behind_header k))
 
     pub same_segment : (k : ℕ) → segment_at width sub k ≡ segment_at width sub' k
@@ -171,7 +173,8 @@ module _ (p p' : Packet) (same : SameRead p p') where
   psp_alike count width = same_psp (sub p) (sub p') subs_long same.above_x same.below_x same.from-number count width
 
   by_kind : (kind : ℕ) (psp : Bool) → eqb kind kind_psp ≡ psp → (psp ≡ true → SameCount p p') →
-      cond psp (psp_refusals entry_width (sub p)) (dmpt_refusals (sub p)) ≡ cond psp (psp_refusals entry_width (sub p')) (dmpt_refusals (sub p'))
+      cond psp (psp_refusals entry_width (sub p)) (dmpt_refusals (sub p))
+      ≡ cond psp (psp_refusals entry_width (sub p')) (dmpt_refusals (sub p'))
   by_kind kind true e count = psp_alike (count refl) entry_width
   by_kind kind false e count = dmpt_alike
 
@@ -180,7 +183,8 @@ module _ (p p' : Packet) (same : SameRead p p') where
   refusals_alike kind count =
       ap (λ (early : List Refusal).
       24 when kind_unknown kind ∷ early ++ cond (eqb kind kind_psp) (psp_refusals entry_width (sub p)) (dmpt_refusals (sub p))) early_alike
-      ∙ ap (λ (behind : List Refusal). 24 when kind_unknown kind ∷ before_session p' ++ behind) (by_kind kind (eqb kind kind_psp) refl count)
+      ∙ ap (λ (behind : List Refusal). 24 when kind_unknown kind ∷ before_session p' ++ behind)
+      (by_kind kind (eqb kind kind_psp) refl count)
 
   pub checked_alike : (kind : ℕ) → (eqb kind kind_psp ≡ true → SameCount p p') → check kind p ≡ check kind p'
   unfolding check

@@ -5,7 +5,6 @@ use mathlib.Core.Path.{◌≡◌, refl, sym, ap, ◌∙◌}
 use mathlib.Core.Bool.{Bool, true, false, cond, not, ◌&&◌, ◌||◌}
 use mathlib.Core.List.{List, [], ◌∷◌}
 use native.Mathlib.Omega.{arith}
-use native.Mathlib.Nat.{mul-le-mul}
 use lib.Dec.{eqb, leb}
 use lib.ListN.{length}
 use borrow.Author.Tests.{ltb-false, leb-false, eqb-true, eqb-false, ne_eqb, not-false}
@@ -18,7 +17,7 @@ use Rattle.octets.proofs.Stretches.{length_rest}
 use Rattle.flow.specs.Flow.{top_flow}
 use Rattle.ts.specs.Packet.{mpeg_length, sync_byte}
 use Rattle.packet.specs.Header.{Packet, transport_unknown, lead, not_version3, id_length, session_id, sub, header_length}
-use Rattle.packet.specs.Header.{flow_id, count_values}
+use Rattle.packet.specs.Header.{flow_id}
 use Rattle.packet.specs.Header.{segment_count, not_plain, shortest_packet, longest_packet, before_session}
 use Rattle.packet.specs.Segments.{entry_width, entry_at, begins_in, ends_in, length_in, length_at, body_at}
 use Rattle.packet.specs.Psp.{wanted, bad_at, segment_refusals, psp_refusals}
@@ -87,10 +86,6 @@ psp_of width sub n =
 pub psp_passed : (width : ℕ) (sub : List ℕ) → first (psp_refusals width sub) ≡ 0 → PspPassed width sub
 psp_passed width sub z = psp_of width sub (none-applies (psp_refusals width sub) refl z)
 
--- 9 to 11 are the last stretch of the order, so what passes it passes them
-pub psp_segments : (width : ℕ) (sub : List ℕ) → first (psp_refusals width sub) ≡ 0 → first (segment_refusals width sub) ≡ 0
-psp_segments width sub z = none_first (segment_refusals width sub) (none-applies (psp_refusals width sub) refl z).1.1
-
 module _ (width : ℕ) (sub : List ℕ) (p : SegmentsPassed width sub) where
   -- the entries lie in the packet
   pub entries-inside : header_length + width * segment_count sub ≤ length sub
@@ -115,8 +110,8 @@ module _ (width : ℕ) (sub : List ℕ) (p : SegmentsPassed width sub) where
     ends_early more =
         let e = entry_at width sub k in
         let last : (not (eqb (k + 1) (segment_count sub)) && not (ends_in e)) ≡ false =
-        or-false-right (eqb (length_in e) 0 || (not (eqb k 0) && not (begins_in e))) (not (eqb (k + 1) (segment_count sub)) && not (ends_in e))
-        entry_good in
+        or-false-right (eqb (length_in e) 0 || (not (eqb k 0) && not (begins_in e)))
+        (not (eqb (k + 1) (segment_count sub)) && not (ends_in e)) entry_good in
         not-false (ends_in e) (simp (ne_eqb (k + 1) (segment_count sub) more) at last)
 
 -- Refusals 6, 7 and 9 to 11 passed, D-MPT.
@@ -175,7 +170,3 @@ cause_psp kind p k z = eqb-true kind kind_psp (by (eqb kind kind_psp) _ z)
 
 pub cause_passed : (kind : ℕ) (p : Packet) (k : ℕ) → segment_cause kind p k ≡ 0 → (check kind_psp p ≡ 0) × (k < segment_count (sub p))
 cause_passed kind p k z = psp_cause_passed p k (ap (λ (n : ℕ). segment_cause n p k) (sym (cause_psp kind p k z)) ∙ z)
-
--- A table of 127 entries at most, each of 4 bytes at most, is small.
-pub table-small : (width count : ℕ) → width ≤ 4 → count < count_values → width * count ≤ 512
-table-small width count w c = let h : width * count ≤ 4 * count_values = mul-le-mul w (let l : count ≤ count_values = omega arith in l) in h

@@ -25,7 +25,8 @@ use Rattle.pass.proofs.Carrying.{Load, Fitting}
 pub dmpt_header : (sub : List ℕ) → first (dmpt_refusals sub) ≡ 0 → header_length ≤ length sub
 dmpt_header sub z = let some = (dmpt_passed sub z).some in omega (arith, some)
 
-pub mpeg_length_lem : (sub : List ℕ) (k : ℕ) → header_length + mpeg_length * k + mpeg_length ≤ length sub → length (mpeg_at sub k) ≡ mpeg_length
+pub mpeg_length_lem : (sub : List ℕ) (k : ℕ) → header_length + mpeg_length * k + mpeg_length ≤ length sub →
+    length (mpeg_at sub k) ≡ mpeg_length
 unfolding mpeg_at
 mpeg_length_lem sub k inside = length_part sub (header_length + mpeg_length * k) mpeg_length inside
 
@@ -52,7 +53,8 @@ mpegs_fit sub header short =
 pub segment_length : (width : ℕ) (sub : List ℕ) → SegmentsPassed width sub → (k : ℕ) → k < segment_count sub →
     length (segment_at width sub k).body ≡ length_at width sub k
 unfolding segment_at
-segment_length width sub passed k there = length_part sub (body_at width sub k) (length_at width sub k) (body-inside width sub passed k there)
+segment_length width sub passed k there =
+    length_part sub (body_at width sub k) (length_at width sub k) (body-inside width sub passed k there)
 
 abbrev pub segment_load : ℕ → ℕ → List ℕ → List ℕ → Load Segment
 segment_load most width held sub =

@@ -347,9 +347,6 @@ module _ (job : Job) (limit number : ℕ) (before now : Capture) (all : AllSent 
 -- The opening entry.
 module _ (session : ℕ) (contents bodies : List ℕ) (roomy : Roomy contents bodies) (id : List ℕ) (its_id : id ≡ four session)
     (w : Writer) (begun : w ≡ record { entries = 0; bytes = 0 }) where
-  pub open_countable : Countable w id
-  open_countable = rw (begun, its_id) (record { few-entries = omega arith; few_bytes = omega arith; body-short = omega arith })
-
   module _ (r : Writer) (counted : r ≡ added w id) where
     pub open_counted : r ≡ opened
     open_counted = counted ∙ rw (begun, its_id) refl

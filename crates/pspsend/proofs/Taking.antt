@@ -39,15 +39,6 @@ module _ (file bytes₀ lengths₀ bytes lengths : List ℕ) (r : Unpacked) (byt
   spoilt_is : spoilt file ≡ (ltb r.count most && ltb 0 r.left)
   spoilt_is = rw (count_is, left_is) refl
 
-  pub take-spoilt : (ltb r.count most && ltb 0 r.left) ≡ true → Takes file bytes lengths (record { count = 0; bytes = length file })
-  take-spoilt e =
-      record {
-        whole = λ q. absurd (true≢false (sym e ∙ sym spoilt_is ∙ q));
-        cut_short = λ _. (refl, refl);
-        few = omega arith;
-        short = omega arith;
-      }
-
   pub take_whole : (ltb r.count most && ltb 0 r.left) ≡ false →
       Takes file bytes lengths (record { count = r.count; bytes = r.bytes })
   take_whole e =

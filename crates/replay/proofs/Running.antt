@@ -75,7 +75,8 @@ module _ (t : Table) (lent : Lent) (kind : ℕ) (body : List ℕ) where
   slices = as_slices lent.holding.now lent.output.now lent.lengths.now
 
   -- an entry that opens, as PSP or as D-MPT
-  opened_as : (asked : session.Kind) (id : ℕ) (r : Received) → call_of before (entry_of kind body) ≡ opens (asks asked (entry_of kind body)) →
+  opened_as : (asked : session.Kind) (id : ℕ) (r : Received) →
+      call_of before (entry_of kind body) ≡ opens (asks asked (entry_of kind body)) →
       id ≡ be32_at body 0 →
       r ≡ answered (opened t (asking asked id)).code 0 (opened t (asking asked id)).table →
       RunsTo before (entry_of kind body) r lent

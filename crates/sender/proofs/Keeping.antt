@@ -69,10 +69,6 @@ module _ (a : Asked) (z : first (send_refusals a) ≡ 0) where
   pub packet-fits : length (packet_for a) ≤ a.limit + 4
   packet-fits = omega (arith, length-packet a.session a.flow a.number (cut_for a).segments, cut_done.in_room, enough a z)
 
-  pub sent-code : (sent a).answer.code ≡ 0
-  unfolding written
-  sent-code = ap (λ (o : SendOutcome). o.answer.code) (sym (sent-written a z))
-
   pub sent-number : (sent a).answer.number ≡ next a.number
   unfolding written
   sent-number = ap (λ (o : SendOutcome). o.answer.number) (sym (sent-written a z))

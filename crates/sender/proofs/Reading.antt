@@ -209,7 +209,8 @@ module _ (session flow number : ℕ) (segs : List Segment) where
     plain : not_plain behind_id ≡ false
     plain =
         let v : eqb ((s_bit + flow) / v_bit % 2) 1 ≡ false = ne_eqb ((s_bit + flow) / v_bit % 2) 1 (λ z. omega (arith, w.to_flow)) in
-        let h : eqb ((s_bit + flow) / h_bit % h_values) 0 ≡ true = eq-eqb ((s_bit + flow) / h_bit % h_values) 0 (omega (arith, w.to_flow)) in
+        let h : eqb ((s_bit + flow) / h_bit % h_values) 0 ≡ true =
+        eq-eqb ((s_bit + flow) / h_bit % h_values) 0 (omega (arith, w.to_flow)) in
         rw (v, h) refl
 
     numbered : s_set behind_id ≡ true

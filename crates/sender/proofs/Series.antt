@@ -134,8 +134,8 @@ module _ (job : Job) (sound : Sound job) where
           numbered = counts;
           carried =
               carried-append job.bytes job.lengths at (sent asked).answer.position end
-              (segments_of entry_width (ip (packet_left (sent asked)))) (all_segments entry_width (map ip packets)) (sent-carries asked z typed)
-              k.carried;
+              (segments_of entry_width (ip (packet_left (sent asked)))) (all_segments entry_width (map ip packets))
+              (sent-carries asked z typed) k.carried;
           farther = omega (arith, k.farther, sent_farther asked z);
           ends-inside = k.ends-inside;
           done = ⊎_elim (λ e. inl e) (λ e. inr (ap suc e)) k.done;

@@ -30,7 +30,8 @@ sub_either : (way : Bool) (bytes : List ℕ) → sub (cond way (in_udp bytes) (i
 sub_either true bytes = same-sub 0 3 0 0 bytes
 sub_either false bytes = refl
 
-sub-ways : (ways : List Bool) (packets : List (List ℕ)) (i : ℕ) → sub (packet_at (go_out ways packets) i) ≡ sub (packet_at (map ip packets) i)
+sub-ways : (ways : List Bool) (packets : List (List ℕ)) (i : ℕ) →
+    sub (packet_at (go_out ways packets) i) ≡ sub (packet_at (map ip packets) i)
 unfolding go_out
 sub-ways ways [] i = refl
 sub-ways [] (p ∷ packets) zero = refl

@@ -6,7 +6,7 @@ use mathlib.Core.Bool.{Bool, true, false, ◌&&◌}
 use mathlib.Core.List.{List, [], ◌∷◌, ◌++◌, map}
 use native.Mathlib.Omega.{arith}
 use lib.Dec.{ltb}
-use lib.ListN.{length, set, length-append, length-set}
+use lib.ListN.{length, set, length-append}
 use borrow.Author.Tests.{ltb-true, ltb-false}
 use Rattle.refusal.proofs.Laws.{and_left, and_right}
 use Rattle.octets.specs.Bytes.{two, four}
@@ -37,16 +37,10 @@ module _ (d : List ℕ) (session flow count number : ℕ) (long : shortest_packe
   id_long : length with_id ≡ length d
   id_long = length-put d 0 (four session) (omega arith)
 
-  second_inside : id_length + 1 < length (set with_id id_length (s_bit + flow))
-  second_inside = omega (arith, id_long, length-set with_id id_length (s_bit + flow))
-
   marks_put : with_marks ≡ put d 0 (four session ++ ((s_bit + flow) ∷ count ∷ []))
   marks_put =
       set-set-put with_id id_length (s_bit + flow) count (omega (arith, id_long))
       ∙ put-put d 0 (four session) ((s_bit + flow) ∷ count ∷ []) (omega arith)
-
-  marks_long : length with_marks ≡ length d
-  marks_long = ap length marks_put ∙ length-put d 0 (four session ++ ((s_bit + flow) ∷ count ∷ [])) (omega arith)
 
   header-put : put with_marks (id_length + 2) (two number) ≡ put d 0 (header_of session flow count number)
   header-put =

@@ -49,10 +49,6 @@ wrote_as {a} {b} {at} {next} {s} {t} e w =
 pub wrote_byte : (a : List ℕ) (at byte : ℕ) → at < length a → Wrote a (set a at byte) at (at + 1) (byte ∷ [])
 wrote_byte a at byte h = record { there = set-put a at byte h; next_place = refl; inside = omega (arith, h) }
 
-pub wrote_copy : (a b words : List ℕ) (at : ℕ) → at + length words ≤ length a → b ≡ put a at (part words 0 (length words)) →
-    Wrote a b at (at + length words) words
-wrote_copy a b words at h e = record { there = e ∙ ap (put a at) (part_all words); next_place = refl; inside = h }
-
 pub wrote-column : {a b c : List ℕ} {at middle next : ℕ} (n : ℕ) → Wrote a b at middle space → Wrote b c middle next (decimal n) →
     Wrote a c at next (column n)
 unfolding column
@@ -154,9 +150,6 @@ decimal-short n h = at_most_10 n (omega (arith, h))
 pub record Counting (number count left : ℕ) : Type 0 where
   pub to_count : count + length (decimal left) ≡ length (decimal number) + 1
   pub few : count ≤ most_digits
-
-pub counting_begin : (number : ℕ) → Counting number 1 number
-counting_begin number = record { to_count = omega arith; few = omega arith }
 
 pub counting_turn : {number count left : ℕ} → number < 4294967296 → Counting number count left → 9 < left →
     Counting number (count + 1) (left / 10)

@@ -16,7 +16,8 @@ use Rattle.octets.specs.Bytes.{byte_at}
 use Rattle.octets.specs.Count.{any, up_to}
 use Rattle.octets.specs.Stretch.{part, rest, put}
 use Rattle.octets.proofs.Counts.{any_none, none_more, none_all, any_at, up_to-none, length-up_to, least_at, least-none}
-use Rattle.octets.proofs.Stretches.{length-put, put-nil, put-up_to_more, put_whole, set-put, length_rest, byte_rest, rest-rest, rest-none, part_to_end, part-rest_front, sliced_rest, sliced_front}
+use Rattle.octets.proofs.Stretches.{length-put, put-nil, put-up_to_more, put_whole, set-put, length_rest, byte_rest, rest-rest, rest-none}
+use Rattle.octets.proofs.Stretches.{part_to_end, part-rest_front, sliced_rest, sliced_front}
 use Rattle.tool.specs.Number.{digit_of, are_digits, value_of, said_by, said}
 use Rattle.tool.specs.Address.{mac_groups, mac_text, group_of, bad_group, group_said, mac_said}
 use Rattle.tool.specs.Address.{zero_in_front, to_255, octet_said, is_dot_from, dot_from, first_dot, together, ipv4_said}
@@ -149,8 +150,11 @@ module _ (text : List ℕ) (from : ℕ) where
       let found = position-Some is_dot (rest text from) i 0 (sym there) in
       let inside : from + i < length text = omega (arith, found.0, length_rest text from) in
       let here : is_dot_from text from (from + i) ≡ true =
-      dot_at (from + i) (omega arith) ∙ ap (λ (n : ℕ). is_dot (byte_at (rest text from) n)) (omega arith) ∙ found.1 in
-      (least_at (is_dot_from text from) (length text) (from + i) (none_all (is_dot_from text from) (from + i) (before found.2)) here inside, inside)
+      dot_at (from + i) (omega arith) ∙ ap (λ (n : ℕ). is_dot (byte_at (rest text from) n)) (omega arith) ∙ found.1 in (
+        least_at (is_dot_from text from) (length text) (from + i)
+            (none_all (is_dot_from text from) (from + i) (before found.2)) here inside,
+        inside,
+      )
     where
       before : ((k : ℕ) → k < i → is_dot (byte_at (rest text from) k) ≡ false) → (k : ℕ) → k < from + i → is_dot_from text from k ≡ false
       before none k short = by (leb from k) refl
@@ -168,7 +172,9 @@ module _ (text : List ℕ) (from : ℕ) where
         where
           by : (t : Bool) → leb from k ≡ t → is_dot_from text from k ≡ false
           by true e = let past = leb-true from k e in
-              dot_at k past ∙ no_position is_dot (rest text from) (missed is_dot (rest text from) none) (k - from) (omega (arith, past, inside, length_rest text from))
+              dot_at k past
+              ∙ no_position is_dot (rest text from) (missed is_dot (rest text from) none) (k - from)
+              (omega (arith, past, inside, length_rest text from))
           by false e = dot_before k (leb-false from k e)
 
 pub dot_past : (text : List ℕ) (from : ℕ) → length text ≤ from → dot_from text from ≡ length text
@@ -284,8 +290,8 @@ module _ (text : List ℕ) where
 
         rest_third : rest text (third + 1) ≡ behind_third
         rest_third =
-            ap (rest text) (omega (arith, three.0)) ∙ sym (rest-rest text (second + 1) (k + 1)) ∙ ap (λ (l : List ℕ). rest l (k + 1)) rest_second
-            ∙ sym (sliced_rest behind_second (k + 1))
+            ap (rest text) (omega (arith, three.0)) ∙ sym (rest-rest text (second + 1) (k + 1))
+            ∙ ap (λ (l : List ℕ). rest l (k + 1)) rest_second ∙ sym (sliced_rest behind_second (k + 1))
 
         -- what the four parts say
         abbrev parts : Option ℕ
@@ -311,7 +317,8 @@ module _ (text : List ℕ) where
         unfolding ipv4_said
         one_more l there =
             let fourth = dot_found text (third + 1) l (there ∙ ap first_dot (sym rest_third)) in
-            let apart : eqb (dot_from text (third + 1)) end ≡ false = ne_eqb (dot_from text (third + 1)) end (λ e. omega (arith, fourth.0, fourth.1, e)) in
+            let apart : eqb (dot_from text (third + 1)) end ≡ false =
+            ne_eqb (dot_from text (third + 1)) end (λ e. omega (arith, fourth.0, fourth.1, e)) in
             rw (apart, and-false (ltb third end), sym (dotted_octet behind_third l there))
             (sym (no_fourth (octet_said (take i text)) (octet_said (take j behind_first)) (octet_said (take k behind_second))))
 
@@ -326,7 +333,8 @@ module _ (text : List ℕ) where
         pub first_none : None ≡ octet_said (take i text) → None ≡ ipv4_said text
         unfolding together
         first_none e =
-            ap (λ (o : Option ℕ). together o (octet_said (take j behind_first)) (octet_said (take k behind_second)) (octet_said behind_third)) e
+            ap (λ (o : Option ℕ).
+            together o (octet_said (take j behind_first)) (octet_said (take k behind_second)) (octet_said behind_third)) e
             ∙ four_parts
 
         module _ (a : ℕ) (is-a : Some a ≡ octet_said (take i text)) where
@@ -334,7 +342,8 @@ module _ (text : List ℕ) where
           unfolding together
           second_none e =
               ap (λ (o : Option ℕ). together (Some a) o (octet_said (take k behind_second)) (octet_said behind_third)) e
-              ∙ ap (λ (o : Option ℕ). together o (octet_said (take j behind_first)) (octet_said (take k behind_second)) (octet_said behind_third)) is-a
+              ∙ ap (λ (o : Option ℕ).
+              together o (octet_said (take j behind_first)) (octet_said (take k behind_second)) (octet_said behind_third)) is-a
               ∙ four_parts
 
           module _ (b : ℕ) (is-b : Some b ≡ octet_said (take j behind_first)) where
@@ -343,7 +352,8 @@ module _ (text : List ℕ) where
             third_none e =
                 ap (λ (o : Option ℕ). together (Some a) (Some b) o (octet_said behind_third)) e
                 ∙ ap (λ (o : Option ℕ). together (Some a) o (octet_said (take k behind_second)) (octet_said behind_third)) is-b
-                ∙ ap (λ (o : Option ℕ). together o (octet_said (take j behind_first)) (octet_said (take k behind_second)) (octet_said behind_third)) is-a
+                ∙ ap (λ (o : Option ℕ).
+                together o (octet_said (take j behind_first)) (octet_said (take k behind_second)) (octet_said behind_third)) is-a
                 ∙ four_parts
 
             module _ (c : ℕ) (is-c : Some c ≡ octet_said (take k behind_second)) where
@@ -351,7 +361,8 @@ module _ (text : List ℕ) where
               third_said =
                   ap (λ (o : Option ℕ). together (Some a) (Some b) o (octet_said behind_third)) is-c
                   ∙ ap (λ (o : Option ℕ). together (Some a) o (octet_said (take k behind_second)) (octet_said behind_third)) is-b
-                  ∙ ap (λ (o : Option ℕ). together o (octet_said (take j behind_first)) (octet_said (take k behind_second)) (octet_said behind_third)) is-a
+                  ∙ ap (λ (o : Option ℕ).
+                  together o (octet_said (take j behind_first)) (octet_said (take k behind_second)) (octet_said behind_third)) is-a
                   ∙ four_parts
 
               pub fourth_none : None ≡ octet_said behind_third → None ≡ ipv4_said text

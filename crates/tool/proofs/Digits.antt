@@ -2,12 +2,12 @@
 -- (`Reading`, the loop's invariant).
 use Prim.Native.Nat.{ℕ, suc, ◌+◌, ◌*◌, ◌<◌, ◌≤◌}
 use mathlib.Core.Path.{◌≡◌, refl, sym, ap, ◌∙◌}
-use mathlib.Core.Bool.{Bool, true, false, cond, ◌&&◌, ◌||◌, true≢false}
+use mathlib.Core.Bool.{Bool, true, false, cond, ◌&&◌, ◌||◌}
 use mathlib.Core.List.{List, [], ◌∷◌}
 use Rattle.std.specs.Prelude.{Some, None}
 use native.Mathlib.Omega.{arith}
 use native.Mathlib.Nat.{mul-suc, mul-le-mul_left, mul-le-mul_right}
-use lib.Dec.{eqb, leb, ltb}
+use lib.Dec.{leb, ltb}
 use lib.ListN.{length}
 use borrow.Author.Tests.{leb-true, leb-false, ltb-true, ltb-false, lt-ltb, le-ltb}
 use Rattle.octets.specs.Bytes.{byte_at}
@@ -144,16 +144,6 @@ module _ (base greatest : ℕ) (text : List ℕ) (some : 1 ≤ base) where
   read_none empty = rw empty refl
 
 -- the two ways to say a number
-pub hexadecimal_long : (text : List ℕ) → is_hexadecimal text ≡ true → 2 ≤ length text
-hexadecimal_long text h = by (leb 2 (length text)) refl
-  where
-    zero_x : Bool
-    zero_x = eqb (byte_at text 0) 48 && (eqb (byte_at text 1) 120 || eqb (byte_at text 1) 88)
-
-    by : (t : Bool) → leb 2 (length text) ≡ t → 2 ≤ length text
-    by true e = leb-true 2 (length text) e
-    by false e = absurd (true≢false (sym h ∙ ap (λ (t : Bool). t && zero_x) e))
-
 pub said_hexadecimal : (text : List ℕ) → is_hexadecimal text ≡ true → said_by 16 (16 * (268435455 + 1)) (rest text 2) ≡ said text
 unfolding said
 said_hexadecimal text h = rw h refl

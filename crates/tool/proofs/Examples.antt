@@ -69,7 +69,8 @@ pub not-four : (ipv4_said (ascii "192.0.2") ≡ None) × (ipv4_said (ascii "192.
 unfolding ipv4_said together octet_said to_255 dot_from any least part said said_by are_digits value_from rest
 not-four = (refl, refl, refl, refl, refl, refl, refl, refl)
 
-pub too_great : (ipv4_said (ascii "192.0.2.256") ≡ None) × (ipv4_said (ascii "1920.0.2.1") ≡ None) × (ipv4_said (ascii "192.0.999.1") ≡ None)
+pub too_great : (ipv4_said (ascii "192.0.2.256") ≡ None) × (ipv4_said (ascii "1920.0.2.1") ≡ None)
+    × (ipv4_said (ascii "192.0.999.1") ≡ None)
 unfolding ipv4_said together octet_said to_255 dot_from any least part said said_by are_digits value_from rest
 too_great = (refl, refl, refl)
 

@@ -9,4 +9,5 @@ loop-k-init c = gather_begin _ _ _
 
 pub loop-k-preserved : goal.loop-k-preserved
 loop-k-preserved c =
-    gather_turn c.loop-k.invariant c.loop-k-test.true (ap (λ (b : ℕ). not (eqb b sync_byte)) (sym (mpeg_first c.args.sub.bytes.now c.loop-k.k)))
+    gather_turn c.loop-k.invariant c.loop-k-test.true
+    (ap (λ (b : ℕ). not (eqb b sync_byte)) (sym (mpeg_first c.args.sub.bytes.now c.loop-k.k)))

@@ -22,7 +22,8 @@ loop-k-init c =
     let a = c.args in
     record {
       same_slices = (refl, refl);
-      carrying = carry_begin (mpeg_load a.sub.bytes.now) a.output.now.bytes.now a.output.now.lengths.now c.default-tally.result (search rules);
+      carrying =
+          carry_begin (mpeg_load a.sub.bytes.now) a.output.now.bytes.now a.output.now.lengths.now c.default-tally.result (search rules);
     }
 
 pub pass_on-tally-requires-clause-room : goal.pass_on-tally-requires-clause-room

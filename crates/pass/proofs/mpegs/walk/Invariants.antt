@@ -10,5 +10,6 @@ invariant-loop-k l =
     record {
       same_slices : SameSlices l.fn.output l.output;
       carrying :
-          Carrying (mpeg_load l.sub.bytes.now) l.fn.output.bytes.now l.fn.output.lengths.now l.output.bytes.now l.output.lengths.now l.tally l.k;
+          Carrying (mpeg_load l.sub.bytes.now) l.fn.output.bytes.now l.fn.output.lengths.now
+          l.output.bytes.now l.output.lengths.now l.tally l.k;
     }

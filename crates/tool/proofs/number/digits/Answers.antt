@@ -4,7 +4,8 @@ use Rattle.tool.proofs.Digits.{read-begin, read_turn, read_nothing, read_wrong, 
 use Rattle.tool.proofs.number.digits.Goals as goal
 
 pub returns-then-is_empty : goal.returns-then-is_empty
-returns-then-is_empty c = read_none c.args.base c.args.greatest c.args.text.now c.requires.0 (search (rules, c.is_empty.ensures, c.if-is_empty.true))
+returns-then-is_empty c =
+    read_none c.args.base c.args.greatest c.args.text.now c.requires.0 (search (rules, c.is_empty.ensures, c.if-is_empty.true))
 
 pub loop-byte-init : goal.loop-byte-init
 loop-byte-init c = read-begin c.args.base c.args.greatest c.args.text.now c.requires.0
