@@ -9,9 +9,9 @@ use native.Mathlib.Nat.{add-zero, mul-suc, mul-le-mul_left}
 use lib.Dec.{eqb}
 use lib.ListN.{length}
 use borrow.Author.Tests.{eq-eqb, ne_eqb, eqb-true, eqb-false}
-use Rattle.octets.specs.Order.{u32_at, four_le, four_in}
-use Rattle.octets.specs.Stretch.{part, rest}
-use Rattle.octets.proofs.Stretches.{part-two, byte_rest}
+use Rattle.octets.specs.Order.{u32_at, two_le, four_le, four_in}
+use Rattle.octets.specs.Stretch.{part, rest, put}
+use Rattle.octets.proofs.Stretches.{put-put, part-two, byte_rest}
 use Rattle.octets.proofs.Bytes.{byte_append_at}
 use Rattle.octets.proofs.Counts.{true-or-false}
 use Rattle.octets.specs.Bytes.{byte_at, be16_at, be32_at, two, four, AllBytes}
@@ -39,6 +39,33 @@ two_bytes a b small-a small_b =
 -- .. so where they stand, they are written as they stood
 pub two-read : (l : List ℕ) (from : ℕ) → AllBytes l → from + 2 ≤ length l → two (be16_at l from) ≡ part l from 2
 two-read l from bytes h = two_bytes (byte_at l from) (byte_at l (from + 1)) (bytes from) (bytes (from + 1)) ∙ sym (part-two l from h)
+
+-- only what a place has is written: a number is cut to its low bytes
+pub two-cut : (n : ℕ) → two (n % 65536) ≡ two n
+two-cut n =
+    let a : n % 65536 / 256 % 256 ≡ n / 256 % 256 = omega arith in
+    let b : n % 65536 % 256 ≡ n % 256 = omega arith in
+    rw (a, b) refl
+
+-- four bytes are two puts of two: the high half of the number, and behind it the low half
+pub four-put : (d : List ℕ) (at n : ℕ) → at + 3 < length d → put (put d at (two (n / 65536))) (at + 2) (two (n % 65536)) ≡ put d at (four n)
+four-put d at n h =
+    let room : at + 2 ≤ length d = omega arith in
+    ap (put (put d at (two (n / 65536))) (at + 2)) (two-cut n) ∙ put-put d at (two (n / 65536)) (two n) room
+
+-- .. and with the least significant byte first, the low half and behind it the high half
+two_le-cut : (n : ℕ) → two_le (n % 65536) ≡ two_le n
+two_le-cut n =
+    let a : n % 65536 / 256 % 256 ≡ n / 256 % 256 = omega arith in
+    let b : n % 65536 % 256 ≡ n % 256 = omega arith in
+    rw (a, b) refl
+
+pub four_le-put : (d : List ℕ) (at n : ℕ) → at + 3 < length d →
+    put (put d at (two_le (n % 65536))) (at + 2) (two_le (n / 65536)) ≡ put d at (four_le n)
+four_le-put d at n h =
+    let room : at + 2 ≤ length d = omega arith in
+    ap (λ (low : List ℕ). put (put d at low) (at + 2) (two_le (n / 65536))) (two_le-cut n)
+    ∙ put-put d at (two_le n) (two_le (n / 65536)) room
 
 -- the four bytes of a number, each counted from the number itself
 pub four_bytes : (n : ℕ) → n / 16777216 % 256 ∷ n / 65536 % 256 ∷ n / 256 % 256 ∷ n % 256 ∷ [] ≡ four n
