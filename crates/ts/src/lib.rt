@@ -2,8 +2,8 @@
 // packet. What travels in a packet is nothing to this crate. Where a function asks for something, only proved code calls it.
 #![tactic(auto)]
 
-ghost use Rattle.std.specs.Prelude.{◌≡◌, ◌<◌, ◌≤◌, length};
-ghost use Rattle.octets.specs.Stretch.{put};
+ghost use Rattle.std.specs.Prelude.{◌≡◌, ◌+◌, ◌<◌, ◌≤◌, length};
+ghost use Rattle.octets.specs.Stretch.{part, put};
 ghost use Rattle.octets.specs.Tests.{same};
 ghost use Rattle.ts.specs.Packet.{mpeg_length, head_length, pids, pid, count_of, next_count, header, all_fill, null_packet};
 ghost use Rattle.ts.specs.Packet.{PermitsNullPacket};
@@ -110,4 +110,13 @@ pub fn is_null(packet: &[u8]) -> bool
         & (packet[2] == NULL_PID_LOW)
         & (packet[3] == PAYLOAD_ONLY)
         & all_fill(&packet[HEAD_LENGTH..])
+}
+
+// Whether the packet at this place among others is the null packet.
+#[tactic(auto, using(octets::proofs::Stretches::sliced_part))]
+pub fn is_null_at(packets: &[u8], at: usize) -> bool
+    requires { at + mpeg_length ≤ length packets.now }
+    ensures { result ≡ same (part packets.now at mpeg_length) null_packet }
+{
+    is_null(&packets[at..at + MPEG_LENGTH])
 }
