@@ -1,6 +1,7 @@
 // The fixed part of a packet: over UDP four bytes of L2TP (RFC 3931, section 4.1.2.1), then the session ID, then the sub-layer header (DEPI
 // I05, sections 8.1.3, 8.2 and 8.3). Which transport a packet came by is a number that its caller gives. `refuse_before_session` alone asks
 // what it is, and whether there is a whole header: behind it a packet is a `DataPacket`, and what stands behind its session ID a `Sub`.
+// Where nobody has asked, `lead_of`, `session_id` and `sub_of` take the number as it is.
 ghost use Rattle.std.specs.Prelude.{◌≡◌, ◌+◌, ◌<◌, ◌≤◌, length, IfOk};
 ghost use Rattle.refusal.specs.Refusal.{first};
 ghost use Rattle.packet.specs.Header.{packet_by, udp_lead, lead_of, not_version3, id_length, session_id, sub, header_length, v_set, s_set};
@@ -81,6 +82,31 @@ impl Transport {
             Transport::Udp => UDP_LEAD,
         }
     }
+}
+
+// How many bytes stand before the session ID, by the number of a transport: 0 for what is none.
+pub fn lead_of(transport: u32) -> usize
+    ensures { (result ≡ lead_of transport) × (result ≤ udp_lead) }
+{
+    if transport == UDP { UDP_LEAD } else { 0 }
+}
+
+// The session ID of a packet that was asked nothing but its length; 0 marks a control message.
+pub fn session_id(packet: &[u8], transport: u32) -> u32
+    requires { lead_of transport + id_length ≤ length packet.now }
+    ensures { result ≡ session_id (packet_by transport packet.now) }
+{
+    octets::read_u32(packet, lead_of(transport))
+}
+
+// .. and what follows it, which may be shorter than a sub-layer header.
+#[tactic(auto, using(octets::proofs::Stretches::sliced_rest))]
+pub fn sub_of(packet: &[u8], transport: u32) -> &[u8]
+    requires { lead_of transport + id_length ≤ length packet.now }
+    ensures { result.now ≡ sub (packet_by transport packet.now) }
+{
+    let from = lead_of(transport) + ID_LENGTH;
+    &packet[from..]
 }
 
 // A packet that 24, 2, 3, 15 and 4 do not refuse, with the transport that it came by: it has a whole header.

@@ -22,6 +22,15 @@ pub const E_BIT: u16 = 16384;
 
 const LENGTH_VALUES: u16 = 16384;
 
+// Entry k, as the number in its first two bytes, of entries of any width. (The hint: see `survey`.)
+#[inline(always)]
+pub fn entry(sub: &[u8], width: usize, k: usize) -> u16
+    requires { header_length + width * k + 1 < length sub.now }
+    ensures { result ≡ entry_at width sub.now k }
+{
+    octets::read_u16(sub, header::HEADER_LENGTH + width * k)
+}
+
 pub fn begins(entry: u16) -> bool
     ensures { result ≡ begins_in entry }
 {
@@ -72,7 +81,7 @@ impl<'a> SegmentTable<'a> {
         requires { header_length + self.width * k + 1 < length self.sub.bytes.now }
         ensures { result ≡ entry_at self.entry.width self.entry.sub.bytes.now k }
     {
-        octets::read_u16(self.sub.bytes, header::HEADER_LENGTH + self.width * k)
+        entry(self.sub.bytes, self.width, k)
     }
 
     // How long the segments of the first n entries are together.
