@@ -7,4 +7,5 @@ pub mod Transports
 pub mod Ignored
 pub mod Apart
 pub mod Unique
+pub mod Told
 pub mod Examples
