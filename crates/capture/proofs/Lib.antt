@@ -3,3 +3,4 @@ pub mod Checking
 pub mod ReadsBack
 pub mod Examples
 pub mod Unique
+pub mod Numbers
