@@ -10,6 +10,7 @@ pub mod ReadsBack
 pub mod ComesBack
 pub mod WellFormed
 pub mod Outcomes
+pub mod Told
 pub mod Counting
 pub mod Laying
 pub mod Importing
