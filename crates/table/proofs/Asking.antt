@@ -96,26 +96,28 @@ left_to_right false false true d = refl
 left_to_right false false false true = refl
 left_to_right false false false false = refl
 
-flow_0_and_others : (first others : Bool) (most : ℕ) (row : Row) (fs : List Flow) → row.flows ≡ fs → length fs ≡ flows →
+-- (A row of a call has four flows; of any other list the code's way says the same, since a flow that is not there is fresh.)
+flow_0_and_others : (first others : Bool) (most : ℕ) (row : Row) (fs : List Flow) → row.flows ≡ fs →
     any (λ k. flow_unfit (hearing first others k) most (flow_at row k)) flows ≡ any_unfit first others most row
 unfolding any
-flow_0_and_others first others most row (a ∷ b ∷ c ∷ d ∷ []) e four =
+flow_0_and_others first others most row [] e = rw e refl
+flow_0_and_others first others most row (a ∷ []) e = rw e (left_to_right (flow_unfit first most a) false false false)
+flow_0_and_others first others most row (a ∷ b ∷ []) e =
+    rw e (left_to_right (flow_unfit first most a) (flow_unfit others most b) false false)
+flow_0_and_others first others most row (a ∷ b ∷ c ∷ []) e =
+    rw e (left_to_right (flow_unfit first most a) (flow_unfit others most b) (flow_unfit others most c) false)
+flow_0_and_others first others most row (a ∷ b ∷ c ∷ d ∷ more) e =
     rw e
     (left_to_right (flow_unfit first most a) (flow_unfit others most b) (flow_unfit others most c) (flow_unfit others most d))
-flow_0_and_others first others most row [] e four = absurd (omega (arith, four))
-flow_0_and_others first others most row (a ∷ []) e four = absurd (omega (arith, four))
-flow_0_and_others first others most row (a ∷ b ∷ []) e four = absurd (omega (arith, four))
-flow_0_and_others first others most row (a ∷ b ∷ c ∷ []) e four = absurd (omega (arith, four))
-flow_0_and_others first others most row (a ∷ b ∷ c ∷ d ∷ f ∷ more) e four = absurd (omega (arith, four))
 
-module _ (row : Row) (four : length row.flows ≡ flows) where
+module _ (row : Row) where
   flows_asked : (first others : Bool) (most : ℕ) →
       ((k : ℕ) (f : Flow) →
       flow_broken (is_closed row.kind) (is_dmpt (kind_in row.kind)) k f ≡ flow_unfit (hearing first others k) most f) →
       any (flow_broken_in row) flows ≡ any_unfit first others most row
   flows_asked first others most same =
       any_same (flow_broken_in row) (λ k. flow_unfit (hearing first others k) most (flow_at row k)) flows (λ k l. same k (flow_at row k))
-      ∙ flow_0_and_others first others most row row.flows refl four
+      ∙ flow_0_and_others first others most row row.flows refl
 
   pub psp_asked : row.kind ≡ kind_psp → row_broken row ≡ (eqb row.id 0 || any_unfit true true longest row)
   psp_asked kind =
@@ -126,6 +128,14 @@ module _ (row : Row) (four : length row.flows ≡ flows) where
 
   pub closed_asked : row.kind ≡ 0 → row_broken row ≡ (not_zero row.id || any_unfit false false 0 row)
   closed_asked kind = rw (flows_asked false false 0 (λ k f. rw (kind, alike false k) (closed-flow k f)), kind) refl
+
+  pub other_asked : (row.kind ≡ kind_psp → ⊥) → (row.kind ≡ kind_dmpt → ⊥) →
+      row_broken row ≡ (not_zero row.kind || not_zero row.id || any_unfit false false 0 row)
+  other_asked psp dmpt =
+      ⊎_elim
+      (λ (z : eqb row.kind 0 ≡ true). closed_asked (eqb-true row.kind 0 z) ∙ rw z refl)
+      (λ (z : eqb row.kind 0 ≡ false). rw (z, ne_eqb row.kind kind_psp psp, ne_eqb row.kind kind_dmpt dmpt) refl)
+      (true-or-false (eqb row.kind 0))
 
 -- A row that is not broken by itself is closed exactly where its ID is 0.
 agree : (c z : Bool) → ((not c && z) || (c && not z)) ≡ false → c ≡ z
