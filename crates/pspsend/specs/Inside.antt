@@ -12,7 +12,7 @@ use Rattle.capture.specs.declared.Capture.{Capture}
 use Rattle.capture.specs.declared.Writer.{Writer}
 use Rattle.capture.specs.Write.{added, within, Roomy, contents_after, bodies_after, Holds}
 use Rattle.capture.specs.File.{opening}
-use Rattle.outputs.specs.Sent.{data_of, sent_from, packets_for, first_answer}
+use Rattle.outputs.specs.Sent.{data_of, at_first, sent_from, packets_for, first_answer}
 use Rattle.pspsend.specs.declared.series.Sending.{Sending}
 use Rattle.pspsend.specs.declared.series.Series.{Series}
 
@@ -57,7 +57,8 @@ abbrev pub SentOnce : Job → ℕ → Series → Capture → Capture → Result 
 SentOnce job limit s before after (Ok next) = GoesOn (sent_next job limit s) before after next
 SentOnce job limit s before after (Err why) = Stops (sent_next job limit s) before after why
 
--- All of them. The slices had the opening entry in them, and hold the others behind it where the file is within its limits.
+-- All of them. The slices had the opening entry in them, and hold the others behind it where the file is within its limits. Where the first
+-- send is refused the capture is as it was.
 pub record AllSent (job : Job) (limit number : ℕ) (before after : Capture) : Type 0 where
   pub first_accepted : first_answer job limit number ≡ 0
   pub entries-counted : after.writer.entries ≡ 1 + length (packets_for job limit number)
@@ -70,4 +71,4 @@ pub record AllSent (job : Job) (limit number : ℕ) (before after : Capture) : T
 
 abbrev pub SentAll : Job → ℕ → ℕ → Capture → Capture → Result (Unit {0}) Refusal → Type 0
 SentAll job limit number before after (Ok u) = AllSent job limit number before after
-SentAll job limit number before after (Err why) = number_of why ≡ first_answer job limit number
+SentAll job limit number before after (Err why) = Stops (sent_from job limit number at_first) before after why

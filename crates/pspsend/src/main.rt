@@ -1,7 +1,7 @@
 // pspsend SESSION FLOW NUMBER L < FRAMES > CAPTURE
 //
-// Makes a capture for a person: reads frames on standard input, sends them by `sender::send` again and again, and writes a capture file
-// with one entry that opens the session as PSP and a data entry for each packet. SESSION is the session ID, FLOW the flow, NUMBER the
+// Makes a capture for a person: reads frames on standard input, sends them by `sender::send_next` again and again, and writes a capture
+// file with one entry that opens the session as PSP and a data entry for each packet. SESSION is the session ID, FLOW the flow, NUMBER the
 // first sequence number and L the limit on everything behind the session ID, all in decimal or in hexadecimal behind 0x. A frames file has
 // for each frame its length, in two bytes, most significant first, and then its bytes.
 //

@@ -30,7 +30,7 @@ returns-in_err-send_all-clause-makes c =
     let job : Job = job_of a.sending a.frames in
     rw (refused.1, refused.2)
     (refused_by job a.sending.limit a.sending.number _ _ _
-    (make_first job a.sending.limit a.sending.number _ c.in_err-send_all.ensures.sent (number_some _)) (number_some _))
+    (make_first job a.sending.limit a.sending.number _ c.in_err-send_all.ensures.sent.refused (number_some _)) (number_some _))
 
 pub returns-in_err-finish-clause-makes : goal.returns-in_err-finish-clause-makes
 returns-in_err-finish-clause-makes c =
