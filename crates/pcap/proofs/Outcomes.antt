@@ -1,14 +1,15 @@
 -- What an import and an export answer and leave, by their code: what is not refused is done, and what is refused is left. And of each call,
--- and of the bytes of a record, one outcome is permitted.
+-- of the bytes of a record, and of a record or none, one outcome is permitted.
 use Prim.Native.Nat.{ℕ, zero, suc, ◌+◌, ◌≤◌}
 use mathlib.Core.Path.{◌≡◌, refl, sym, ap, ◌∙◌}
-use mathlib.Core.Bool.{Bool}
+use mathlib.Core.Bool.{Bool, true, false, cond, true≢false}
 use mathlib.Core.List.{List, [], ◌∷◌}
 use native.Mathlib.Omega.{arith}
 use lib.Dec.{ltb}
 use lib.ListN.{length}
 use denote.Ref.{Bor}
 use borrow.Author.Tests.{ltb-false}
+use Rattle.std.specs.Prelude.{Option, Some, None}
 use Rattle.refusal.specs.Refusal.{first, ◌when◌}
 use Rattle.refusal.proofs.Laws.{none-applies, none_apart, none_first}
 use Rattle.octets.specs.Stretch.{part}
@@ -16,10 +17,10 @@ use Rattle.octets.proofs.Stretches.{part-put}
 use Rattle.octets.proofs.Counts.{or-false-left, or-false-right}
 use Rattle.capture.specs.File.{head_length, entry_length, longest_file, most_entries, entries, file_of, file_refusals, file_refusal}
 use Rattle.pcap.specs.declared.Addresses.{Addresses}
-use Rattle.pcap.specs.File.{start, bytes_at}
+use Rattle.pcap.specs.File.{whole, start, bytes_at}
 use Rattle.pcap.specs.Import.{all_entries, import_refusals, imported_by, imported, ImportOutcome, PermitsImport}
 use Rattle.pcap.specs.Export.{export_of, export_refusals, exported_by, exported, ExportOutcome, PermitsExport}
-use Rattle.pcap.specs.Reader.{PermitsBytes}
+use Rattle.pcap.specs.Reader.{PermitsBytes, PermitsRecord}
 
 -- An import.
 module _ (sessions file output : List ℕ) where
@@ -138,6 +139,13 @@ pub export_unique : (by : Addresses) (file output : List ℕ) (a b : ExportOutco
     PermitsExport by file output b → a ≡ b
 export_unique by file output a b p q = p ∙ sym q
 
+-- Two answers to what record is at hand are the same: none, or the same slice.
+abbrev pub SameRecord : Option (Bor (List ℕ)) → Option (Bor (List ℕ)) → Type 0
+SameRecord (Some a) (Some b) = (a.ref_ptr.0 ≡ b.ref_ptr.0) × (a.ref_ptr.1 ≡ b.ref_ptr.1) × (a.now ≡ b.now)
+SameRecord None None = Unit {0}
+SameRecord (Some a) None = ⊥
+SameRecord None (Some b) = ⊥
+
 module _ (file : Bor (List ℕ)) (at : ℕ) (little : Bool) where
   abbrev pub bytes-there : Bor (List ℕ)
   bytes-there =
@@ -156,3 +164,20 @@ module _ (file : Bor (List ℕ)) (at : ℕ) (little : Bool) where
     p.at_its_place ∙ sym q.at_its_place,
     p.its_bytes ∙ sym q.its_bytes,
   )
+
+  -- the record at hand, or none
+  record-permitted_by : (t : Bool) → whole file.now at little ≡ t → PermitsRecord file at little (cond t (Some bytes-there) None)
+  record-permitted_by true there = (there, bytes-permitted)
+  record-permitted_by false there = there
+
+  abbrev pub record-there : Option (Bor (List ℕ))
+  record-there = cond (whole file.now at little) (Some bytes-there) None
+
+  pub record-permitted : PermitsRecord file at little record-there
+  record-permitted = record-permitted_by (whole file.now at little) refl
+
+  pub record_unique : (a b : Option (Bor (List ℕ))) → PermitsRecord file at little a → PermitsRecord file at little b → SameRecord a b
+  record_unique (Some a) (Some b) p q = bytes_unique a b p.1 q.1
+  record_unique None None p q = tt
+  record_unique (Some a) None p q = absurd (true≢false (sym p.0 ∙ q))
+  record_unique None (Some b) p q = absurd (true≢false (sym q.0 ∙ p))
