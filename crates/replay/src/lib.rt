@@ -37,6 +37,25 @@ pub struct Stepped {
     pub answer: Received,
 }
 
+// The slices that a run begins with: all zeros.
+pub fn holding_room() -> [u8; card::HOLDING_SIZE]
+    ensures { result ≡ replicate holding_size 0 }
+{
+    [0; card::HOLDING_SIZE]
+}
+
+pub fn output_room() -> [u8; card::MOST_BYTES]
+    ensures { result ≡ replicate most_bytes 0 }
+{
+    [0; card::MOST_BYTES]
+}
+
+pub fn lengths_room() -> [u16; card::MOST_FRAMES]
+    ensures { result ≡ replicate most_frames 0 }
+{
+    [0; card::MOST_FRAMES]
+}
+
 // Rooms for the slices of a run.
 #[derive(Drop)]
 pub struct Rooms {
@@ -51,8 +70,8 @@ impl Rooms {
         ensures { Zeros result }
     {
         Rooms {
-            holding: [0; card::HOLDING_SIZE],
-            output: [0; card::MOST_BYTES],
+            holding: holding_room(),
+            output: output_room(),
             lengths: [0; card::MOST_FRAMES],
         }
     }
