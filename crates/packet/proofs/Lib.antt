@@ -5,7 +5,6 @@ pub mod Orders
 pub mod Asked
 pub mod Transports
 pub mod Ignored
-pub mod Apart
 pub mod Unique
 pub mod Told
 pub mod Examples

@@ -12,7 +12,7 @@ use denote.Ref.{Bor}
 use Rattle.refusal.specs.declared.Refusal.{Refusal}
 use Rattle.refusal.specs.Refusal.{◌when◌}
 use Rattle.refusal.specs.Number.{number_of}
-use Rattle.refusal.proofs.Numbers.{number_some}
+use Rattle.refusal.proofs.Numbers.{number_some, by_number, number_of-one, told, first_told}
 use Rattle.packet.specs.declared.Extent.{Extent}
 use Rattle.packet.specs.Header.{Packet, packet_by, before_session, segment_count, sub}
 use Rattle.packet.specs.Segments.{entry_width}
@@ -21,7 +21,6 @@ use Rattle.packet.specs.Dmpt.{dmpt_refusals}
 use Rattle.packet.specs.Check.{kind_psp, kind_unknown, segmentless, check_refusals, cause_refusals}
 use Rattle.packet.specs.Check.{check, segment_cause, segment_extent, segment_given, CopyOutcome, segment_copied}
 use Rattle.packet.specs.Check.{PermitsCheck, PermitsSegmentCause, PermitsSegmentExtent, FindsSegment, PermitsSegmentCopy, PermitsSegment}
-use Rattle.packet.proofs.Apart.{by_number, number_apart, told, first_told}
 use Rattle.packet.proofs.Asked.{extent_refused}
 
 pub check-permitted : (kind : ℕ) (p : Packet) → PermitsCheck kind p (check kind p)
@@ -79,7 +78,7 @@ found_unique kind p k (Ok a) (Ok b) one other = ap (λ (e : Extent). Ok e) (one.
 found_unique kind p k (Ok a) (Err b) one other = absurd (number_some b (other ∙ one.0))
 found_unique kind p k (Err a) (Ok b) one other = absurd (number_some a (one ∙ other.0))
 found_unique kind p k (Err a) (Err b) one other =
-    ap (λ (r : Refusal). Err r) (number_apart a b (one ∙ sym other))
+    ap (λ (r : Refusal). Err r) (number_of-one a b (one ∙ sym other))
 
 -- What C is told of it is the extent that is permitted: where the request is refused, start 0 and size 0.
 abbrev pub extent_told : Result Extent Refusal → Extent

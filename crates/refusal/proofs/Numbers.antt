@@ -2,14 +2,18 @@
 -- number tells, and a contract that says the number leaves no answer open.
 use Prim.Native.Nat.{ℕ}
 use mathlib.Core.Path.{◌≡◌, refl, sym, ap, ◌∙◌}
-use mathlib.Core.Bool.{cond}
+use mathlib.Core.Bool.{Bool, true, false, cond, ◌&&◌}
 use mathlib.Core.List.{List, [], ◌∷◌}
 use native.Mathlib.Omega.{arith}
 use lib.Dec.{eqb}
+use borrow.Author.Tests.{eqb-true}
 use Rattle.std.specs.Prelude.{Result, Ok, Err}
 use Rattle.refusal.specs.declared.Refusal.{Refusal}
 use Rattle.refusal.specs.declared.Refusal.TheVariants as refusal
+use Rattle.refusal.specs.Refusal as numbers
+use Rattle.refusal.specs.Refusal.{first}
 use Rattle.refusal.specs.Number.{number_of, code_of}
+use Rattle.refusal.proofs.Laws.{and_left, and_right}
 
 pub number_some : (r : Refusal) → number_of r ≡ 0 → ⊥
 number_some refusal.SliceTooSmall e = omega (arith, e)
@@ -96,50 +100,71 @@ abbrev sought : ℕ → List Refusal → Refusal
 sought n [] = refusal.SliceTooSmall
 sought n (r ∷ rest) = cond (eqb (number_of r) n) r (sought n rest)
 
-found : (r : Refusal) → sought (number_of r) all_refusals ≡ r
-found refusal.SliceTooSmall = refl
-found refusal.PacketTooShort = refl
-found refusal.PacketTooLong = refl
-found refusal.ControlMessage = refl
-found refusal.SessionNotOpen = refl
-found refusal.HeaderNotPlain = refl
-found refusal.FlowOutside = refl
-found refusal.NothingCarried = refl
-found refusal.LengthsDisagree = refl
-found refusal.ContentSpoilt = refl
-found refusal.Late = refl
-found refusal.TableBroken = refl
-found refusal.SegmentOutside = refl
-found refusal.NotVersion3 = refl
-found refusal.OpenWithoutId = refl
-found refusal.AlreadyOpen = refl
-found refusal.AllRowsOpen = refl
-found refusal.NumberUnknown = refl
-found refusal.CloseOfNone = refl
-found refusal.AddressOutside = refl
-found refusal.LimitOutside = refl
-found refusal.FramesUnsound = refl
-found refusal.PositionOutside = refl
-found refusal.NothingLeft = refl
-found refusal.OutputTooSmall = refl
-found refusal.FileTooLong = refl
-found refusal.ContentsCut = refl
-found refusal.TooManyEntries = refl
-found refusal.EntryWrong = refl
-found refusal.BodiesDoNotFill = refl
-found refusal.MpegOutputTooSmall = refl
-found refusal.FrameNotWritten = refl
-found refusal.NoRunGivesIt = refl
-found refusal.PcapHeaderWrong = refl
-found refusal.RecordCut = refl
-found refusal.ImportTooLarge = refl
-found refusal.PcapOutputTooSmall = refl
+unfoldable pub by_number : ℕ → Refusal
+by_number n = sought n all_refusals
+
+pub read_back : (r : Refusal) → by_number (number_of r) ≡ r
+unfolding by_number
+read_back refusal.SliceTooSmall = refl
+read_back refusal.PacketTooShort = refl
+read_back refusal.PacketTooLong = refl
+read_back refusal.ControlMessage = refl
+read_back refusal.SessionNotOpen = refl
+read_back refusal.HeaderNotPlain = refl
+read_back refusal.FlowOutside = refl
+read_back refusal.NothingCarried = refl
+read_back refusal.LengthsDisagree = refl
+read_back refusal.ContentSpoilt = refl
+read_back refusal.Late = refl
+read_back refusal.TableBroken = refl
+read_back refusal.SegmentOutside = refl
+read_back refusal.NotVersion3 = refl
+read_back refusal.OpenWithoutId = refl
+read_back refusal.AlreadyOpen = refl
+read_back refusal.AllRowsOpen = refl
+read_back refusal.NumberUnknown = refl
+read_back refusal.CloseOfNone = refl
+read_back refusal.AddressOutside = refl
+read_back refusal.LimitOutside = refl
+read_back refusal.FramesUnsound = refl
+read_back refusal.PositionOutside = refl
+read_back refusal.NothingLeft = refl
+read_back refusal.OutputTooSmall = refl
+read_back refusal.FileTooLong = refl
+read_back refusal.ContentsCut = refl
+read_back refusal.TooManyEntries = refl
+read_back refusal.EntryWrong = refl
+read_back refusal.BodiesDoNotFill = refl
+read_back refusal.MpegOutputTooSmall = refl
+read_back refusal.FrameNotWritten = refl
+read_back refusal.NoRunGivesIt = refl
+read_back refusal.PcapHeaderWrong = refl
+read_back refusal.RecordCut = refl
+read_back refusal.ImportTooLarge = refl
+read_back refusal.PcapOutputTooSmall = refl
 
 pub number_of-one : (a b : Refusal) → number_of a ≡ number_of b → a ≡ b
-number_of-one a b same = sym (found a) ∙ ap (λ (n : ℕ). sought n all_refusals) same ∙ found b
+number_of-one a b same = sym (read_back a) ∙ ap by_number same ∙ read_back b
 
 pub code_of-one : (a b : Result (Unit {0}) Refusal) → code_of a ≡ code_of b → a ≡ b
 code_of-one (Ok a) (Ok b) same = refl
 code_of-one (Ok a) (Err r) same = absurd (number_some r (sym same))
 code_of-one (Err r) (Ok b) same = absurd (number_some r same)
 code_of-one (Err a) (Err b) same = ap Err (number_of-one a b same)
+
+-- Each number of an order is that of a refusal. Of an order that is written out this is `refl`.
+abbrev pub told : List numbers.Refusal → Bool
+told [] = true
+told (r ∷ rest) = eqb (number_of (by_number r.number)) r.number && told rest
+
+pub first_told : (xs : List numbers.Refusal) → told xs ≡ true → (first xs ≡ 0 → ⊥) → number_of (by_number (first xs)) ≡ first xs
+first_told [] t some = absurd (some refl)
+first_told (r ∷ xs) t some =
+    let head = eqb (number_of (by_number r.number)) r.number in
+    by r.applies (and_left head (told xs) t) (first_told xs (and_right head (told xs) t)) some
+  where
+    by : (b : Bool) → eqb (number_of (by_number r.number)) r.number ≡ true →
+        ((first xs ≡ 0 → ⊥) → number_of (by_number (first xs)) ≡ first xs) →
+        (cond b r.number (first xs) ≡ 0 → ⊥) → number_of (by_number (cond b r.number (first xs))) ≡ cond b r.number (first xs)
+    by true here later some = eqb-true (number_of (by_number r.number)) r.number here
+    by false here later some = later some
