@@ -72,7 +72,7 @@ impl Rooms {
         Rooms {
             holding: holding_room(),
             output: output_room(),
-            lengths: [0; card::MOST_FRAMES],
+            lengths: lengths_room(),
         }
     }
 
