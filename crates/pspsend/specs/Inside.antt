@@ -57,8 +57,7 @@ abbrev pub SentOnce : Job → ℕ → Series → Capture → Capture → Result 
 SentOnce job limit s before after (Ok next) = GoesOn (sent_next job limit s) before after next
 SentOnce job limit s before after (Err why) = Stops (sent_next job limit s) before after why
 
--- All of them. The slices had the opening entry in them, and hold the others behind it where the file is within its limits. Where the first
--- send is refused the capture is as it was.
+-- All of them. The slices had the opening entry in them, and hold the others behind it where the file is within its limits.
 pub record AllSent (job : Job) (limit number : ℕ) (before after : Capture) : Type 0 where
   pub first_accepted : first_answer job limit number ≡ 0
   pub entries-counted : after.writer.entries ≡ 1 + length (packets_for job limit number)
@@ -69,6 +68,7 @@ pub record AllSent (job : Job) (limit number : ℕ) (before after : Capture) : T
       after.contents.now after.bodies.now after.writer
   pub unhurried : Unhurried after.writer
 
+-- .. or the first is refused, and nothing has changed.
 abbrev pub SentAll : Job → ℕ → ℕ → Capture → Capture → Result (Unit {0}) Refusal → Type 0
 SentAll job limit number before after (Ok u) = AllSent job limit number before after
 SentAll job limit number before after (Err why) = Stops (sent_from job limit number at_first) before after why
