@@ -11,7 +11,7 @@ ghost use Rattle.listing.specs.Listing.{line_at, listing};
 ghost use Rattle.listing.specs.Inside.{line_room, listing_room};
 
 use capture::reader;
-use replay::{Lent, Rooms, Walk};
+use replay::{Lent, Walk};
 use text::Text;
 
 // Room for the longest listing: the heading, and a line for each of the most entries that a capture has. A line has an index, a space, the
@@ -60,7 +60,14 @@ pub fn list(file: &[u8], text: &mut [u8]) -> usize
         tool::write_refused(&mut text, u32::from(refusal));
         return text.length;
     }
-    let mut rooms = Rooms::new();
-    list_entries(file, &mut rooms.lend(), &mut text);
+    let mut holding = replay::holding_room();
+    let mut output = replay::output_room();
+    let mut lengths = replay::lengths_room();
+    let mut lent = Lent {
+        holding: &mut holding,
+        output: &mut output,
+        lengths: &mut lengths,
+    };
+    list_entries(file, &mut lent, &mut text);
     text.length
 }
