@@ -25,7 +25,9 @@ pub const KIND_PSP: u32 = 1;
 
 pub const KIND_DMPT: u32 = 2;
 
-// A packet that the packet check passes; or the first refusal that a packet of this kind meets whatever the table.
+// A packet that the packet check passes; or the first refusal that a packet of this kind meets whatever the table. (The hint: the answer is
+// a packet, which a caller that only wants to know why not, as C does, would be handed through memory.)
+#[inline(always)]
 #[tactic(auto, unfolding(crate::specs::Check::check, crate::specs::Check::check_refusals))]
 fn checked<'a>(kind: u32, transport: u32, packet: &'a [u8]) -> Result<DataPacket<'a>, Refusal>
     ensures its_number { PermitsCheck kind (packet_by transport packet.now) (refused_by result) }
@@ -53,7 +55,9 @@ pub fn check(kind: u32, transport: u32, packet: &[u8]) -> Result<(), Refusal>
     Ok(())
 }
 
-// A packet that has a segment k; or why segment k of it is refused. Only PSP packets have segments.
+// A packet that has a segment k; or why segment k of it is refused. Only PSP packets have segments. (The hint, and that of `segment_extent`:
+// see `checked`.)
+#[inline(always)]
 #[tactic(auto, unfolding(crate::specs::Check::segment_cause, crate::specs::Check::cause_refusals, crate::specs::Check::check, crate::specs::Check::check_refusals))]
 fn asked_for<'a>(
     kind: u32,
@@ -92,6 +96,7 @@ pub struct Extent {
 }
 
 // Where segment k of a packet lies; or why it is refused.
+#[inline(always)]
 pub fn segment_extent(kind: u32, transport: u32, packet: &[u8], k: usize) -> Result<Extent, Refusal>
     ensures { FindsSegment kind (packet_by transport packet.now) k result }
 {
