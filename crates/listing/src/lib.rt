@@ -60,6 +60,7 @@ pub fn list(file: &[u8], text: &mut [u8]) -> usize
         tool::write_refused(&mut text, u32::from(refusal));
         return text.length;
     }
+    // Three rooms and no `Rooms`: of what a run delivers a listing reads nothing, and these take no stack then.
     let mut holding = replay::holding_room();
     let mut output = replay::output_room();
     let mut lengths = replay::lengths_room();
