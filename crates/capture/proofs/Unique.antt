@@ -1,6 +1,6 @@
--- One permitted answer to the check of a capture file, and to the refusals of one that is written, and one permitted stretch for the body of
--- an entry. A slice that is given back is the same when it points to the same place and has the same bytes; its third part, the name under
--- which the prover follows it, is nothing that a program has.
+-- One permitted answer to the check of a capture file, and to the refusals of one that is written, and one permitted stretch for the body
+-- of an entry. A slice that is given back is the same when it points to the same place and has the same bytes; its third part, the name
+-- under which the prover follows it, is nothing that a program has.
 use Prim.Native.Nat.{ℕ, ◌+◌}
 use mathlib.Core.Path.{◌≡◌, refl, sym, ◌∙◌}
 use mathlib.Core.List.{List}

@@ -55,8 +55,8 @@ pub fn check(kind: u32, transport: u32, packet: &[u8]) -> Result<(), Refusal>
     Ok(())
 }
 
-// A packet that has a segment k; or why segment k of it is refused. Only PSP packets have segments. (The hint, and that of `segment_extent`:
-// see `checked`.)
+// A packet that has a segment k; or why segment k of it is refused. Only PSP packets have segments. (The hint, and that of
+// `segment_extent`: see `checked`.)
 #[inline(always)]
 #[tactic(auto, unfolding(crate::specs::Check::segment_cause, crate::specs::Check::cause_refusals, crate::specs::Check::check, crate::specs::Check::check_refusals))]
 fn asked_for<'a>(
